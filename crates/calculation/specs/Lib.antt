@@ -1,0 +1,4 @@
+pub mod Symbol
+pub mod Expression
+pub mod Value
+pub mod Reader

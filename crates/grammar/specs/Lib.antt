@@ -1,0 +1,2 @@
+pub mod Production
+pub mod Reading

@@ -1,0 +1,1 @@
+// Definitions and laws over lists only: see specs/.
