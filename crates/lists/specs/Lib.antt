@@ -1,2 +1,12 @@
 pub mod Text
 pub mod Select
+pub mod Runs
+pub mod Words
+pub mod Laws
+pub mod Every
+pub mod SelectLaws
+pub mod Both
+pub mod WordLaws
+pub mod RunLaws
+pub mod Sums
+pub mod SameLaws

@@ -1,8 +1,8 @@
 -- Every, some, those that, the longest run: over any list.
-use mathlib.Core.Bool.{Bool, true, false, _&&_, _||_, not}
+use mathlib.Core.Bool.{Bool, true, false, _&&_, _||_}
 use mathlib.Core.List.{List, [], _∷_, _++_}
 use mathlib.Core.Option.{Option, none, some}
-use Prim.Native.Nat.{ℕ, zero, suc, _+_}
+use Prim.Native.Nat.{ℕ, _+_}
 
 module _ {A : Type 0} where
   abbrev pub all : (A → Bool) → List A → Bool
@@ -52,6 +52,28 @@ module _ {A : Type 0} where
   abbrev pub joined : List (List A) → List A
   joined [] = []
   joined (x ∷ xs) = x ++ joined xs
+
+module _ {A : Type 0} where
+  -- there is one, and it passes the test
+  abbrev pub holds-of : Option A → (A → Bool) → Bool
+  holds-of none p = false
+  holds-of (some a) p = p a
+
+  -- there is none
+  abbrev pub missing : Option A → Bool
+  missing none = true
+  missing (some a) = false
+
+module _ {A B C : Type 0} where
+  -- two lists taken side by side
+  abbrev pub beside : (A → B → C) → List A → List B → List C
+  beside f [] ys = []
+  beside f (x ∷ xs) [] = []
+  beside f (x ∷ xs) (y ∷ ys) = f x y ∷ beside f xs ys
+
+-- three lists taken side by side
+abbrev pub beside₃ : {A B C D : Type 0} → (A → B → C → D) → List A → List B → List C → List D
+beside₃ f xs ys zs = beside (λ g z. g z) (beside f xs ys) zs
 
 abbrev pub total : List ℕ → ℕ
 total [] = 0

@@ -1,7 +1,7 @@
 -- Texts as lists of bytes, so that a definition can spell the papers' words and signs.
-use mathlib.Core.Bool.{Bool, true, false, _&&_, _||_}
-use mathlib.Core.List.{List, [], _∷_}
-use Prim.Native.Nat.{ℕ}
+use mathlib.Core.Bool.{Bool, true, false, cond, _&&_, _||_}
+use mathlib.Core.List.{List, [], _∷_, map}
+use Prim.Native.Nat.{ℕ, _+_, _-_, _*_}
 use Prim.Native.Char.{code}
 use Prim.Native.String as text
 use Prim.Native.String.{String}
@@ -40,3 +40,15 @@ capital = within 65 90
 
 abbrev pub small : ℕ → Bool
 small = within 97 122
+
+abbrev pub lower-byte : ℕ → ℕ
+lower-byte b = cond (capital b) (b + 32) b
+
+-- ASCII letters in lower case, all else as it is
+abbrev pub lowered : List ℕ → List ℕ
+lowered = map lower-byte
+
+-- the whole number that decimal digits spell, after those that make up n
+abbrev pub whole : ℕ → List ℕ → ℕ
+whole n [] = n
+whole n (d ∷ ds) = whole (n * 10 + (d - 48)) ds

@@ -1,10 +1,9 @@
 -- The tokens of a file with their places, or its first bad byte. 01, "Reading the text".
-use mathlib.Core.Bool.{Bool, true, false, _&&_, _||_, not, cond}
+use mathlib.Core.Bool.{Bool, true, false, not, cond}
 use mathlib.Core.List.{List, [], _∷_}
 use Prim.Native.Nat.{ℕ, zero, suc, _+_}
-use lib.Dec.{eqb}
 use lib.ListN.{length}
-use Rattle.lists.specs.Text.{bytes, among}
+use Rattle.lists.specs.Text.{among}
 use Rattle.lists.specs.Select.{run, after}
 use Rattle.token.specs.declared.Kind.{Kind}
 use Rattle.token.specs.declared.Kind.the-variants.{String, OpenParen, CloseParen, OpenBrace, CloseBrace, Comma}
@@ -68,7 +67,8 @@ begins b =
 
 -- The tokens from the place p on. The first number bounds the steps: each takes a byte, so a text's length is enough.
 unfoldable pub scan : ℕ → ℕ → List ℕ → Tokens
-scan zero p s = tokens []
+scan zero p [] = tokens []
+scan zero p (b ∷ s) = bad p
 scan (suc n) p [] = tokens []
 scan (suc n) p (b ∷ s) =
     elim (begins b) [

@@ -3,7 +3,7 @@ use mathlib.Core.Bool.{Bool, true, false, _&&_, _||_, not, cond}
 use mathlib.Core.List.{List, [], _∷_}
 use Prim.Native.Nat.{ℕ, _-_}
 use lib.Dec.{eqb}
-use lib.ListN.{length, getD, take, drop}
+use lib.ListN.{length, getD, take}
 use Rattle.lists.specs.Text.{bytes, same, among, within, digit, capital, small}
 use Rattle.lists.specs.Select.{run, after}
 use Rattle.token.specs.declared.Kind.{Kind}
@@ -54,6 +54,10 @@ float s = fraction (after digit (unsigned s))
 -- 001: INP(link) ::= "INP" link-letter, link-letter ::= "A" | "B" | ... | "U"
 abbrev pub inp : List ℕ → Bool
 inp s = same (take 3 s) (bytes "INP") && (eqb (length s) 4 && within 65 85 (getD s 3 0))
+
+-- 01: "letter 0 to 20"
+abbrev pub greatest-letter : ℕ
+greatest-letter = 20
 
 -- the number of an INP word's letter, A being 0
 abbrev pub link-letter : List ℕ → ℕ

@@ -1,4 +1,0 @@
-pub mod Symbol
-pub mod Expression
-pub mod Value
-pub mod Reader

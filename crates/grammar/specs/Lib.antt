@@ -1,2 +1,0 @@
-pub mod Production
-pub mod Reading
