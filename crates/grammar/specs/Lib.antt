@@ -1,0 +1,9 @@
+pub mod Production
+pub mod Role
+pub mod Reading
+pub mod Reader
+pub mod Sound
+pub mod Complete
+pub mod Stopping
+pub mod Theorem
+pub mod Inputs
