@@ -1,0 +1,9 @@
+pub mod Symbol
+pub mod Expression
+pub mod Value
+pub mod Readings
+pub mod Reader
+pub mod Complete
+pub mod Sound
+pub mod Theorem
+pub mod Laws

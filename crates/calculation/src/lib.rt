@@ -1,0 +1,22 @@
+// 01, "The question": a reading is never heard, or invalid, or a binary64 value.
+pub enum Reading {
+    NeverHeard,
+    Invalid,
+    Value(f64),
+}
+
+// The operators of a calculation that stand between two operands.
+pub enum Operator {
+    Or,
+    And,
+    Less,
+    AtMost,
+    More,
+    AtLeast,
+    Equal,
+    Differs,
+    Plus,
+    Minus,
+    Times,
+    Over,
+}
