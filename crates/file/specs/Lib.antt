@@ -1,0 +1,10 @@
+pub mod Contents
+pub mod Meaning
+pub mod Limit
+pub mod Depth
+pub mod Refusal
+pub mod Says
+pub mod Warning
+pub mod Load
+pub mod Counted
+pub mod Theorem

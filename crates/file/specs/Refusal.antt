@@ -1,0 +1,130 @@
+-- The causes 5 to 10 for which a load refuses a file of the grammar. 01, "Load refusals, in their order".
+use mathlib.Core.Bool.{Bool, true, false, cond, not, _&&_, _||_}
+use mathlib.Core.List.{List, [], _∷_, _++_, map}
+use mathlib.Core.Option.{Option, none, some}
+use Prim.Native.Nat.{ℕ}
+use lib.Dec.{eqb, leb, ltb}
+use lib.ListN.{length}
+use Rattle.lists.specs.Text.{same}
+use Rattle.lists.specs.Select.{holds-of, missing, all, any, select, first}
+use Rattle.token.specs.Word.{link-letter}
+use Rattle.grammar.specs.declared.Role.the-variants.{UagName, HagName, AsgName, Input, RuleWord, Level, Permission, LogOption, CalcWord, Calculation}
+use Rattle.grammar.specs.Reading.{Said}
+use Rattle.calculation.specs.Expression.{Tree}
+use Rattle.calculation.specs.Value.{letters}
+use Rattle.calculation.specs.Reader.{tree-of}
+use Rattle.file.specs.declared.Refusal.{Refusal}
+use Rattle.file.specs.declared.Refusal.the-variants.{FileTooLong, BadByte, TooDeep, Ungrammatical, StringTooLong, TooMany, GivenAgain, BadLevel, UnknownWord, BadCalculation, NoRoom}
+use Rattle.file.specs.Limit.{Section, user-groups, host-groups, members, access-groups, inputs, rules, references, most, item-of, longest}
+use Rattle.file.specs.Contents.{says, text, place, until, level-of, permission-of, log-of}
+
+-- 01's numbers
+abbrev pub number : Refusal → ℕ
+number FileTooLong = 1
+number BadByte = 2
+number TooDeep = 3
+number Ungrammatical = 4
+number StringTooLong = 5
+number TooMany = 6
+number GivenAgain = 7
+number BadLevel = 8
+number UnknownWord = 9
+number BadCalculation = 10
+number NoRoom = 11
+
+-- a token among those before it, the nearest first, and those behind it
+pub record Context : Type 0 where
+  pub before : List Said
+  pub here : Said
+  pub behind : List Said
+
+abbrev pub contexts-after : List Said → List Said → List Context
+contexts-after b [] = []
+contexts-after b (x ∷ xs) = record { before = b; here = x; behind = xs } ∷ contexts-after (x ∷ b) xs
+
+-- every token of a file in its context, in file order
+abbrev pub contexts : List Said → List Context
+contexts = contexts-after []
+
+-- 5: "string too long", "counted without quotes"
+abbrev pub too-long : Context → Bool
+too-long c = holds-of (longest (c .here .role)) (λ n. ltb n (length (text (c .here))))
+
+-- the sections, numbered as in 01
+abbrev pub section-number : Section → ℕ
+section-number user-groups = 1
+section-number host-groups = 2
+section-number members = 3
+section-number access-groups = 4
+section-number inputs = 5
+section-number rules = 6
+section-number references = 7
+
+abbrev pub item : Section → Said → Bool
+item s x = holds-of (item-of (x .role)) (λ t. eqb (section-number t) (section-number s))
+
+-- 6: "table limit passed", "first item too many"
+abbrev pub too-many : Context → Bool
+too-many c = holds-of (item-of (c .here .role)) (λ s. leb (most s) (length (select (item s) (c .before))))
+
+-- where a name or a letter may stand once. 7: "two UAG, two HAG or two ASG of one name (bytes compared), one INP letter twice in an ASG, a second CALC in a RULE"
+abbrev pub scope : Context → List Said
+scope c =
+    cond (says Input (c .here)) (until AsgName (c .before))
+    (cond (says CalcWord (c .here)) (until RuleWord (c .before))
+    (cond (says UagName (c .here) || says HagName (c .here) || says AsgName (c .here)) (c .before) []))
+
+abbrev pub given-again : Context → Bool
+given-again c = any (λ x. says (x .role) (c .here) && same (text x) (text (c .here))) (scope c)
+
+-- 8: "level neither 0 nor 1"
+abbrev pub bad-level : Context → Bool
+bad-level c = says Level (c .here) && missing (level-of (text (c .here)))
+
+-- 9: "permission or log word unknown"
+abbrev pub unknown-word : Context → Bool
+unknown-word c =
+    says Permission (c .here) && missing (permission-of (text (c .here)))
+    || says LogOption (c .here) && missing (log-of (text (c .here)))
+
+-- the letters that have an INP in the ASG, before or after
+abbrev pub letters-given : Context → List ℕ
+letters-given c =
+    map (λ x. link-letter (text x)) (select (says Input) (until AsgName (c .before) ++ until AsgName (c .behind)))
+
+-- 01: "Every letter used must have an INP in the ASG, before or after the rule"
+abbrev pub letters-among : List ℕ → Tree → Bool
+letters-among given t = all (λ i. any (eqb i) given) (letters t)
+
+-- 10: "calculation not allowed"
+abbrev pub bad-calculation : Context → Bool
+bad-calculation c = says Calculation (c .here) && not (holds-of (tree-of (text (c .here))) (letters-among (letters-given c)))
+
+-- the causes in their order
+pub record Cause : Type 0 where
+  pub refusal : Refusal
+  pub applies : Context → Bool
+
+abbrev pub causes : List Cause
+causes =
+    record { refusal = StringTooLong; applies = too-long }
+    ∷ record { refusal = TooMany; applies = too-many }
+    ∷ record { refusal = GivenAgain; applies = given-again }
+    ∷ record { refusal = BadLevel; applies = bad-level }
+    ∷ record { refusal = UnknownWord; applies = unknown-word }
+    ∷ record { refusal = BadCalculation; applies = bad-calculation }
+    ∷ []
+
+-- a refusal and its place
+pub record Refused : Type 0 where
+  pub refusal : Refusal
+  pub place : ℕ
+
+abbrev pub or-else : Refusal → Option Context → Option Refused → Option Refused
+or-else n none o = o
+or-else n (some c) o = some (record { refusal = n; place = place (c .here) })
+
+-- 01: "The lowest number that applies is answered. Within it, the earliest place"
+abbrev pub refused-by : List Cause → List Context → Option Refused
+refused-by [] cs = none
+refused-by (k ∷ ks) cs = or-else (k .refusal) (first (k .applies) cs) (refused-by ks cs)

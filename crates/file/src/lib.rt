@@ -1,0 +1,21 @@
+// The load's refusals: 01, "Load refusals, in their order". specs/Refusal.antt gives each its number.
+pub enum Refusal {
+    FileTooLong,
+    BadByte,
+    TooDeep,
+    Ungrammatical,
+    StringTooLong,
+    TooMany,
+    GivenAgain,
+    BadLevel,
+    UnknownWord,
+    BadCalculation,
+    NoRoom,
+}
+
+// The warnings of an accepted load. specs/Warning.antt gives each its number.
+pub enum Warning {
+    UnknownItem,
+    UnknownPredicate,
+    UndefinedGroup,
+}

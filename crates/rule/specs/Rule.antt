@@ -1,0 +1,78 @@
+-- What a rule asks of a question, and what the rules of a group give. 01, "The question"; 001, the access rule in steps 1 to 3.
+use mathlib.Core.Bool.{Bool, true, false, cond, not, _&&_}
+use mathlib.Core.List.{List, [], _∷_, map}
+use mathlib.Core.Option.{Option, none, some}
+use Prim.Native.Nat.{ℕ}
+use lib.Dec.{leb, eqb}
+use Rattle.lists.specs.Text.{same, lowered}
+use Rattle.lists.specs.Select.{any, select, first}
+use Rattle.calculation.specs.declared.Reading.{Reading}
+use Rattle.calculation.specs.Expression.{Tree}
+use Rattle.calculation.specs.Value.{holds}
+use Rattle.calculation.specs.Reader.{tree-of}
+use Rattle.rule.specs.declared.Access.{Access}
+use Rattle.rule.specs.declared.Access.the-variants as access
+use Rattle.rule.specs.Question.{Question}
+
+pub record Rule : Type 0 where
+  pub level : ℕ
+  pub permission : Access
+  pub trap : Bool
+  pub switched-off : Bool
+  -- for each UAG and each HAG that it names, the members; host members stand in lower case
+  pub uags : List (List (List ℕ))
+  pub hags : List (List (List ℕ))
+  pub calculation : Option (List ℕ)
+
+-- 01: "permission (0, 1, 2)"; 001: "WRITE permission implies READ permission."
+abbrev pub rank : Access → ℕ
+rank access.None = 0
+rank access.Read = 1
+rank access.Write = 2
+
+-- 01: "the user is a member of one of its UAGs (or it names none)"; "Several UAG lists in one rule count as one."
+abbrev pub belongs : List ℕ → List (List (List ℕ)) → Bool
+belongs name [] = true
+belongs name (g ∷ gs) = any (λ members. any (same name) members) (g ∷ gs)
+
+-- a calculation's text is true of the readings
+abbrev pub true-tree : List Reading → Option Tree → Bool
+true-tree rs none = false
+true-tree rs (some t) = holds rs t
+
+-- 01: "its calculation, if any, is true"
+abbrev pub calculation-holds : List Reading → Option (List ℕ) → Bool
+calculation-holds rs none = true
+calculation-holds rs (some s) = true-tree rs (tree-of s)
+
+-- what a rule asks of level, user, host and calculation. 01: "the host likewise (its ASCII letters lowered first, stored bytes as they are)"
+abbrev pub asks : Rule → Question → Bool
+asks r q =
+    leb (q .level) (r .level)
+    && (belongs (q .user) (r .uags) && (belongs (lowered (q .host)) (r .hags) && calculation-holds (q .readings) (r .calculation)))
+
+-- 01: "A rule passes if it isn't switched off, the field's level is at most the rule's, [..]"
+abbrev pub passes : Question → Rule → Bool
+passes q r = not (r .switched-off) && asks r q
+
+abbrev pub greater : Access → Access → Access
+greater a b = cond (leb (rank a) (rank b)) b a
+
+-- 01: "the greatest of the passing rules' permissions, NONE if none pass"
+abbrev pub greatest : List Access → Access
+greatest [] = access.None
+greatest (a ∷ others) = greater a (greatest others)
+
+abbrev pub access-by : Question → List Rule → Access
+access-by q rs = greatest (map (λ r. r .permission) (select (passes q) rs))
+
+abbrev pub gives-write : Rule → Bool
+gives-write r = eqb (rank (r .permission)) (rank access.Write)
+
+abbrev pub trap-of : Option Rule → Bool
+trap-of none = false
+trap-of (some r) = r .trap
+
+-- 01: "Trap is that of the first passing WRITE rule, and off if there is none."
+abbrev pub trap-by : Question → List Rule → Bool
+trap-by q rs = trap-of (first gives-write (select (passes q) rs))
