@@ -1,0 +1,12 @@
+pub mod Layout
+pub mod View
+pub mod Check
+pub mod Policy
+pub mod Written
+pub mod Fits
+pub mod Kept
+pub mod Bytes
+pub mod Stands
+pub mod Theorem
+pub mod Accepted
+pub mod Fields

@@ -1,0 +1,1 @@
+// Definitions of the stored table and theorems about it only: see specs/.
