@@ -1,0 +1,1 @@
+// Definitions of the later edition only: see specs/.
