@@ -1,0 +1,6 @@
+pub mod Calls
+pub mod Loaded
+pub mod Doors
+pub mod Exact
+pub mod Cases
+pub mod Front

@@ -1,0 +1,143 @@
+-- What an accepted load leaves: the table of what its text says, which answers by the rules of the text.
+use mathlib.Core.Path.{_≡_, refl, sym, ap, subst, _∙_}
+use mathlib.Core.Bool.{Bool, true, false, cond, false≢true}
+use mathlib.Core.List.{List, [], _∷_, _++_, map}
+use mathlib.Core.Option.{Option, none, some, Option·map, Option·getD}
+use Prim.Native.Nat.{ℕ, _≤_}
+use native.Mathlib.Omega.{arith}
+use lib.Dec.{leb, eqb}
+use lib.ListN.{length, drop}
+use Rattle.lists.specs.Select.{total}
+use Rattle.lists.specs.Every.{Every, nil, cons, every-both}
+use Rattle.lists.specs.Laws.{map-map}
+use Rattle.token.specs.declared.Kind.the-variants.{Inp}
+use Rattle.token.specs.Word.{link-letter}
+use Rattle.token.specs.Token.{Token, tokens}
+use Rattle.token.specs.Laws.{scanned-bytes, scanned-inputs}
+use Rattle.grammar.specs.declared.Role.the-variants.{Input}
+use Rattle.grammar.specs.Reading.{Said}
+use Rattle.grammar.specs.Reader.{kind-number}
+use Rattle.grammar.specs.Sound.{same-kind}
+use Rattle.grammar.specs.Inputs.{may-say, reads-inputs}
+use Rattle.calculation.specs.Theorem.{no-empty}
+use Rattle.rule.specs.Question.{Question}
+use Rattle.rule.specs.Rule.{Rule}
+use Rattle.rule.specs.Answering.{a-level, answering}
+use Rattle.file.specs.Contents.{Rule-text, Asg, File, file-of, says, text}
+use Rattle.file.specs.Meaning.{rule-in}
+use Rattle.file.specs.Limit.{access-groups, most-bytes}
+use Rattle.file.specs.Refusal.{contexts}
+use Rattle.file.specs.Says.{Acceptable}
+use Rattle.file.specs.Load.{Verdict, refuse, accept, verdict}
+use Rattle.file.specs.Theorem.{accepted-is, unanswered}
+use Rattle.table.specs.Layout.{Content}
+use Rattle.token.specs.Word.{greatest-letter}
+use Rattle.table.specs.Policy.{name, rules-of}
+use Rattle.table.specs.Written.{content, records, table-of}
+use Rattle.table.specs.Fits.{Fits}
+use Rattle.table.specs.Kept.{answering-rules}
+use Rattle.table.specs.Accepted.{accepted-fits}
+use Rattle.table.specs.Theorem.{viewed, is-a-table}
+use Rattle.load.specs.Load.{written, without-room, by-verdict, load}
+use Rattle.decision.specs.declared.Answer.{Answer}
+use Rattle.decision.specs.declared.Answer.the-variants.{BadLevel}
+use Rattle.decision.specs.Decision.{rules-in, rules-for, answered, decide}
+use Rattle.edition.specs.Edition.{rules-later}
+use Rattle.demand.specs.Calls.{Call, load-text, list-warnings, check-table, ask, look-up-input, after-call, after-calls, is-accepted, no-new-table, No-accepted-load}
+
+-- the rules of the file that answer for a group, as the file says them
+abbrev pub rules-by-file : File → List ℕ → List Rule-text
+rules-by-file f g = rules-later (answering (λ a. a .name) g (f .asgs))
+
+-- the answer to a question by the rules of a file
+abbrev pub answer-by-file : File → Question → Answer
+answer-by-file f q = cond (a-level (q .level)) (answered q (map (rule-in f) (rules-by-file f (q .group)))) BadLevel
+
+-- ---- a load that is accepted, and one that is not
+
+-- what an accepted load has accepted and written
+pub record Stored (lent s : List ℕ) : Type 0 where
+  pub said : List Said
+  pub accepted : verdict s ≡ accept said
+  pub bytes : load lent s .bytes ≡ table-of (file-of said) ++ drop (length (table-of (file-of said))) lent
+
+pub stored : (lent s : List ℕ) → is-accepted (load lent s .answer) ≡ true → Stored lent s
+unfolding load
+stored lent s e = by (verdict s) refl e
+  where
+    room : (xs : List Said) (b : Bool) → verdict s ≡ accept xs → leb (length (table-of (file-of xs))) (length lent) ≡ b → is-accepted (cond b (written lent xs) (without-room lent xs) .answer) ≡ true → Stored lent s
+    room xs true v l h = record { said = xs; accepted = v; bytes = rw (v, l) }
+    room xs false v l h = absurd (false≢true h)
+
+    by : (v : Verdict) → verdict s ≡ v → is-accepted (by-verdict lent v .answer) ≡ true → Stored lent s
+    by (refuse n p) v h = absurd (false≢true h)
+    by (accept xs) v h = room xs (leb (length (table-of (file-of xs))) (length lent)) v refl h
+
+-- 01: "A refused call changes no lent byte"
+pub refused-leaves : (lent s : List ℕ) → is-accepted (load lent s .answer) ≡ false → load lent s .bytes ≡ lent
+unfolding load
+refused-leaves lent s e = by (verdict s) e
+  where
+    room : (xs : List Said) (b : Bool) → is-accepted (cond b (written lent xs) (without-room lent xs) .answer) ≡ false → cond b (written lent xs) (without-room lent xs) .bytes ≡ lent
+    room xs true h = absurd (false≢true (sym h))
+    room xs false h = refl
+
+    by : (v : Verdict) → is-accepted (by-verdict lent v .answer) ≡ false → by-verdict lent v .bytes ≡ lent
+    by (refuse n p) h = refl
+    by (accept xs) h = room xs (leb (length (table-of (file-of xs))) (length lent)) h
+
+-- no call but an accepted load changes a byte
+call-leaves : (b : List ℕ) (c : Call) → no-new-table b c → after-call b c ≡ b
+call-leaves b (load-text s) h = refused-leaves b s h
+call-leaves b (list-warnings s) h = refl
+call-leaves b check-table h = refl
+call-leaves b (ask q) h = refl
+call-leaves b (look-up-input g letter) h = refl
+
+pub calls-leave : (b : List ℕ) (cs : List Call) → No-accepted-load b cs → after-calls b cs ≡ b
+calls-leave b [] h = refl
+calls-leave b (c ∷ cs) h = calls-leave (after-call b c) cs (h .1) ∙ call-leaves b c (h .0)
+
+-- ---- what is accepted keeps to the limits
+
+from-tokens : {P : Token → Type 0} (xs : List Said) → Every P (map (λ x. x .token) xs) → Every (λ x. P (x .token)) xs
+from-tokens [] nil = nil
+from-tokens (x ∷ xs) (cons p c) = cons p (from-tokens xs c)
+
+pub fits : (s : List ℕ) (xs : List Said) → verdict s ≡ accept xs → Fits (file-of xs)
+fits s xs e =
+    let a = accepted-is s xs e in
+    let t = a .says .reading .tokens in
+    accepted-fits xs (unanswered (contexts xs) (a .uncaused)) (bound a) (every-both inputs (reads-inputs (a .says .spelled) xs (a .says .reading)) (from-tokens xs (subst (Every Spelled) (sym t) (scanned-inputs s (a .says .spelled) (a .says .spelling)))))
+  where
+    Spelled : Token → Type 0
+    Spelled t = t .kind ≡ Inp → link-letter (t .text) ≤ greatest-letter
+
+    bound : (a : Acceptable s xs) → total (map (λ x. length (x .token .text)) xs) ≤ most-bytes
+    bound a =
+        let b = scanned-bytes s (a .says .spelled) (a .says .spelling) in
+        let m = sym (map-map (λ (t : Token). length (t .text)) (λ (x : Said). x .token) xs) ∙ ap (map (λ (t : Token). length (t .text))) (a .says .reading .tokens) in
+        rw m (let c = a .short in omega arith)
+
+    inputs : (x : Said) → may-say (x .token .kind) (x .role) ≡ true → Spelled (x .token) → says Input x ≡ true → link-letter (text x) ≤ greatest-letter
+    inputs x m sp i = sp (same-kind (x .token .kind) Inp (subst (λ (b : Bool). lib.Dec.T b) (sym (subst (λ (b : Bool). cond b (eqb (kind-number (x .token .kind)) (kind-number Inp)) true ≡ true) i m)) tt))
+
+-- ---- the table answers by the file's rules
+
+rules-in-is : (c : Content) (o : Option (List ℕ)) → rules-in c o ≡ Option·getD (Option·map (rules-of c) o) []
+rules-in-is c none = refl
+rules-in-is c (some row) = refl
+
+rules-later-is : (f : File) (o : Option Asg) → map (rule-in f) (rules-later o) ≡ Option·getD (Option·map (λ a. map (rule-in f) (a .rules)) o) []
+rules-later-is f none = refl
+rules-later-is f (some a) = refl
+
+pub rules-alike : (f : File) → Fits f → (g : List ℕ) → rules-for (content f) g ≡ map (rule-in f) (rules-by-file f g)
+rules-alike f h g =
+    rules-in-is (content f) (answering (name (content f) access-groups) g (records f access-groups))
+    ∙ ap (λ (o : Option (List Rule)). Option·getD o []) (answering-rules f h no-empty g)
+    ∙ sym (rules-later-is f (answering (λ a. a .name) g (f .asgs)))
+
+pub decided : (f : File) → Fits f → (rest : List ℕ) (q : Question) → decide (table-of f ++ rest) q ≡ answer-by-file f q
+unfolding decide
+decided f h rest q = rw (is-a-table f h rest, viewed f h rest, rules-alike f h (q .group))

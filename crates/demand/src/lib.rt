@@ -1,0 +1,1 @@
+// The calls, the three demands and the proved cases: see specs/, and there Front.antt first.
