@@ -28,10 +28,11 @@ use Rattle.table.specs.Written.{table-of}
 use Rattle.load.specs.Load.{load}
 use Rattle.decision.specs.declared.Answer.the-variants.{BadLevel}
 use Rattle.decision.specs.Decision.{answered, access-in, decide}
-use Rattle.edition.specs.Edition.{Edition, rules-later, access-by-rules, access-later}
+use Rattle.edition.specs.Edition.{Says-no, Edition, rules-later, access-by-rules, access-later}
 use Rattle.edition.specs.Laws.{access-never-above, access-alike}
 use Rattle.demand.specs.Calls.{Call, after-calls, is-accepted, No-accepted-load}
-use Rattle.demand.specs.Loaded.{rules-by-file, answer-by-file, Stored, stored, calls-leave, fits, decided}
+use Rattle.demand.specs.ByFile.{rules-by-file, answer-by-file}
+use Rattle.demand.specs.Loaded.{Stored, stored, calls-leave, fits, decided}
 
 -- ---- an edition that says no
 
@@ -65,17 +66,13 @@ answering-given {P = P} name (b ∷ n) {gs = gs} e = by (named name (b ∷ n) gs
     by (some g) d = d
 
 module _ (e : Edition) (q : Question) where
-  -- no to each unknown predicate among the tokens xs
-  abbrev pub Says-no : List Said → Type 0
-  Says-no = Every (λ x. says UnknownPredicate x ≡ true → e (place x) q ≡ false)
-
-  rule-denied : (ys : List Said) → Says-no ys → Every (λ p. e p q ≡ false) (rule-text ys .unknown)
+  rule-denied : (ys : List Said) → Says-no e q ys → Every (λ p. e p q ≡ false) (rule-text ys .unknown)
   rule-denied ys h = every-map place (every-selected (says UnknownPredicate) h)
 
-  rules-denied : (ys : List Said) → Says-no ys → Every (λ r. Every (λ p. e p q ≡ false) (r .unknown)) (map (λ r. rule-text (r .body)) (parts RuleWord ys))
+  rules-denied : (ys : List Said) → Says-no e q ys → Every (λ r. Every (λ p. e p q ≡ false) (r .unknown)) (map (λ r. rule-text (r .body)) (parts RuleWord ys))
   rules-denied ys h = every-map (λ (r : Part). rule-text (r .body)) (every-implies (λ r w. rule-denied (r .body) (w .body)) (every-parts RuleWord h))
 
-  denied : (xs : List Said) → Says-no xs → (g : List ℕ) → Every (λ r. Every (λ p. e p q ≡ false) (r .unknown)) (rules-by-file (file-of xs) g)
+  denied : (xs : List Said) → Says-no e q xs → (g : List ℕ) → Every (λ r. Every (λ p. e p q ≡ false) (r .unknown)) (rules-by-file (file-of xs) g)
   denied xs h g = by (answering (λ a. a .name) g (file-of xs .asgs)) (answering-given (λ (a : Asg). a .name) g asgs)
     where
       asgs : Every (λ a. Every (λ r. Every (λ p. e p q ≡ false) (r .unknown)) (a .rules)) (file-of xs .asgs)

@@ -22,13 +22,14 @@ use Rattle.file.specs.Load.{refuse, accept, verdict}
 use Rattle.file.specs.Theorem.{accepted-is, acceptable-is, refused-is}
 use Rattle.table.specs.Check.{is-table}
 use Rattle.table.specs.Written.{table-of}
-use Rattle.table.specs.Theorem.{greatest-table}
+use Rattle.table.specs.Layout.{greatest-table}
 use Rattle.load.specs.Load.{written, without-room, load}
 use Rattle.decision.specs.Decision.{number, access-in, trap-in, decide}
-use Rattle.edition.specs.Edition.{Edition, access-later}
+use Rattle.edition.specs.Edition.{Edition, access-later, Says-no}
+use Rattle.demand.specs.ByFile.{answer-by-file}
 use Rattle.demand.specs.Calls.{Call, after-calls, is-accepted, No-accepted-load}
-use Rattle.demand.specs.Loaded.{answer-by-file, refused-leaves}
-use Rattle.demand.specs.Doors.{Says-no, never-above, exactly-equal}
+use Rattle.demand.specs.Loaded.{refused-leaves}
+use Rattle.demand.specs.Doors.{never-above, exactly-equal}
 use Rattle.demand.specs.Exact.{refused-grants-nothing, zeros-grant-nothing, laid-down, not-laid-down, stands, answers-by-file}
 use Rattle.demand.specs.Cases.{Proved-cases, proved-cases}
 

@@ -1,4 +1,5 @@
 pub mod Calls
+pub mod ByFile
 pub mod Loaded
 pub mod Doors
 pub mod Exact

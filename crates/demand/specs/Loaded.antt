@@ -22,8 +22,8 @@ use Rattle.grammar.specs.Inputs.{may-say, reads-inputs}
 use Rattle.calculation.specs.Theorem.{no-empty}
 use Rattle.rule.specs.Question.{Question}
 use Rattle.rule.specs.Rule.{Rule}
-use Rattle.rule.specs.Answering.{a-level, answering}
-use Rattle.file.specs.Contents.{Rule-text, Asg, File, file-of, says, text}
+use Rattle.rule.specs.Answering.{answering}
+use Rattle.file.specs.Contents.{Asg, File, file-of, says, text}
 use Rattle.file.specs.Meaning.{rule-in}
 use Rattle.file.specs.Limit.{access-groups, most-bytes}
 use Rattle.file.specs.Refusal.{contexts}
@@ -39,19 +39,10 @@ use Rattle.table.specs.Kept.{answering-rules}
 use Rattle.table.specs.Accepted.{accepted-fits}
 use Rattle.table.specs.Theorem.{viewed, is-a-table}
 use Rattle.load.specs.Load.{written, without-room, by-verdict, load}
-use Rattle.decision.specs.declared.Answer.{Answer}
-use Rattle.decision.specs.declared.Answer.the-variants.{BadLevel}
-use Rattle.decision.specs.Decision.{rules-in, rules-for, answered, decide}
+use Rattle.decision.specs.Decision.{rules-in, rules-for, decide}
 use Rattle.edition.specs.Edition.{rules-later}
+use Rattle.demand.specs.ByFile.{rules-by-file, answer-by-file}
 use Rattle.demand.specs.Calls.{Call, load-text, list-warnings, check-table, ask, look-up-input, after-call, after-calls, is-accepted, no-new-table, No-accepted-load}
-
--- the rules of the file that answer for a group, as the file says them
-abbrev pub rules-by-file : File → List ℕ → List Rule-text
-rules-by-file f g = rules-later (answering (λ a. a .name) g (f .asgs))
-
--- the answer to a question by the rules of a file
-abbrev pub answer-by-file : File → Question → Answer
-answer-by-file f q = cond (a-level (q .level)) (answered q (map (rule-in f) (rules-by-file f (q .group)))) BadLevel
 
 -- ---- a load that is accepted, and one that is not
 

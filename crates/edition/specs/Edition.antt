@@ -1,16 +1,19 @@
 -- The later edition, which knows every predicate. 01, "The later edition". It reads the text of a file; no table stands here.
-use mathlib.Core.Bool.{Bool, cond, _&&_}
+use mathlib.Core.Path.{_≡_}
+use mathlib.Core.Bool.{Bool, true, false, cond, _&&_}
 use mathlib.Core.List.{List, [], map}
 use mathlib.Core.Option.{Option, none, some}
 use Prim.Native.Nat.{ℕ}
+use Rattle.lists.specs.Every.{Every}
 use Rattle.lists.specs.Select.{all, select}
+use Rattle.grammar.specs.declared.Role.the-variants.{UnknownPredicate}
 use Rattle.grammar.specs.Reading.{Said}
 use Rattle.rule.specs.declared.Access.{Access}
 use Rattle.rule.specs.declared.Access.the-variants as access
 use Rattle.rule.specs.Question.{Question}
 use Rattle.rule.specs.Rule.{asks, greatest}
 use Rattle.rule.specs.Answering.{a-level, answering}
-use Rattle.file.specs.Contents.{Rule-text, Asg, File, file-of}
+use Rattle.file.specs.Contents.{says, place, Rule-text, Asg, File, file-of}
 use Rattle.file.specs.Meaning.{rule-in}
 
 -- "a yes or no for each unknown predicate"; "each place, at each question, has an answer of its own"
@@ -35,3 +38,7 @@ access-later e xs q =
     cond (a-level (q .level))
     (access-by-rules e (file-of xs) q (rules-later (answering (λ a. a .name) (q .group) (file-of xs .asgs))))
     access.None
+
+-- the edition says no, at a question, to each unknown predicate of what the tokens xs say
+abbrev pub Says-no : Edition → Question → List Said → Type 0
+Says-no e q xs = Every (λ x. says UnknownPredicate x ≡ true → e (place x) q ≡ false) xs

@@ -55,3 +55,7 @@ header c = form ∷ (header-bytes + length (joined (blocks c))) ∷ entries (cou
 -- the bytes of a table
 unfoldable pub layout : Content → List ℕ
 layout c = spelled-out (header c) ++ joined (blocks c)
+
+-- 01: "No table exceeds 35,108 bytes."
+abbrev pub greatest-table : ℕ
+greatest-table = 35108

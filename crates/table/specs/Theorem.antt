@@ -5,16 +5,13 @@ use mathlib.Core.List.{List, _++_}
 use Prim.Native.Nat.{ℕ, zero, suc, _≤_}
 use lib.ListN.{length, replicate}
 use Rattle.file.specs.Contents.{File}
+use Rattle.table.specs.Layout.{greatest-table}
 use Rattle.table.specs.View.{view}
 use Rattle.table.specs.Check.{is-table}
 use Rattle.table.specs.Written.{content, table-of}
 use Rattle.table.specs.Fits.{Fits}
 use Rattle.table.specs.Bytes.{view-back, layout-length, is-table-back}
 use Rattle.table.specs.Stands.{content-sound, content-stands}
-
--- 01: "No table exceeds 35,108 bytes."
-abbrev pub greatest-table : ℕ
-greatest-table = 35108
 
 -- what stands in a file's table is the file's content
 pub viewed : (f : File) → Fits f → (rest : List ℕ) → view (table-of f ++ rest) ≡ content f
