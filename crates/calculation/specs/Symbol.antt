@@ -52,7 +52,7 @@ pub record Spelling : Type 0 where
 abbrev pub spell : String → Symbol → Spelling
 spell s x = record { spelled = bytes s; symbol = x }
 
--- 01: "`c ? x : y`; `||`; `&&`; `< <= > >= = == # !=`; `+ -`; `* /`; prefixes `-` and `!`; [..] parentheses", "Longest operator first."
+-- 01: "`c ? x : y` [..]; `||`; `&&`; `< <= > >= = == # !=`; `+ -`; `* /`; prefixes `-` and `!`, [..] parentheses", "Longest operator first."
 abbrev pub spellings : List Spelling
 spellings =
     spell "||" (operator Or)

@@ -97,6 +97,7 @@ pub upper-bound-is : upper-bound ≡ decimal 101 2
 unfolding Ieee.ofBits Ieee.ofInt Ieee.div
 upper-bound-is = refl
 
+-- 001: "the actual test for TRUE is (0.99 < result < 1.01)"
 abbrev pub near-one : Float → Bool
 near-one x = Ieee.lt lower-bound x && Ieee.lt x upper-bound
 

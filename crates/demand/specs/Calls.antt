@@ -3,6 +3,7 @@ use mathlib.Core.Path.{_≡_}
 use mathlib.Core.Bool.{Bool, true, false}
 use mathlib.Core.List.{List, [], _∷_}
 use Prim.Native.Nat.{ℕ}
+use Rattle.calculation.specs.declared.Reading.{Reading}
 use Rattle.rule.specs.Question.{Question}
 use Rattle.load.specs.declared.Loaded.{Loaded}
 use Rattle.load.specs.declared.Loaded.the-variants.{Accepted, Refused}
@@ -12,6 +13,8 @@ pub data Call : Type 0 where
   -- of a text
   load-text : List ℕ → Call
   list-warnings : List ℕ → Call
+  -- of a calculation's text on readings
+  calculate : List ℕ → List Reading → Call
   check-table : Call
   ask : Question → Call
   -- of a group's letter
@@ -21,6 +24,7 @@ pub data Call : Type 0 where
 abbrev pub after-call : List ℕ → Call → List ℕ
 after-call b (load-text s) = load b s .bytes
 after-call b (list-warnings s) = b
+after-call b (calculate s rs) = b
 after-call b check-table = b
 after-call b (ask q) = b
 after-call b (look-up-input g letter) = b
@@ -37,6 +41,7 @@ is-accepted (Refused r p) = false
 abbrev pub no-new-table : List ℕ → Call → Type 0
 no-new-table b (load-text s) = is-accepted (load b s .answer) ≡ false
 no-new-table b (list-warnings s) = Unit {0}
+no-new-table b (calculate s rs) = Unit {0}
 no-new-table b check-table = Unit {0}
 no-new-table b (ask q) = Unit {0}
 no-new-table b (look-up-input g letter) = Unit {0}

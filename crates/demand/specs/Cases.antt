@@ -3,11 +3,12 @@ use mathlib.Core.Path.{_≡_, refl}
 use mathlib.Core.Bool.{Bool, true, false}
 use mathlib.Core.List.{List, _∷_}
 use mathlib.Core.Option.{some}
-use Prim.Native.Nat.{ℕ}
+use Prim.Native.Nat.{ℕ, _+_}
 use Prim.Native.String.{String}
 use lib.ListN.{replicate}
 use lib.Ieee.{Float, nan, ne, lt, le, eq, add, sub, mul, div, neg, ofBits, ofInt}
 use Rattle.lists.specs.Text.{bytes}
+use Rattle.token.specs.Word.{greatest-letter}
 use Rattle.token.specs.Token.{scan}
 use Rattle.calculation.specs.declared.Reading.{Reading}
 use Rattle.calculation.specs.declared.Reading.the-variants.{NeverHeard, Value}
@@ -29,10 +30,10 @@ use Rattle.decision.specs.Decision.{decide}
 
 -- every letter never heard; A alone heard
 abbrev pub silent : List Reading
-silent = replicate 21 NeverHeard
+silent = replicate (greatest-letter + 1) NeverHeard
 
 abbrev pub heard-a : Float → List Reading
-heard-a x = Value x ∷ replicate 20 NeverHeard
+heard-a x = Value x ∷ replicate greatest-letter NeverHeard
 
 -- a question of ann at pc1
 abbrev pub ann : String → ℕ → List Reading → Question

@@ -11,7 +11,10 @@ use Rattle.token.specs.Token.{Token}
 use Rattle.grammar.specs.Reading.{Said, Reads}
 use Rattle.grammar.specs.Theorem.{one-reading}
 use Rattle.calculation.specs.declared.Reading.{Reading}
+use Rattle.calculation.specs.Expression.{Tree, Says}
 use Rattle.calculation.specs.Readings.{Gone-bad}
+use Rattle.calculation.specs.Reader.{tree-of}
+use Rattle.calculation.specs.Theorem.{says-sound, says-complete}
 use Rattle.rule.specs.declared.Access.the-variants as access
 use Rattle.rule.specs.Question.{Question, reading-instead}
 use Rattle.rule.specs.Rule.{rank}
@@ -19,7 +22,7 @@ use Rattle.file.specs.declared.Refusal.{Refusal}
 use Rattle.file.specs.Contents.{file-of}
 use Rattle.file.specs.Says.{Text-says, Acceptable, Refusable}
 use Rattle.file.specs.Load.{refuse, accept, verdict}
-use Rattle.file.specs.Theorem.{accepted-is, acceptable-is, refused-is}
+use Rattle.file.specs.Theorem.{accepted-is, acceptable-is, refused-is, refusable-is}
 use Rattle.table.specs.Check.{is-table}
 use Rattle.table.specs.Written.{table-of}
 use Rattle.table.specs.Layout.{greatest-table}
@@ -52,8 +55,10 @@ pub record Exact : Type 0 where
   -- the grammar is 001's productions, no reader; the limits are the refusals' causes
   pub accepted : (s : List ℕ) (xs : List Said) → (verdict s ≡ accept xs) ↔ Acceptable s xs
   pub one-reading : (ts : List Token) (xs ys : List Said) → Reads ts xs → Reads ts ys → xs ≡ ys
+  -- a calculation is what the productions of 01's levels derive, no reader: tree-of finds its tree, in a file, a table and a rule
+  pub calculations : (s : List ℕ) (t : Tree) → (tree-of s ≡ some t) ↔ Says s t
   -- the lowest number that applies, at its earliest place; 4 at the first token that no file could have there
-  pub refused : (s : List ℕ) (r : Refusal) (p : ℕ) → verdict s ≡ refuse r p → Refusable s r p
+  pub refused : (s : List ℕ) (r : Refusal) (p : ℕ) → (verdict s ≡ refuse r p) ↔ Refusable s r p
   pub table : (lent s : List ℕ) (xs : List Said) → Acceptable s xs → length (table-of (file-of xs)) ≤ length lent → load lent s ≡ written lent xs
   pub no-room : (lent s : List ℕ) (xs : List Said) → Acceptable s xs → length lent < length (table-of (file-of xs)) → load lent s ≡ without-room lent xs
   pub table-stands : (s : List ℕ) (xs : List Said) → Acceptable s xs → (rest : List ℕ) → (is-table (table-of (file-of xs) ++ rest) ≡ true) × (length (table-of (file-of xs)) ≤ greatest-table)
@@ -64,7 +69,8 @@ demand-2 =
     record {
       accepted = λ s xs. (accepted-is s xs, acceptable-is s xs);
       one-reading = one-reading;
-      refused = refused-is;
+      calculations = λ s t. (says-sound s t, says-complete s t);
+      refused = λ s r p. (refused-is s r p, refusable-is s r p);
       table = laid-down;
       no-room = not-laid-down;
       table-stands = stands;

@@ -42,7 +42,7 @@ use Rattle.load.specs.Load.{written, without-room, by-verdict, load}
 use Rattle.decision.specs.Decision.{rules-in, rules-for, decide}
 use Rattle.edition.specs.Edition.{rules-later}
 use Rattle.demand.specs.ByFile.{rules-by-file, answer-by-file}
-use Rattle.demand.specs.Calls.{Call, load-text, list-warnings, check-table, ask, look-up-input, after-call, after-calls, is-accepted, no-new-table, No-accepted-load}
+use Rattle.demand.specs.Calls.{Call, load-text, list-warnings, calculate, check-table, ask, look-up-input, after-call, after-calls, is-accepted, no-new-table, No-accepted-load}
 
 -- ---- a load that is accepted, and one that is not
 
@@ -81,6 +81,7 @@ refused-leaves lent s e = by (verdict s) e
 call-leaves : (b : List ℕ) (c : Call) → no-new-table b c → after-call b c ≡ b
 call-leaves b (load-text s) h = refused-leaves b s h
 call-leaves b (list-warnings s) h = refl
+call-leaves b (calculate s rs) h = refl
 call-leaves b check-table h = refl
 call-leaves b (ask q) h = refl
 call-leaves b (look-up-input g letter) h = refl

@@ -75,6 +75,7 @@ pub record Link : Type 0 where
   pub letter : ℕ
   pub name : List ℕ
 
+-- RULE as the file says it: 001, rule_config
 pub record Rule-text : Type 0 where
   pub level : ℕ
   pub permission : Access

@@ -74,6 +74,7 @@ scope c =
     (cond (says CalcWord (c .here)) (until RuleWord (c .before))
     (cond (says UagName (c .here) || says HagName (c .here) || says AsgName (c .here)) (c .before) []))
 
+-- 7: "name or letter given again"
 abbrev pub given-again : Context → Bool
 given-again c = any (λ x. says (x .role) (c .here) && same (text x) (text (c .here))) (scope c)
 

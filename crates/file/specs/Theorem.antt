@@ -7,13 +7,14 @@ use Prim.Native.Nat.{ℕ, _≤_}
 use native.Mathlib.Omega.{arith}
 use lib.Dec.{leb}
 use lib.ListN.{length}
-use borrow.Author.Tests.{leb-true, leb-false, le-leb}
+use borrow.Author.Tests.{leb-true, leb-false, le-leb, lt-leb}
 use Rattle.lists.specs.Select.{first}
-use Rattle.lists.specs.Every.{Every, nil, cons, every-append, first-none, first-is, none-first}
+use Rattle.lists.specs.Every.{Every, nil, cons, every-append, First, first-none, first-is, none-first}
 use Rattle.token.specs.Token.{Token, Tokens, tokens, bad, scanned}
 use Rattle.grammar.specs.Reading.{Said}
 use Rattle.grammar.specs.Reader.{Outcome, said, stopped, read}
 use Rattle.grammar.specs.Theorem.{read-sound, read-complete, read-stops}
+use Rattle.grammar.specs.OneStop.{stops-read}
 use Rattle.file.specs.declared.Refusal.{Refusal}
 use Rattle.file.specs.declared.Refusal.the-variants.{FileTooLong, BadByte, TooDeep, Ungrammatical}
 use Rattle.file.specs.Limit.{most-bytes}
@@ -121,3 +122,27 @@ module _ (s : List ℕ) (r : Refusal) (p : ℕ) where
       by-length : (b : Bool) → leb (length s) most-bytes ≡ b → cond b (by-tokens (length s) (scanned s)) (refuse FileTooLong 0) ≡ refuse r p → Refusable s r p
       by-length true l h = by-scan (scanned s) (leb-true (length s) most-bytes l) refl h
       by-length false l h = refused-so FileTooLong 0 h (long-file (leb-false (length s) most-bytes l))
+
+-- ---- and the other way round: a text is refusable for one number at one place, and so refused
+
+first-of : {A : Type 0} (p : A → Bool) (early late : List A) (x : A) → Every (λ y. p y ≡ false) early → p x ≡ true → first p (early ++ (x ∷ late)) ≡ some x
+first-of p [] late x nil e = rw e
+first-of p (y ∷ early) late x (cons h c) e = rw h (first-of p early late x c e)
+
+passed-over : (cs : List Context) (lower ks : List Cause) → Every (λ j. Every (λ c. j .applies c ≡ false) cs) lower → refused-by (lower ++ ks) cs ≡ refused-by ks cs
+passed-over cs [] ks nil = refl
+passed-over cs (j ∷ lower) ks (cons h c) = rw (none-first (j .applies) h) (passed-over cs lower ks c)
+
+caused-is : (xs : List Said) (r : Refusal) (p : ℕ) → Caused xs r p → refused-by causes (contexts xs) ≡ some (record { refusal = r; place = p })
+caused-is xs r p (caused {c} lower k higher a h f) =
+    ap (λ (ks : List Cause). refused-by ks (contexts xs)) a
+    ∙ passed-over (contexts xs) lower (k ∷ higher) h
+    ∙ ap (λ (o : Option Context). or-else (k .refusal) o (refused-by higher (contexts xs))) (ap (first (k .applies)) (f .among) ∙ first-of (k .applies) (f .earlier) (f .later) c (f .fail) (f .pass))
+
+pub refusable-is : (s : List ℕ) (r : Refusal) (p : ℕ) → Refusable s r p → verdict s ≡ refuse r p
+unfolding verdict
+refusable-is s r p (long-file l) = rw (lt-leb (length s) most-bytes l)
+refusable-is s r p (bad-byte l a) = rw (le-leb (length s) most-bytes l, a)
+refusable-is s r p (deep-brace l a d) = rw (le-leb (length s) most-bytes l, a, d)
+refusable-is s r p (no-file {ts = ts} l a d h) = rw (le-leb (length s) most-bytes l, a, d, stops-read ts (length s) p h)
+refusable-is s r p (for-cause {xs = xs} l t d c) = rw (le-leb (length s) most-bytes l, t .spelling, d, read-complete (t .spelled) (length s) xs (t .reading), caused-is xs r p c)

@@ -7,3 +7,4 @@ pub mod Complete
 pub mod Stopping
 pub mod Theorem
 pub mod Inputs
+pub mod OneStop

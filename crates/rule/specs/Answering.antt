@@ -7,14 +7,15 @@ use lib.Dec.{leb}
 use Rattle.lists.specs.Text.{bytes, same}
 use Rattle.lists.specs.Select.{first}
 
--- the group DEFAULT
+-- 001: "The group DEFAULT is a special case."
 abbrev pub default-name : List ℕ
 default-name = bytes "DEFAULT"
 
--- the greatest level. 01: "level neither 0 nor 1"
+-- the greatest level
 abbrev pub greatest-level : ℕ
 greatest-level = 1
 
+-- 21: "level neither 0 nor 1"
 abbrev pub a-level : ℕ → Bool
 a-level n = leb n greatest-level
 

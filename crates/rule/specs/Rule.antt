@@ -14,12 +14,13 @@ use Rattle.rule.specs.declared.Access.{Access}
 use Rattle.rule.specs.declared.Access.the-variants as access
 use Rattle.rule.specs.Question.{Question}
 
+-- a rule and what it asks, of a file or of a table
 pub record Rule : Type 0 where
   pub level : ℕ
   pub permission : Access
   pub trap : Bool
   pub switched-off : Bool
-  -- for each UAG and each HAG that it names, the members; host members stand in lower case
+  -- for each UAG and each HAG that it names, the members as they stand there; a file's hosts are lowered first
   pub uags : List (List (List ℕ))
   pub hags : List (List (List ℕ))
   pub calculation : Option (List ℕ)
@@ -35,7 +36,7 @@ abbrev pub belongs : List ℕ → List (List (List ℕ)) → Bool
 belongs name [] = true
 belongs name (g ∷ gs) = any (λ members. any (same name) members) (g ∷ gs)
 
--- a calculation's text is true of the readings
+-- the tree that a text says, if it says one, is true of the readings
 abbrev pub true-tree : List Reading → Option Tree → Bool
 true-tree rs none = false
 true-tree rs (some t) = holds rs t
@@ -63,9 +64,11 @@ abbrev pub greatest : List Access → Access
 greatest [] = access.None
 greatest (a ∷ others) = greater a (greatest others)
 
+-- 001: "The maximum access allowed by step 2 is the access chosen."
 abbrev pub access-by : Question → List Rule → Access
 access-by q rs = greatest (map (λ r. r .permission) (select (passes q) rs))
 
+-- 001: "the first WRITE rule that passes the rule checks"
 abbrev pub gives-write : Rule → Bool
 gives-write r = eqb (rank (r .permission)) (rank access.Write)
 

@@ -49,14 +49,14 @@ hosts-run = run-at 3
 abbrev pub calculation-run : List ℕ → Run
 calculation-run = run-at 5
 
--- where a record's name stands in it
+-- where a record's name stands in it; a rule has no name, its string is its calculation
 abbrev pub name-run : Section → List ℕ → Run
 name-run user-groups = run-at 0
 name-run host-groups = run-at 0
 name-run members = run-at 0
 name-run access-groups = run-at 0
 name-run inputs = run-at 1
-name-run rules = run-at 5
+name-run rules = calculation-run
 name-run references = run-at 1
 
 -- "Flags: bit 0 level, bits 1 and 2 permission (0, 1, 2), bit 3 trap, bit 4 switched off [..], the rest 0"
@@ -109,6 +109,7 @@ string-fits c longest r = leb (r .first + r .count) (length (c .strings)) && leb
 abbrev pub named-sections : List Section
 named-sections = user-groups ∷ host-groups ∷ members ∷ access-groups ∷ inputs ∷ references ∷ []
 
+-- "every string [..] lies in its section", for the names
 abbrev pub names-fit : Content → Bool
 names-fit c = all (λ s. all (λ row. string-fits c longest-name (name-run s row)) (c .records s)) named-sections
 

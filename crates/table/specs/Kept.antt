@@ -105,7 +105,7 @@ calculation-read c e (some t) r (allowed short fine) s = go (eqb (r .first) 0) (
 module _ (c : Content) (sec : Section) (val : Option Group → List (List ℕ)) (empty : val none ≡ []) where
   -- the number of a group leads to its members
   numbered :
-      (s : List ℕ) (n : ℕ) (gs : List Group) → drop n (map (members-of c) (c .records sec)) ≡ map (λ g. val (some g)) gs → n + length gs ≤ 64
+      (s : List ℕ) (n : ℕ) (gs : List Group) → drop n (map (members-of c) (c .records sec)) ≡ map (λ g. val (some g)) gs → n + length gs ≤ undefined-number
       → referred c sec (number-of n s gs ∷ []) ≡ val (named (λ g. g .name) s gs)
   numbered s n [] e h = sym empty
   numbered s n (g ∷ gs) e h =
@@ -126,7 +126,7 @@ module _ (c : Content) (sec : Section) (val : Option Group → List (List ℕ)) 
 
   -- so does each number of a run of references
   referred-read :
-      (gs : List Group) → map (members-of c) (c .records sec) ≡ map (λ g. val (some g)) gs → length gs ≤ 64
+      (gs : List Group) → map (members-of c) (c .records sec) ≡ map (λ g. val (some g)) gs → length gs ≤ undefined-number
       → (r : Run) (ns : List (List ℕ)) → part r (map number-field (c .records references)) ≡ map (λ x. x .number) (references-to gs ns)
       → map (referred c sec) (part r (c .records references)) ≡ map (λ n. val (named (λ g. g .name) n gs)) ns
   referred-read gs es h r ns e =
@@ -213,8 +213,8 @@ module _ (f : File) (fits : Fits f) (no-empty : tree-of [] ≡ none) where
         permission = (ap permission (bits .1) ∙ permission-rank (r .permission)) i;
         trap = (ap set-bit (bits .2) ∙ set-flag (r .trap)) i;
         switched-off = (ap set-bit (bits .3) ∙ set-flag (switched-off r)) i;
-        uags = referred-read (content f) user-groups members-in refl (f .uags) (uags-kept f) (fits .uag-count) u (r .uags) us i;
-        hags = referred-read (content f) host-groups (λ o. map lowered (members-in o)) refl (f .hags) (hags-kept f) (fits .hag-count) h (r .hags) hs i;
+        uags = referred-read (content f) user-groups members-in refl (f .uags) (uags-kept f) (omega (arith, fits .uag-count)) u (r .uags) us i;
+        hags = referred-read (content f) host-groups (λ o. map lowered (members-in o)) refl (f .hags) (hags-kept f) (omega (arith, fits .hag-count)) h (r .hags) hs i;
         calculation = calculation-read (content f) no-empty (r .calculation) q fit s i;
       }
 

@@ -30,11 +30,13 @@ abbrev pub referred : Content → Section → List ℕ → List (List ℕ)
 referred c s row =
     cond (eqb (number-field row) undefined-number) [] (members-of c (getD (c .records s) (number-field row) []))
 
+-- "permission (0, 1, 2)"
 abbrev pub permission : ℕ → Access
 permission zero = access.None
 permission (suc zero) = access.Read
 permission (suc (suc n)) = access.Write
 
+-- a bit that is 1
 abbrev pub set-bit : ℕ → Bool
 set-bit zero = false
 set-bit (suc n) = true

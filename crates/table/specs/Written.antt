@@ -57,7 +57,7 @@ names f =
     ∷ map (λ r. Option·getD (r .calculation) []) (all-rules f)
     ∷ []
 
--- where the strings of the n-th of these stand
+-- where the strings of the n-th of these stand: 0 user groups, 1 host groups, 2 members, 3 access groups, 4 inputs, 5 references, 6 calculations
 abbrev pub spots : File → ℕ → List Run
 spots f n = getD (spread 0 (names f)) n []
 
