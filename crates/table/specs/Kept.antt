@@ -1,7 +1,7 @@
 -- The content of a file has the file's groups and rules: what is written is read again.
-use mathlib.Core.Path.{_≡_, refl, sym, ap, _∙_}
+use mathlib.Core.Path.{_≡_, refl, sym, ap, ap₂, _∙_}
 use mathlib.Core.Bool.{Bool, true, false, cond, _&&_, true≢false}
-use mathlib.Core.List.{List, [], _∷_, _++_, map}
+use mathlib.Core.List.{List, [], _∷_, _++_, map, append-nil}
 use mathlib.Core.Option.{Option, none, some, Option·map, Option·getD}
 use Prim.Native.Nat.{ℕ, zero, suc, _+_, _*_, _≤_}
 use native.Mathlib.Omega.{arith}
@@ -22,12 +22,12 @@ use Rattle.rule.specs.declared.Access.the-variants as access
 use Rattle.rule.specs.Rule.{rank}
 use Rattle.rule.specs.Answering.{named, or-default, answering, default-name}
 use Rattle.file.specs.Limit.{Section, user-groups, host-groups, members, access-groups, inputs, rules, references}
-use Rattle.file.specs.Contents.{Group, Rule-text, Asg, File}
+use Rattle.file.specs.Contents.{Group, Link, Rule-text, Asg, File}
 use Rattle.file.specs.Meaning.{members-in, switched-off, rule-in}
 use Rattle.table.specs.Layout.{Content}
-use Rattle.table.specs.Check.{run-at, number-field, level-bit, permission-bits, trap-bit, off-bit, undefined-number, no-calculation}
+use Rattle.table.specs.Check.{run-at, inputs-run, letter-field, number-field, level-bit, permission-bits, trap-bit, off-bit, undefined-number, no-calculation}
 use Rattle.table.specs.Policy.{string, name, members-of, referred, permission, set-bit, rule-of, rules-of}
-use Rattle.table.specs.Written.{run-words, member-lists, all-rules, Reference, number-of, references-to, reference-lists, names, spots, flag, flags, calculation-words, two-runs, records, content}
+use Rattle.table.specs.Written.{run-words, member-lists, all-links, all-rules, Reference, number-of, references-to, reference-lists, names, spots, flag, flags, calculation-words, two-runs, records, content}
 use Rattle.table.specs.Fits.{Calculation-fits, allowed, Fits}
 
 -- ---- which group answers
@@ -237,24 +237,42 @@ module _ (f : File) (fits : Fits f) (no-empty : tree-of [] ≡ none) where
 
 -- ---- access groups
 
--- what the names and the runs of rules say
+-- what the names, the runs of inputs and the runs of rules say
 asgs-kept :
-    {W : Type 0} {R : Run → Asg → Type 0} (f : File) (g : List ℕ → W) (h : Asg → W)
-    → ((n i r : Run) (a : Asg) → string (content f) n ≡ a .name → R r a → g (run-words n ++ (run-words i ++ run-words r)) ≡ h a)
-    → Alike R (runs 0 (map (λ a. a .rules) (f .asgs))) (f .asgs) → map g (records f access-groups) ≡ map h (f .asgs)
-asgs-kept f g h e rs =
+    {W : Type 0} {Q R : Run → Asg → Type 0} (f : File) (g : List ℕ → W) (h : Asg → W)
+    → ((n i r : Run) (a : Asg) → string (content f) n ≡ a .name → Q i a → R r a → g (run-words n ++ (run-words i ++ run-words r)) ≡ h a)
+    → Alike Q (runs 0 (map (λ a. a .inputs) (f .asgs))) (f .asgs) → Alike R (runs 0 (map (λ a. a .rules) (f .asgs))) (f .asgs)
+    → map g (records f access-groups) ≡ map h (f .asgs)
+asgs-kept f g h e qs rs =
     beside₃-alike
     (λ name i r. run-words name ++ (run-words i ++ run-words r))
     g
     h
-    (λ n i r a s t. e n i r a s)
+    (λ n i r a s t u. e n i r a s t u)
     (alike (string (content f)) (λ a. a .name) (spots f 3) (f .asgs) (strings-kept f 3))
-    (runs-alike (λ a. a .inputs) (f .asgs))
+    qs
     rs
+
+-- ---- inputs
+
+-- the input of an input record, and the inputs of an access group
+abbrev pub link-of : Content → List ℕ → Link
+link-of c row = record { letter = letter-field row; name = name c inputs row }
+
+abbrev pub links-of : Content → List ℕ → List Link
+links-of c row = map (link-of c) (part (inputs-run row) (c .records inputs))
+
+input-rows-kept : (f : File) {ls : List Link} {qs : List Run} → Alike (λ q l. string (content f) q ≡ l .name) qs ls → map (link-of (content f)) (beside (λ i name. i .letter ∷ run-words name) ls qs) ≡ ls
+input-rows-kept f nil₂ = refl
+input-rows-kept f (cons₂ {y = l} e es) = ap₂ (λ (n : List ℕ) (ls : List Link). record { letter = l .letter; name = n } ∷ ls) e (input-rows-kept f es)
+
+input-records-kept : (f : File) → map (link-of (content f)) (records f inputs) ≡ all-links f
+input-records-kept f = input-rows-kept f (alike (string (content f)) (λ l. l .name) (spots f 4) (all-links f) (strings-kept f 4))
 
 -- the access groups have their names
 pub names-kept : (f : File) → map (name (content f) access-groups) (records f access-groups) ≡ map (λ a. a .name) (f .asgs)
-names-kept f = asgs-kept f (name (content f) access-groups) (λ a. a .name) (λ n i r a s t. s) (runs-alike (λ a. a .rules) (f .asgs))
+names-kept f =
+    asgs-kept f (name (content f) access-groups) (λ a. a .name) (λ n i r a s t u. s) (runs-alike (λ a. a .inputs) (f .asgs)) (runs-alike (λ a. a .rules) (f .asgs))
 
 -- and their rules
 pub rules-kept :
@@ -265,13 +283,25 @@ rules-kept f fits no-empty =
     f
     (rules-of (content f))
     (λ a. map (rule-in f) (a .rules))
-    (λ n i r a s t. map-part (rule-of (content f)) r (records f rules) ∙ ap (part r) (rule-records-kept f fits no-empty) ∙ t)
+    (λ n i r a s t u. map-part (rule-of (content f)) r (records f rules) ∙ ap (part r) (rule-records-kept f fits no-empty) ∙ u)
+    (runs-alike (λ a. a .inputs) (f .asgs))
     (alike
     (λ r. part r (map (rule-in f) (all-rules f)))
     (λ a. map (rule-in f) (a .rules))
     (runs 0 (map (λ a. a .rules) (f .asgs)))
     (f .asgs)
     (parts-of (rule-in f) [] (map (λ a. a .rules) (f .asgs)) ∙ map-map (map (rule-in f)) (λ a. a .rules) (f .asgs)))
+
+-- and their inputs
+pub links-kept : (f : File) → map (links-of (content f)) (records f access-groups) ≡ map (λ a. a .inputs) (f .asgs)
+links-kept f =
+    asgs-kept
+    f
+    (links-of (content f))
+    (λ a. a .inputs)
+    (λ n i r a s t u. map-part (link-of (content f)) i (records f inputs) ∙ ap (part i) (input-records-kept f ∙ sym (append-nil (all-links f))) ∙ t)
+    (runs-alike (λ a. a .inputs) (f .asgs))
+    (runs-alike (λ a. a .rules) (f .asgs))
 
 -- so the group that answers a question has the same rules
 pub answering-rules :
@@ -289,3 +319,11 @@ answering-rules f fits no-empty g =
     (f .asgs)
     (names-kept f)
     (rules-kept f fits no-empty)
+
+-- and the same inputs
+pub answering-links :
+    (f : File) (g : List ℕ)
+    → Option·map (links-of (content f)) (answering (name (content f) access-groups) g (records f access-groups))
+    ≡ Option·map (λ a. a .inputs) (answering (λ a. a .name) g (f .asgs))
+answering-links f g =
+    answering-kept (name (content f) access-groups) (λ a. a .name) (links-of (content f)) (λ a. a .inputs) g (records f access-groups) (f .asgs) (names-kept f) (links-kept f)
