@@ -7,3 +7,4 @@ pub mod Complete
 pub mod Sound
 pub mod Theorem
 pub mod Laws
+pub mod Scanning

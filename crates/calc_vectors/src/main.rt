@@ -1,0 +1,218 @@
+// Works out each calculation of the file calc, and says of it what that file should say: allowed or refused, the value, and whether it is true.
+use calculation::Reading;
+use libc::STDOUT_FILENO;
+ghost use Prim.Native.Nat.{_≤_, _<_};
+ghost use lib.ListN.{length};
+
+fn peek(s: &[u8], at: usize) -> u8 {
+    if at < s.len() { s[at] } else { 0 }
+}
+
+// The place behind the next b, or the end.
+fn behind(s: &[u8], from: usize, b: u8) -> usize
+    requires { ⌜ from ≤ length (now s) ⌝ }
+    ensures { λ r. ⌜ r ≤ length (now (s .entry)) ⌝ }
+{
+    let mut i = from;
+    while i < s.len() {
+        if s[i] == b {
+            return i + 1;
+        }
+        i += 1;
+    }
+    i
+}
+
+fn hex(b: u8) -> u64
+    ensures { λ r. ⌜ r < 16 ⌝ }
+{
+    match b {
+        48..=57 => (b - 48) as u64,
+        97..=102 => (b - 87) as u64,
+        _ => 0,
+    }
+}
+
+// Sixteen hexadecimal digits.
+fn bits_at(s: &[u8], at: usize) -> u64
+    requires { ⌜ at ≤ length (now s) ⌝ }
+{
+    let t = &s[at..];
+    let mut n: u64 = 0;
+    let mut i = 0;
+    while i < 16 {
+        n = n % 0x1000_0000_0000_0000 * 16 + hex(peek(t, i));
+        i += 1;
+    }
+    n
+}
+
+// x times 2, or by 2, n times.
+fn scaled(x: f64, by: f64, n: u64) -> f64 {
+    let mut y = x;
+    let mut left = n;
+    while 0 < left {
+        y = y * by;
+        left -= 1;
+    }
+    y
+}
+
+// The binary64 value of some bits. Each step is exact: the value itself has them.
+fn magnitude(bits: u64) -> f64 {
+    let e = bits / 0x10_0000_0000_0000 % 2048;
+    let m = bits % 0x10_0000_0000_0000;
+    if e == 2047 {
+        if m == 0 {
+            return 1.0 / 0.0;
+        }
+        return 0.0 / 0.0;
+    }
+    if e == 0 {
+        return scaled(std::num::nearest_u64_to_f64(m), 0.5, 1074);
+    }
+    let x = std::num::nearest_u64_to_f64(0x10_0000_0000_0000 + m);
+    if e < 1075 {
+        scaled(x, 0.5, 1075 - e)
+    } else {
+        scaled(x, 2.0, e - 1075)
+    }
+}
+
+fn from_bits(bits: u64) -> f64 {
+    let x = magnitude(bits);
+    if bits / 0x8000_0000_0000_0000 == 0 {
+        x
+    } else {
+        -x
+    }
+}
+
+// A reading: never heard, invalid, or bits.
+fn reading_at(s: &[u8], at: usize) -> Reading
+    requires { ⌜ at ≤ length (now s) ⌝ }
+{
+    match peek(s, at) {
+        b'-' => Reading::NeverHeard,
+        b'i' => Reading::Invalid,
+        _ => Reading::Value(from_bits(bits_at(s, at))),
+    }
+}
+
+fn readings(s: &[u8], from: usize) -> [Reading; 21]
+    requires { ⌜ from ≤ length (now s) ⌝ }
+{
+    let mut rs = [Reading::NeverHeard; 21];
+    let mut at = from;
+    let mut i = 0;
+    while i < 21 {
+        rs[i] = reading_at(s, at);
+        at = behind(s, at, b' ');
+        i += 1;
+    }
+    rs
+}
+
+// Whether x is the value that the bits say, signs of zero told apart.
+fn same(x: f64, y: f64) -> bool {
+    if x == y {
+        1.0 / x == 1.0 / y
+    } else {
+        x != x && y != y
+    }
+}
+
+// Whether the value is as written from a place on: bits, nan, or bad, which is no value.
+fn as_written(x: f64, s: &[u8], at: usize) -> bool
+    requires { ⌜ at ≤ length (now s) ⌝ }
+{
+    match peek(s, at) {
+        b'n' => x != x,
+        b'b' => true,
+        _ => same(x, from_bits(bits_at(s, at))),
+    }
+}
+
+fn put(s: &[u8]) {
+    io::write_all(STDOUT_FILENO, s);
+}
+
+// The value as the line writes it, if it is that.
+fn value_as(right: bool, line: &[u8], from: usize, to: usize)
+    requires { ⌜ to ≤ length (now line) ⌝ }
+{
+    if !right {
+        put(b"another value\t");
+        return;
+    }
+    if from <= to {
+        put(&line[from..to]);
+    }
+}
+
+// A calculation that is allowed: its value as the line writes it, and whether it is true.
+fn say(text: &[u8], line: &[u8], at: usize)
+    requires { ⌜ at ≤ length (now line) ⌝ }
+{
+    put(b"allowed\t");
+    let third = behind(line, at, b'\t');
+    let fourth = behind(line, third, b'\t');
+    let rs = readings(line, fourth);
+    let evaluate::Worth::Is(x) = evaluate::value(text, rs) else {
+        put(b"none\n");
+        return;
+    };
+    value_as(as_written(x, line, at), line, at, third);
+    if evaluate::holds(text, rs) {
+        put(b"true\n");
+    } else {
+        put(b"false\n");
+    }
+}
+
+fn judge(text: [u8; 128], n: usize, line: &[u8])
+    requires { ⌜ n ≤ 128 ⌝ }
+{
+    if evaluate::allowed(&text[..n]) {
+        let second = behind(line, 0, b'\t');
+        let third = behind(line, second, b'\t');
+        say(&text[..n], line, third);
+    } else {
+        put(b"refused\n");
+    }
+}
+
+// A line: the text in hexadecimal, allowed or refused, value, truth, readings.
+fn line_of(line: &[u8]) {
+    let mut text = [0u8; 128];
+    let mut n = 0;
+    while n < 128 && peek(line, 2 * n) != b'\t' {
+        text[n] = (hex(peek(line, 2 * n)) * 16 + hex(peek(line, 2 * n + 1))) as u8;
+        n += 1;
+    }
+    judge(text, n, line);
+}
+
+fn lines(s: &[u8]) {
+    let mut at = 0;
+    while at < s.len() {
+        let end = behind(s, at, b'\n');
+        if end <= at {
+            return;
+        }
+        line_of(&s[at..end]);
+        at = end;
+    }
+}
+
+fn main() {
+    let fd = os::open_read(b"calc");
+    if fd < 0 {
+        os::fail(b"calc");
+        return;
+    }
+    let mut buf = [0u8; 131072];
+    let n = io::read_full(fd, &mut buf);
+    libc::close(fd);
+    lines(&buf[..n]);
+}

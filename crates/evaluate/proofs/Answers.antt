@@ -1,0 +1,192 @@
+-- From what is read to what is answered. Assumes nothing.
+use mathlib.Core.Path.{_≡_, refl, sym, _∙_, ap, subst}
+use mathlib.Core.Bool.{Bool, true, false, not, cond, _&&_}
+use mathlib.Core.List.{List, [], _∷_, map}
+use mathlib.Core.Option.{Option, none, some}
+use Prim.Native.Nat.{ℕ, zero, suc, _+_, _≤_, _<_}
+use mathlib.Core.Logic.{⊎-elim}
+use native.Mathlib.Nat.{eq-or-lt-of-le}
+use native.Mathlib.Omega.{arith}
+use lib.ListN.{length, getD, set, length-set, length-map, List·getD-map}
+use lib.Seq.{ext-getD, getD-set-same, getD-set-other}
+use lib.Ieee.{Float, nan}
+use Rattle.lists.specs.Select.{all, holds-of, missing}
+use Rattle.calculation.specs.declared.Reading.{Reading}
+use Rattle.calculation.specs.declared.Reading.the-variants as readings
+use Rattle.calculation.specs.Symbol.{Symbol, symbols, then}
+use Rattle.calculation.specs.Expression.{Tree, number-tree, letter-tree, minus, negation, binary, choice}
+use Rattle.calculation.specs.Value.{heard, good, reading, value, letters, near-one, holds}
+use Rattle.calculation.specs.Reader.{wanted, have, reduce, run, read-spelled, tree-of}
+use Rattle.rule.specs.Rule.{true-tree}
+use Rattle.evaluate.specs.declared.Heard.{Heard}
+use Rattle.evaluate.specs.declared.Parsed.{Parsed}
+use Rattle.evaluate.specs.declared.Parsed.the-variants as parsed
+use Rattle.evaluate.specs.declared.Sign.{Sign}
+use Rattle.evaluate.specs.declared.Worth.{Worth}
+use Rattle.evaluate.specs.declared.Worth.the-variants as worths
+use Rattle.evaluate.specs.Scan.{syms, symbol-of, Then}
+use Rattle.evaluate.specs.Follow.{from, ends-of, amount, Is-end, Follows}
+use Rattle.evaluate.specs.Answer.{worth, given-letter, letter-of, letters-in, symbols-given, true-heard, near-worth}
+use Rattle.evaluate.proofs.Numbers.{clash}
+use Rattle.evaluate.proofs.Steps.{comes-is, fails-is}
+use Rattle.evaluate.proofs.Letters.{given-then, given-not, letters-same, given-tree}
+
+-- ---- a whole text
+
+tree-start : (s : List ℕ) → tree-of s ≡ from (wanted []) (syms s 0)
+unfolding tree-of syms
+tree-start s = go (symbols s)
+  where
+    go : (o : Option (List Symbol)) → read-spelled o ≡ from (wanted []) o
+    go none = refl
+    go (some ss) = refl
+
+module _ (vs : List Float) (s : List ℕ) (r : Parsed) (f : Follows vs s wanted 0 0 1 r) where
+  pub worth-bad : r ≡ parsed.Bad → worths.NoCalculation ≡ worth (map readings.Value vs) (tree-of s)
+  worth-bad e = rw (tree-start s, fails-is vs s wanted 0 0 1 r f e [] (omega arith))
+
+  module _ {v : Float} {n : ℕ} (e : r ≡ parsed.Value v n) (b : Bool) (k : Is-end s n b) where
+    pub worth-end : b ≡ true → worths.Is v ≡ worth (map readings.Value vs) (tree-of s)
+    unfolding run reduce
+    worth-end q =
+        let z = comes-is vs s wanted 0 0 1 r f e in
+        let y : tree-of s ≡ some (z .tree) = tree-start s ∙ (z .reads [] (omega arith) ∙ rw (subst (Is-end s n) q k)) in
+        rw (y, z .valued)
+
+    pub worth-more : b ≡ false → worths.NoCalculation ≡ worth (map readings.Value vs) (tree-of s)
+    worth-more q =
+        let z = comes-is vs s wanted 0 0 1 r f e in
+        let y : tree-of s ≡ none = tree-start s ∙ (z .reads [] (omega arith) ∙ subst (Is-end s n) q k (z .tree) (z .loose)) in
+        rw y
+
+pub allowed-yes : (rs : List Reading) (o : Option Tree) {w : Worth} {v : Float} → w ≡ worth rs o → w ≡ worths.Is v → true ≡ not (missing o)
+allowed-yes rs none e q = let z : _≡_ {A = ℕ} 0 1 = cc in absurd (omega arith)
+allowed-yes rs (some t) e q = refl
+
+pub allowed-no : (rs : List Reading) (o : Option Tree) {w : Worth} → w ≡ worth rs o → w ≡ worths.NoCalculation → false ≡ not (missing o)
+allowed-no rs none e q = refl
+allowed-no rs (some t) e q = let z : _≡_ {A = ℕ} 0 1 = cc in absurd (omega arith)
+
+-- ---- letters
+
+module _ (given : List Bool) (s : List ℕ) (at : ℕ) (x : Sign) {p : ℕ} (y : Then s at (symbol-of x) p) {b : Bool} (eb : b ≡ all (given-letter given) (letter-of (symbol-of x))) where
+  pub letters-on : {r : Bool} → b ≡ true → r ≡ symbols-given given (syms s p) → r ≡ symbols-given given (syms s at)
+  letters-on e h = rw (y .reads) (h ∙ sym (given-then given (symbol-of x) (syms s p) (sym eb ∙ e)))
+
+  pub letters-off : b ≡ false → false ≡ symbols-given given (syms s at)
+  letters-off e = rw (y .reads) (sym (given-not given (symbol-of x) (syms s p) (sym eb ∙ e)))
+
+pub letters-end : (given : List Bool) (o : Option (List Symbol)) → o ≡ some [] → true ≡ symbols-given given o
+unfolding letters-in
+letters-end given o e = rw e
+
+pub letters-wrong : (given : List Bool) (o : Option (List Symbol)) → o ≡ none → false ≡ symbols-given given o
+letters-wrong given o e = rw e
+
+module _ (given : List Bool) (s : List ℕ) {b : Bool} (eb : b ≡ symbols-given given (syms s 0)) where
+  pub with-yes : {r : Bool} → b ≡ true → r ≡ not (missing (tree-of s)) → r ≡ holds-of (tree-of s) (λ t. all (given-letter given) (letters t))
+  with-yes {r} e h = go (tree-of s) refl h
+    where
+      go : (o : Option Tree) → tree-of s ≡ o → r ≡ not (missing o) → r ≡ holds-of o (λ t. all (given-letter given) (letters t))
+      go none q h = h
+      go (some t) q h = h ∙ (sym e ∙ (eb ∙ letters-same s t q given))
+
+  pub with-no : b ≡ false → false ≡ holds-of (tree-of s) (λ t. all (given-letter given) (letters t))
+  with-no e = go (tree-of s) refl
+    where
+      go : (o : Option Tree) → tree-of s ≡ o → false ≡ holds-of o (λ t. all (given-letter given) (letters t))
+      go none q = refl
+      go (some t) q = sym e ∙ (eb ∙ letters-same s t q given)
+
+-- ---- values
+
+heard-reading : (rs : List Reading) (i : ℕ) → heard (reading (map readings.Value (map heard rs)) i) ≡ heard (reading rs i)
+heard-reading [] i = refl
+heard-reading (r ∷ rs) zero = refl
+heard-reading (r ∷ rs) (suc i) = heard-reading rs i
+
+amount-heard : (rs : List Reading) (t : Tree) → amount (map heard rs) t ≡ value rs t
+unfolding value
+amount-heard rs (number-tree x) = refl
+amount-heard rs (letter-tree i) = heard-reading rs i
+amount-heard rs (minus t) = rw (amount-heard rs t)
+amount-heard rs (negation t) = rw (amount-heard rs t)
+amount-heard rs (binary o t u) = rw (amount-heard rs t, amount-heard rs u)
+amount-heard rs (choice c x y) = rw (amount-heard rs c, amount-heard rs x, amount-heard rs y)
+
+pub worth-heard : (rs : List Reading) (vs : List Float) (o : Option Tree) {w : Worth} → vs ≡ map heard rs → w ≡ worth (map readings.Value vs) o → w ≡ worth rs o
+worth-heard rs vs none e h = h
+worth-heard rs vs (some t) e h = h ∙ (rw e (ap worths.Is (amount-heard rs t)))
+
+-- ---- truth
+
+module _ (s : List ℕ) (h : Heard) {b : Bool} (eb : b ≡ symbols-given (h .good) (syms s 0)) where
+  heard-is : true-heard h (tree-of s) ≡ b && holds-of (tree-of s) (λ t. near-one (amount (h .values) t))
+  heard-is = given-tree s (h .good) (λ t. near-one (amount (h .values) t)) ∙ rw (← eb)
+
+  pub heard-yes : {w : Worth} {r : Bool} → b ≡ true → w ≡ worth (map readings.Value (h .values)) (tree-of s) → r ≡ near-worth w → r ≡ true-heard h (tree-of s)
+  heard-yes {w} {r} e ew er =
+      let x : near-worth w ≡ holds-of (tree-of s) (λ t. near-one (amount (h .values) t)) = rw ew (go (tree-of s)) in
+      let y : true-heard h (tree-of s) ≡ holds-of (tree-of s) (λ t. near-one (amount (h .values) t)) = heard-is ∙ rw e in
+      er ∙ (x ∙ sym y)
+    where
+      go : (o : Option Tree) → near-worth (worth (map readings.Value (h .values)) o) ≡ holds-of o (λ t. near-one (amount (h .values) t))
+      go none = refl
+      go (some t) = refl
+
+  pub heard-no : b ≡ false → false ≡ true-heard h (tree-of s)
+  heard-no e = sym (heard-is ∙ rw e)
+
+good-letter : (rs : List Reading) (i : ℕ) → given-letter (map good rs) i ≡ good (reading rs i)
+good-letter rs i = List·getD-map good rs i readings.NeverHeard
+
+all-good : (rs : List Reading) (ls : List ℕ) → all (given-letter (map good rs)) ls ≡ all (λ i. good (reading rs i)) ls
+all-good rs [] = refl
+all-good rs (i ∷ ls) = rw (good-letter rs i, all-good rs ls)
+
+pub holds-is : (rs : List Reading) (h : Heard) (o : Option Tree) {r : Bool} → h .values ≡ map heard rs → h .good ≡ map good rs → r ≡ true-heard h o → r ≡ true-tree rs o
+holds-is rs h none ev eg e = e
+holds-is rs h (some t) ev eg e = e ∙ rw (ev, eg, all-good rs (letters t), amount-heard rs t)
+
+-- ---- readings heard one by one
+
+pub record Heard-to (rs : List Reading) (values : List Float) (goods : List Bool) (i : ℕ) : Type 0 where
+  pub bound : i ≤ 21
+  pub values-many : length values ≡ 21
+  pub goods-many : length goods ≡ 21
+  pub valued : (j : ℕ) → j < i → getD values j nan ≡ heard (reading rs j)
+  pub judged : (j : ℕ) → j < i → getD goods j false ≡ good (reading rs j)
+
+pub heard-none : (rs : List Reading) (values : List Float) (goods : List Bool) → length values ≡ 21 → length goods ≡ 21 → Heard-to rs values goods 0
+heard-none rs values goods e f =
+    record { bound = omega arith; values-many = e; goods-many = f; valued = λ j h. absurd (omega arith); judged = λ j h. absurd (omega arith) }
+
+set-more :
+    {A : Type 0} (d : A) (xs : List A) (f : ℕ → A) (i : ℕ) {x : A} → i < length xs → ((j : ℕ) → j < i → getD xs j d ≡ f j) → x ≡ f i
+    → (j : ℕ) → j < i + 1 → getD (set xs i x) j d ≡ f j
+set-more d xs f i {x} l h e j g =
+    let le : j ≤ i = omega arith in
+    ⊎-elim (λ (q : j ≡ i). rw q (getD-set-same xs i x d l ∙ e)) (λ (q : j < i). getD-set-other xs i j x d (λ p. omega arith) ∙ h j q) (eq-or-lt-of-le le)
+
+pub heard-more :
+    (rs : List Reading) (values : List Float) (goods : List Bool) (i : ℕ) {v : Float} {g : Bool} → Heard-to rs values goods i → i < 21
+    → v ≡ heard (reading rs i) → g ≡ good (reading rs i) → Heard-to rs (set values i v) (set goods i g) (i + 1)
+heard-more rs values goods i {v} {g} k l ev eg =
+    record {
+      bound = omega arith;
+      values-many = length-set values i v ∙ k .values-many;
+      goods-many = length-set goods i g ∙ k .goods-many;
+      valued = set-more nan values (λ j. heard (reading rs j)) i (omega (arith, k .values-many)) (k .valued) ev;
+      judged = set-more false goods (λ j. good (reading rs j)) i (omega (arith, k .goods-many)) (k .judged) eg;
+    }
+
+value-at : (rs : List Reading) (j : ℕ) → j < length rs → getD (map heard rs) j nan ≡ heard (reading rs j)
+value-at [] j h = absurd (omega arith)
+value-at (r ∷ rs) zero h = refl
+value-at (r ∷ rs) (suc j) h = value-at rs j (omega arith)
+
+pub heard-all : (rs : List Reading) (values : List Float) (goods : List Bool) (i : ℕ) → length rs ≡ 21 → Heard-to rs values goods i → 21 ≤ i → (values ≡ map heard rs) × (goods ≡ map good rs)
+heard-all rs values goods i e k h = (
+  ext-getD nan values (map heard rs) (k .values-many ∙ sym (length-map rs heard ∙ e)) (λ j l. k .valued j (omega (arith, k .values-many)) ∙ sym (value-at rs j (omega (arith, k .values-many)))),
+  ext-getD false goods (map good rs) (k .goods-many ∙ sym (length-map rs good ∙ e)) (λ j l. k .judged j (omega (arith, k .goods-many)) ∙ sym (List·getD-map good rs j readings.NeverHeard)),
+)

@@ -1,0 +1,88 @@
+-- Laws of single bytes and their spellings. Assumes nothing.
+use mathlib.Core.Path.{_≡_, refl, sym, _∙_, ap, subst}
+use mathlib.Core.Bool.{Bool, true, false, _&&_, _||_}
+use mathlib.Core.List.{List, [], _∷_}
+use Prim.Native.Nat.{ℕ, zero, suc, _+_, _-_, _*_, _≤_, _<_}
+use native.Mathlib.Omega.{arith}
+use borrow.Author.Tests.{leb-true, leb-false, le-leb, lt-leb, eq-eqb, ne-eqb, eqb-true}
+use lib.Dec.{leb, eqb}
+use lib.ListN.{length, getD, drop, List·getD-eq-default}
+use lib.Ieee.{Float, nan, inf, fin, binary64, ofBits, div, neg, lt}
+use Rattle.lists.specs.Text.{within, among, digit}
+use Rattle.calculation.specs.Value.{finite}
+use Rattle.calculation.specs.Symbol.{letter, sign, wrong, start, numeral-byte}
+use Rattle.evaluate.specs.Scan.{spelling, single}
+
+-- 1 / 0
+abbrev pub top : Float
+top = div binary64 (ofBits binary64 0x3ff0_0000_0000_0000) (ofBits binary64 0)
+
+pub finite-lt : (x : Float) → (lt (neg top) x && lt x top) ≡ finite x
+unfolding lt neg div ofBits
+finite-lt nan = refl
+finite-lt (inf true) = refl
+finite-lt (inf false) = refl
+finite-lt (fin s m e) = refl
+
+-- ---- a range of bytes
+
+pub below : (lo hi b : ℕ) → b < lo → within lo hi b ≡ false
+below lo hi b h = rw (lt-leb lo b h)
+
+pub above : (lo hi b : ℕ) → lo ≤ b → hi < b → within lo hi b ≡ false
+above lo hi b l h = rw (le-leb lo b l, lt-leb b hi h)
+
+pub inside : (lo hi b : ℕ) → lo ≤ b → b ≤ hi → within lo hi b ≡ true
+inside lo hi b l h = rw (le-leb lo b l, le-leb b hi h)
+
+-- what a byte begins that is neither blank nor part of a number
+module _ (b : ℕ) (n9 : b ≡ 9 → ⊥) (n32 : b ≡ 32 → ⊥) where
+  pub start-figure : (s : List ℕ) → 48 ≤ b → b ≤ 57 → start b s ≡ start 48 s
+  start-figure s l h = rw (ne-eqb b 32 n32, ne-eqb b 9 n9, inside 48 57 b l h)
+
+  module _ (n46 : b ≡ 46 → ⊥) where
+    pub start-upper : (s : List ℕ) → 65 ≤ b → b ≤ 85 → start b s ≡ sign (letter (b - 65)) 0
+    start-upper s l h = rw (ne-eqb b 32 n32, ne-eqb b 9 n9, above 48 57 b (omega arith) (omega arith), ne-eqb b 46 n46, inside 65 85 b l h)
+
+    pub start-lower : (s : List ℕ) → 97 ≤ b → b ≤ 117 → start b s ≡ sign (letter (b - 97)) 0
+    start-lower s l h =
+        rw (ne-eqb b 32 n32, ne-eqb b 9 n9, above 48 57 b (omega arith) (omega arith), ne-eqb b 46 n46, above 65 85 b (omega arith) (omega arith), inside 97 117 b l h)
+
+    pub start-other : (s : List ℕ) → digit b ≡ false → within 65 85 b ≡ false → within 97 117 b ≡ false → start b s ≡ spelling b s
+    unfolding spelling
+    start-other s d u l = rw (ne-eqb b 32 n32, ne-eqb b 9 n9, d, ne-eqb b 46 n46, u, l)
+
+-- ---- spellings
+
+both-false : (x y b d : ℕ) → (b * 256 + d ≡ x * 256 + y → ⊥) → (eqb x b && (eqb y d && true)) ≡ false
+both-false x y b d n = go (eqb x b) (eqb y d) refl refl
+  where
+    go : (p q : Bool) → eqb x b ≡ p → eqb y d ≡ q → (p && (q && true)) ≡ false
+    go true true e f = absurd (n (omega (arith, eqb-true x b e, eqb-true y d f)))
+    go true false e f = refl
+    go false q e f = refl
+
+-- no spelling of two bytes
+pub no-pair :
+    (b d : ℕ)
+    → (b * 256 + d ≡ 0x7c7c → ⊥) → (b * 256 + d ≡ 0x2626 → ⊥) → (b * 256 + d ≡ 0x3c3d → ⊥)
+    → (b * 256 + d ≡ 0x3e3d → ⊥) → (b * 256 + d ≡ 0x3d3d → ⊥) → (b * 256 + d ≡ 0x213d → ⊥) → single b ≡ spelling b (d ∷ [])
+unfolding spelling single
+no-pair b d n1 n2 n3 n4 n5 n6 =
+    rw (both-false 124 124 b d n1, both-false 38 38 b d n2, both-false 60 61 b d n3, both-false 62 61 b d n4, both-false 61 61 b d n5, both-false 33 61 b d n6)
+
+-- a spelling looks at two bytes at most
+pub two-bytes : (b : ℕ) (s : List ℕ) → spelling b s ≡ spelling b (getD s 0 0 ∷ [])
+unfolding spelling
+two-bytes b [] = refl
+two-bytes b (d ∷ s) = refl
+
+-- no spelling of one byte
+pub no-single :
+    (b : ℕ)
+    → (b ≡ 60 → ⊥) → (b ≡ 62 → ⊥) → (b ≡ 61 → ⊥) → (b ≡ 35 → ⊥) → (b ≡ 43 → ⊥) → (b ≡ 45 → ⊥) → (b ≡ 42 → ⊥)
+    → (b ≡ 47 → ⊥) → (b ≡ 33 → ⊥) → (b ≡ 63 → ⊥) → (b ≡ 58 → ⊥) → (b ≡ 40 → ⊥) → (b ≡ 41 → ⊥) → wrong ≡ single b
+unfolding single
+no-single b n1 n2 n3 n4 n5 n6 n7 n8 n9 n10 n11 n12 n13 =
+    rw
+    (ne-eqb 60 b (λ e. n1 (sym e)), ne-eqb 62 b (λ e. n2 (sym e)), ne-eqb 61 b (λ e. n3 (sym e)), ne-eqb 35 b (λ e. n4 (sym e)), ne-eqb 43 b (λ e. n5 (sym e)), ne-eqb 45 b (λ e. n6 (sym e)), ne-eqb 42 b (λ e. n7 (sym e)), ne-eqb 47 b (λ e. n8 (sym e)), ne-eqb 33 b (λ e. n9 (sym e)), ne-eqb 63 b (λ e. n10 (sym e)), ne-eqb 58 b (λ e. n11 (sym e)), ne-eqb 40 b (λ e. n12 (sym e)), ne-eqb 41 b (λ e. n13 (sym e)))

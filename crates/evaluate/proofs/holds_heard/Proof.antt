@@ -1,0 +1,23 @@
+use Rattle.evaluate.proofs.Answers.{heard-yes, heard-no}
+use borrow.Author.Needs.{needs}
+use Rattle.evaluate.proofs.holds_heard.Statement.{statement}
+use Rattle.evaluate.proofs.holds_heard.Tie as tie
+
+letters-given-requires : tie.Need-letters-given-requires
+letters-given-requires c κs = search needs
+
+worth-of-requires : tie.Need-worth-of-requires
+worth-of-requires c κs = search needs
+
+near-requires : tie.Need-near-requires
+near-requires c κs = search needs
+
+returns : tie.Need-returns
+returns c = let a = (c .before .before .before .before .before .before .before .before .before) in heard-yes (a .args .s .now) (a .args .h) (c .before .before .before .before .letters-given .ensures) (c .before .before .before .if1 .taken) (c .before .worth-of .ensures) (c .near .ensures)
+
+returns-2 : tie.Need-returns-2
+returns-2 c = let a = (c .before .before .before .before .before .before) in heard-no (a .args .s .now) (a .args .h) (c .before .letters-given .ensures) (c .if1 .left)
+
+pub holds-heard-spec : {M : Type 1} → statement M
+holds-heard-spec =
+    tie.close (tie.spec letters-given-requires worth-of-requires near-requires returns returns-2)

@@ -1,0 +1,51 @@
+-- What the crate answers.
+use mathlib.Core.Bool.{Bool, false, _&&_}
+use mathlib.Core.List.{List, [], _∷_, _++_}
+use mathlib.Core.Option.{Option, none, some}
+use Prim.Native.Nat.{ℕ}
+use lib.ListN.{getD}
+use Rattle.lists.specs.Select.{all, holds-of}
+use Rattle.calculation.specs.declared.Reading.{Reading}
+use Rattle.calculation.specs.Symbol.{Symbol, number, letter, operator, not-sign, question, colon, open-paren, close-paren}
+use Rattle.calculation.specs.Expression.{Tree}
+use Rattle.calculation.specs.Value.{value, letters, near-one}
+use Rattle.evaluate.specs.declared.Heard.{Heard}
+use Rattle.evaluate.specs.declared.Worth.{Worth}
+use Rattle.evaluate.specs.declared.Worth.the-variants as worths
+use Rattle.evaluate.specs.Follow.{amount}
+
+-- the value of a calculation, if there is one
+abbrev pub worth : List Reading → Option Tree → Worth
+worth rs none = worths.NoCalculation
+worth rs (some t) = worths.Is (value rs t)
+
+-- a letter is among those given
+abbrev pub given-letter : List Bool → ℕ → Bool
+given-letter given i = getD given i false
+
+-- the letters among some symbols
+abbrev pub letter-of : Symbol → List ℕ
+letter-of (number v) = []
+letter-of (letter i) = i ∷ []
+letter-of (operator o) = []
+letter-of not-sign = []
+letter-of question = []
+letter-of colon = []
+letter-of open-paren = []
+letter-of close-paren = []
+
+unfoldable pub letters-in : List Symbol → List ℕ
+letters-in [] = []
+letters-in (x ∷ ss) = letter-of x ++ letters-in ss
+
+-- there are symbols, and their letters are given
+abbrev pub symbols-given : List Bool → Option (List Symbol) → Bool
+symbols-given given o = holds-of o (λ ss. all (given-letter given) (letters-in ss))
+
+-- a calculation is true of readings already heard
+abbrev pub true-heard : Heard → Option Tree → Bool
+true-heard h o = holds-of o (λ t. all (given-letter (h .good)) (letters t) && near-one (amount (h .values) t))
+
+abbrev pub near-worth : Worth → Bool
+near-worth worths.NoCalculation = false
+near-worth (worths.Is v) = near-one v
