@@ -1,0 +1,79 @@
+-- The records of a table by the numbers of their sections.
+use mathlib.Core.Path.{_≡_, refl, ap, subst, _∙_}
+use mathlib.Core.Bool.{true}
+use mathlib.Core.List.{List, [], _∷_, map}
+use Prim.Native.Nat.{ℕ, zero, suc, _+_, _*_, _<_}
+use native.Mathlib.Omega.{arith}
+use lib.ListN.{length, getD, List·getD-map}
+use Rattle.file.specs.Limit.{Section, references}
+use Rattle.table.specs.Layout.{sections, width}
+use Rattle.table.specs.View.{order, count-of, offset-of, view}
+use Rattle.table.specs.Check.{sections-stand}
+use Rattle.table.specs.Bytes.{each}
+use Rattle.table.specs.Fields.{word-at, view-count, field-inside, field-at}
+
+abbrev pub section-at : ℕ → Section
+section-at n = getD sections n references
+
+-- the i-th record of the n-th section
+abbrev pub record-at : List ℕ → ℕ → ℕ → List ℕ
+record-at b n i = getD (view b .records (section-at n)) i []
+
+-- bytes whose sections stand have a j-th word in the i-th record of the n-th section
+pub record Place (b : List ℕ) (n i j : ℕ) : Type 0 where
+  pub stand : sections-stand b ≡ true
+  pub section : n < 7
+  pub row : i < count-of b n
+  pub field : j < width (section-at n)
+
+-- and a rule i
+pub record Rule (b : List ℕ) (i : ℕ) : Type 0 where
+  pub stand : sections-stand b ≡ true
+  pub row : i < count-of b 5
+
+-- that word
+pub record Cell (b : List ℕ) (n i j r : ℕ) : Type 0 where
+  pub is : r ≡ getD (record-at b n i) j 0
+  pub small : r < 65536
+
+-- ---- laws
+
+pub order-at : (n : ℕ) → n < 7 → order (section-at n) ≡ n
+order-at zero h = refl
+order-at (suc zero) h = refl
+order-at (suc (suc zero)) h = refl
+order-at (suc (suc (suc zero))) h = refl
+order-at (suc (suc (suc (suc zero)))) h = refl
+order-at (suc (suc (suc (suc (suc zero))))) h = refl
+order-at (suc (suc (suc (suc (suc (suc zero)))))) h = refl
+order-at (suc (suc (suc (suc (suc (suc (suc n))))))) h = absurd (omega arith)
+
+any-default : {A : Type 0} (l : List A) (n : ℕ) (d e : A) → n < length l → getD l n d ≡ getD l n e
+any-default [] n d e h = absurd (omega arith)
+any-default (x ∷ l) zero d e h = refl
+any-default (x ∷ l) (suc n) d e h = any-default l n d e (omega arith)
+
+-- a table of numbers, one for each section
+pub listed : (f : Section → ℕ) (n : ℕ) → n < 7 → getD (map f sections) n 0 ≡ f (section-at n)
+listed f n h = any-default (map f sections) n 0 (f references) h ∙ List·getD-map f sections n references
+
+pub rows-count : (b : List ℕ) (n : ℕ) → n < 7 → length (view b .records (section-at n)) ≡ count-of b n
+rows-count b n h = view-count b (section-at n) ∙ ap (count-of b) (order-at n h)
+
+module _ (b : List ℕ) (n i j : ℕ) (p : Place b n i j) where
+  inside-row : i < count-of b (order (section-at n))
+  inside-row = rw (order-at n (p .section)) (p .row)
+
+  pub place-inside : offset-of b n + (i * width (section-at n) + j) * 2 + 1 < length b
+  place-inside = subst (λ (m : ℕ). offset-of b m + (i * width (section-at n) + j) * 2 + 1 < length b) (order-at n (p .section)) (field-inside b (p .stand) (section-at n) i j inside-row (p .field))
+
+  pub place-word : getD (record-at b n i) j 0 ≡ word-at b (offset-of b n + (i * width (section-at n) + j) * 2)
+  place-word =
+      field-at b (p .stand) (section-at n) i j inside-row (p .field)
+      ∙ ap (λ (m : ℕ). word-at b (offset-of b m + (i * width (section-at n) + j) * 2)) (order-at n (p .section))
+
+pub width-small : (s : Section) → width s < 8
+width-small = each (λ s. width s < 8) (omega arith) (omega arith) (omega arith) (omega arith) (omega arith) (omega arith) (omega arith)
+
+pub two-words : (s : Section) → 1 < width s
+two-words = each (λ s. 1 < width s) (omega arith) (omega arith) (omega arith) (omega arith) (omega arith) (omega arith) (omega arith)

@@ -1,0 +1,36 @@
+-- What is asked of each record by itself.
+use mathlib.Core.Bool.{Bool, _&&_, _||_}
+use mathlib.Core.List.{List}
+use Prim.Native.Nat.{ℕ, _+_}
+use lib.Dec.{eqb, leb, ltb}
+use lib.ListN.{length}
+use Rattle.lists.specs.Select.{all}
+use Rattle.token.specs.Word.{greatest-letter}
+use Rattle.file.specs.Limit.{Section, user-groups, host-groups, members, access-groups, inputs, rules, references, longest-name}
+use Rattle.table.specs.Layout.{Content}
+use Rattle.table.specs.View.{total-of, count-of, offset-of, strings-order}
+use Rattle.table.specs.Check.{string-fits, name-run, letter-field, number-field, undefined-number, rule-stands}
+
+-- the strings start at a number, end with the table and lie within the bytes
+abbrev pub ends-stand : List ℕ → ℕ → Bool
+ends-stand b at =
+    eqb (offset-of b strings-order) at && (eqb (at + count-of b strings-order) (total-of b) && leb (total-of b) (length b))
+
+abbrev pub name-stands : Content → Section → List ℕ → Bool
+name-stands c s row = string-fits c longest-name (name-run s row)
+
+abbrev pub record-stands : Content → Section → List ℕ → Bool
+record-stands c user-groups row = name-stands c user-groups row
+record-stands c host-groups row = name-stands c host-groups row
+record-stands c members row = name-stands c members row
+record-stands c access-groups row = name-stands c access-groups row
+record-stands c inputs row = name-stands c inputs row && leb (letter-field row) greatest-letter
+record-stands c rules row = rule-stands c row
+record-stands c references row = name-stands c references row
+
+abbrev pub section-stands : Content → Section → Bool
+section-stands c s = all (record-stands c s) (c .records s)
+
+-- a reference's number is undefined or one of n groups
+abbrev pub number-stands : ℕ → List ℕ → Bool
+number-stands n row = eqb (number-field row) undefined-number || ltb (number-field row) n
