@@ -10,3 +10,4 @@ pub mod Stands
 pub mod Theorem
 pub mod Accepted
 pub mod Fields
+pub mod Standing
