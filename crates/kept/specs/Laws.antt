@@ -1,7 +1,7 @@
 -- Laws of kept tokens.
 use mathlib.Core.Path.{_≡_, refl, ap, _∙_}
 use mathlib.Core.List.{List, [], _∷_, _++_, map}
-use Prim.Native.Nat.{ℕ, zero, suc, _+_}
+use Prim.Native.Nat.{ℕ, zero, suc, _+_, _-_, _<_}
 use native.Mathlib.Omega.{arith}
 use Rattle.token.specs.declared.Kind.{Kind}
 use Rattle.token.specs.declared.Kind.the-variants as kind
@@ -10,7 +10,8 @@ use Rattle.grammar.specs.declared.Role.{Role}
 use Rattle.grammar.specs.declared.Role.the-variants as role
 use Rattle.grammar.specs.Role.{role-number}
 use Rattle.grammar.specs.Reader.{kind-number}
-use Rattle.kept.specs.Kept.{kind-of-number, role-of-number, Arrays, token-at, tokens-from, said-from}
+use Rattle.grammar.specs.Reading.{Said}
+use Rattle.kept.specs.Kept.{kind-of-number, role-of-number, Arrays, token-at, tokens-from, said-at, said-from}
 
 pub kind-back : (k : Kind) → kind-of-number (kind-number k) ≡ k
 kind-back kind.Uag = refl
@@ -62,3 +63,18 @@ pub said-tokens : (s : List ℕ) (a : Arrays) (roles : List ℕ) (i n : ℕ) →
 unfolding tokens-from said-from
 said-tokens s a roles i zero = refl
 said-tokens s a roles i (suc n) = ap (λ (l : List Token). token-at s a i ∷ l) (said-tokens s a roles (suc i) n)
+
+-- the first of the tokens that are left
+pub tokens-step : (s : List ℕ) (a : Arrays) (i n : ℕ) → i < n → tokens-from s a i (n - i) ≡ token-at s a i ∷ tokens-from s a (i + 1) (n - (i + 1))
+unfolding tokens-from
+tokens-step s a i n h =
+    let e : n - i ≡ suc (n - (i + 1)) = omega arith in
+    let f : suc i ≡ i + 1 = omega arith in
+    ap (tokens-from s a i) e ∙ ap (λ (k : ℕ). token-at s a i ∷ tokens-from s a k (n - (i + 1))) f
+
+pub said-step : (s : List ℕ) (a : Arrays) (roles : List ℕ) (i n : ℕ) → i < n → said-from s a roles i (n - i) ≡ said-at s a roles i ∷ said-from s a roles (i + 1) (n - (i + 1))
+unfolding said-from
+said-step s a roles i n h =
+    let e : n - i ≡ suc (n - (i + 1)) = omega arith in
+    let f : suc i ≡ i + 1 = omega arith in
+    ap (said-from s a roles i) e ∙ ap (λ (k : ℕ). said-at s a roles i ∷ said-from s a roles k (n - (i + 1))) f

@@ -1,3 +1,6 @@
 pub mod Word
 pub mod Token
 pub mod Laws
+pub mod Spans
+pub mod Steady
+pub mod Quotes

@@ -1,0 +1,49 @@
+ghost use mathlib.Core.Path.{_≡_};
+ghost use mathlib.Core.List.{List};
+ghost use Prim.Native.Nat.{ℕ, _≤_};
+ghost use lib.ListN.{length};
+ghost use Rattle.file.specs.Depth.{opened};
+ghost use Rattle.file.specs.Limit.{most-braces};
+ghost use Rattle.kept.specs.Kept.{kind-of-number};
+ghost use Rattle.braces.specs.Deep.{Finds};
+
+// Where the brace stands that makes too many open at once.
+pub enum Deep {
+    No,
+    At(usize),
+}
+
+// How many braces are open behind a token.
+fn opened(kind: u8, count: usize) -> usize
+    requires { ⌜ count ≤ most-braces ⌝ }
+    ensures { λ r. ⌜ r ≡ opened (kind-of-number kind) count ⌝ }
+{
+    match kind {
+        11 => count + 1,
+        12 => { if count == 0 { 0 } else { count - 1 } }
+        _ => count,
+    }
+}
+
+fn wide(x: u16) -> usize
+    ensures { λ r. ⌜ r ≡ x ⌝ }
+{
+    x as usize
+}
+
+// The braces rule over the first n tokens.
+pub fn too_deep(kinds: &[u8], places: &[u16], n: usize) -> Deep
+    requires { ⌜ (n ≤ length (now kinds)) × (n ≤ length (now places)) ⌝ }
+    ensures { λ r. ⌜ ((s starts ends : List ℕ) → Finds s starts ends (now (kinds .entry)) (now (places .entry)) n r) ⌝ }
+{
+    let mut count: usize = 0;
+    let mut i = 0;
+    while i < n {
+        count = opened(kinds[i], count);
+        if 16 < count {
+            return Deep::At(wide(places[i]));
+        }
+        i += 1;
+    }
+    Deep::No
+}

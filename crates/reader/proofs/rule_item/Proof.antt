@@ -1,0 +1,82 @@
+use Rattle.reader.proofs.Laws.{then, at, when-as, nor, nor-true, name-or-low}
+use Rattle.reader.specs.Reads.{one, name-or-string}
+use Rattle.grammar.specs.Reader.{headed, perhaps, block, inner}
+use native.Mathlib.Omega.{arith}
+use mathlib.Core.List.{[], _∷_}
+use mathlib.Core.Path.{refl}
+use borrow.Author.Needs.{needs}
+use Rattle.reader.proofs.rule_item.Statement.{statement}
+use Rattle.reader.proofs.rule_item.Tie as tie
+
+kind-at-requires : tie.Need-kind-at-requires
+kind-at-requires c κs = search needs
+
+expect-requires : tie.Need-expect-requires
+expect-requires c κs = search needs
+
+strings-in-requires : tie.Need-strings-in-requires
+strings-in-requires c κs = search needs
+
+same-length : tie.Need-same-length
+same-length c = search needs
+
+returns : tie.Need-returns
+returns c = record { leads = λ k. at 0 (c .before .before .before .before .before .before .before .before .before .kind-at .ensures) (c .before .before .before .before .before .before .before .before .if1 .taken) (then (c .before .before .before .before .before .before .expect .ensures .leads _) (c .before .before .strings-in .ensures .leads k)) refl; less = omega (arith, c .before .before .before .before .before .before .expect .ensures .less, c .before .before .strings-in .ensures .less) }
+
+expect-requires-2 : tie.Need-expect-requires-2
+expect-requires-2 c κs = search needs
+
+strings-in-requires-2 : tie.Need-strings-in-requires-2
+strings-in-requires-2 c κs = search needs
+
+same-length-2 : tie.Need-same-length-2
+same-length-2 c = search needs
+
+returns-2 : tie.Need-returns-2
+returns-2 c = record { leads = λ k. at 1 (c .before .before .before .before .before .before .before .before .before .before .kind-at .ensures) (c .before .before .before .before .before .before .before .before .if2 .taken) (then (c .before .before .before .before .before .before .expect2 .ensures .leads _) (c .before .before .strings-in2 .ensures .leads k)) refl; less = omega (arith, c .before .before .before .before .before .before .expect2 .ensures .less, c .before .before .strings-in2 .ensures .less) }
+
+expect-requires-3 : tie.Need-expect-requires-3
+expect-requires-3 c κs = search needs
+
+named-requires : tie.Need-named-requires
+named-requires c κs = search needs
+
+same-length-3 : tie.Need-same-length-3
+same-length-3 c = search needs
+
+returns-3 : tie.Need-returns-3
+returns-3 c = record { leads = λ k. at 4 (c .before .before .before .before .before .before .before .before .before .before .before .kind-at .ensures) (c .before .before .before .before .before .before .before .before .if3 .taken) (then (c .before .before .before .before .before .before .expect3 .ensures .leads _) (c .before .before .named .ensures .leads k)) refl; less = omega (arith, c .before .before .before .before .before .before .expect3 .ensures .less, c .before .before .named .ensures .less) }
+
+name-or-string-requires : tie.Need-name-or-string-requires
+name-or-string-requires c κs = search needs
+
+predicate-requires : tie.Need-predicate-requires
+predicate-requires c κs = (search needs, omega (arith, name-or-low (c .before .before .before .before .before .kind-at .result), c .name-or-string .ensures))
+
+same-length-4 : tie.Need-same-length-4
+same-length-4 c = search needs
+
+returns-4 : tie.Need-returns-4
+returns-4 c = record { leads = λ k. when-as (nor (0 ∷ 1 ∷ 4 ∷ [])) name-or-string (λ n. one n 17 ∷ headed (perhaps (block inner) ∷ k)) (c .before .before .before .before .before .before .before .before .kind-at .ensures) (nor-true (0 ∷ 1 ∷ 4 ∷ []) (c .before .before .before .before .before .before .before .before .kind-at .result) (c .before .before .before .before .before .before .before .if1 .left, (c .before .before .before .before .before .before .if2 .left, (c .before .before .before .before .before .if3 .left, tt)))) (c .before .before .before .name-or-string .ensures) (c .before .before .predicate .ensures .leads k) (tt, tt, refl, refl, tt, refl, refl, refl, refl, refl, refl, refl, refl, refl, refl); less = omega (arith, c .before .before .predicate .ensures .less) }
+
+pub rule-item-spec : {M : Type 1} → statement M
+rule-item-spec =
+    tie.close
+    (tie.spec
+    kind-at-requires
+    expect-requires
+    strings-in-requires
+    same-length
+    returns
+    expect-requires-2
+    strings-in-requires-2
+    same-length-2
+    returns-2
+    expect-requires-3
+    named-requires
+    same-length-3
+    returns-3
+    name-or-string-requires
+    predicate-requires
+    same-length-4
+    returns-4)

@@ -1,0 +1,43 @@
+use Rattle.reader.proofs.Laws.{then, at, unless, here}
+use native.Mathlib.Omega.{arith}
+use mathlib.Core.Path.{refl}
+use borrow.Author.Needs.{needs}
+use Rattle.reader.proofs.uag.Statement.{statement}
+use Rattle.reader.proofs.uag.Tie as tie
+
+expect-requires : tie.Need-expect-requires
+expect-requires c κs = search needs
+
+named-requires : tie.Need-named-requires
+named-requires c κs = search needs
+
+kind-at-requires : tie.Need-kind-at-requires
+kind-at-requires c κs = search needs
+
+same-length : tie.Need-same-length
+same-length c = search needs
+
+returns : tie.Need-returns
+returns c = record { leads = λ k. then (c .before .before .before .before .before .before .before .before .expect .ensures .leads _) (then (c .before .before .before .before .named .ensures .leads _) (unless 11 (c .before .kind-at .ensures) (c .if1 .taken) here (refl, refl, refl, refl, refl, refl, refl, refl, refl, refl, refl, tt, refl, refl, refl))); less = omega (arith, c .before .before .before .before .before .before .before .before .expect .ensures .less, c .before .before .before .before .named .ensures .less) }
+
+strings-in-requires : tie.Need-strings-in-requires
+strings-in-requires c κs = search needs
+
+same-length-2 : tie.Need-same-length-2
+same-length-2 c = search needs
+
+returns-2 : tie.Need-returns-2
+returns-2 c = record { leads = λ k. then (c .before .before .before .before .before .before .before .before .before .before .before .before .expect .ensures .leads _) (then (c .before .before .before .before .before .before .before .before .named .ensures .leads _) (at 11 (c .before .before .before .before .before .kind-at .ensures) (c .before .before .before .before .if1 .left) (c .before .before .strings-in .ensures .leads k) refl)); less = omega (arith, c .before .before .before .before .before .before .before .before .before .before .before .before .expect .ensures .less, c .before .before .before .before .before .before .before .before .named .ensures .less, c .before .before .strings-in .ensures .less) }
+
+pub uag-spec : {M : Type 1} → statement M
+uag-spec =
+    tie.close
+    (tie.spec
+    expect-requires
+    named-requires
+    kind-at-requires
+    same-length
+    returns
+    strings-in-requires
+    same-length-2
+    returns-2)

@@ -1,0 +1,3 @@
+pub mod Marks
+pub mod Reads
+pub mod Theorem

@@ -1,0 +1,71 @@
+use Rattle.scanner.proofs.Codes.{begun, is-begun}
+use Rattle.scanner.proofs.Bytes.{all, leaf, key, or-false}
+use Rattle.scanner.specs.declared.Start.the-variants.{Blank, Comment, Quote, Stop, Word, Wrong}
+use Rattle.token.specs.Word.{name-byte}
+use mathlib.Core.Path.{sym, _∙_}
+use native.Mathlib.Omega.{arith}
+use mathlib.Core.Bool.{not, _||_}
+use mathlib.Core.List.{List, [], _∷_}
+use Prim.Native.Nat.{ℕ}
+use borrow.Author.Needs.{needs}
+use Rattle.scanner.proofs.begun_by.Statement.{statement}
+use Rattle.scanner.proofs.begun_by.Tie as tie
+
+-- the keys of the arms, the last arm first
+abbrev keys : List (List ℕ)
+keys = (44 ∷ 123 ∷ 125 ∷ []) ∷ (34 ∷ []) ∷ (35 ∷ []) ∷ (13 ∷ 32 ∷ []) ∷ []
+
+is-name-requires : tie.Need-is-name-requires
+is-name-requires c κs = search needs
+
+returns : tie.Need-returns
+unfolding all
+returns c = is-begun Word (c .before .before .args .b) (or-false (not (name-byte (c .before .before .args .b))) (begun Word (c .before .before .args .b)) (rw (sym (c .before .is-name .ensures) ∙ c .if1 .taken)) (leaf [] (λ x. not (name-byte x) || begun Word x) 0 256 (c .before .before .args .b) tt tt (omega arith) (omega arith)))
+
+returns-2 : tie.Need-returns-2
+returns-2 c = is-begun Comment (c .before .before .before .args .b) (key (35 ∷ []) (begun Comment) (c .before .before .before .args .b) (c .match .keys2) tt)
+
+returns-3 : tie.Need-returns-3
+returns-3 c = is-begun Quote (c .before .before .before .args .b) (key (34 ∷ []) (begun Quote) (c .before .before .before .args .b) (c .match .keys3) tt)
+
+returns-4 : tie.Need-returns-4
+unfolding all
+returns-4 c = is-begun Wrong (c .before .before .before .before .args .b) (or-false (name-byte (c .before .before .before .before .args .b)) (begun Wrong (c .before .before .before .before .args .b)) (sym (c .before .before .before .is-name .ensures) ∙ c .before .before .if1 .left) (leaf keys (λ x. name-byte x || begun Wrong x) 0 9 (c .before .before .before .before .args .b) (c .before .match .rest) tt (omega arith) (omega arith)))
+
+returns-5 : tie.Need-returns-5
+unfolding all
+returns-5 c = is-begun Wrong (c .before .before .before .before .before .before .args .b) (or-false (name-byte (c .before .before .before .before .before .before .args .b)) (begun Wrong (c .before .before .before .before .before .before .args .b)) (sym (c .before .before .before .before .before .is-name .ensures) ∙ c .before .before .before .before .if1 .left) (leaf keys (λ x. name-byte x || begun Wrong x) 11 29 (c .before .before .before .before .before .before .args .b) (c .before .before .before .match .rest) tt (omega arith) (omega arith)))
+
+returns-6 : tie.Need-returns-6
+unfolding all
+returns-6 c = is-begun Wrong (c .before .before .before .before .before .before .before .args .b) (or-false (name-byte (c .before .before .before .before .before .before .before .args .b)) (begun Wrong (c .before .before .before .before .before .before .before .args .b)) (sym (c .before .before .before .before .before .before .is-name .ensures) ∙ c .before .before .before .before .before .if1 .left) (leaf keys (λ x. name-byte x || begun Wrong x) 42 214 (c .before .before .before .before .before .before .before .args .b) (c .before .before .before .before .match .rest) tt (omega arith) (omega arith)))
+
+returns-7 : tie.Need-returns-7
+returns-7 c = is-begun Stop (c .before .before .before .args .b) (key (44 ∷ 123 ∷ 125 ∷ []) (begun Stop) (c .before .before .before .args .b) (c .match .keys4) tt)
+
+returns-8 : tie.Need-returns-8
+unfolding all
+returns-8 c = is-begun Stop (c .before .before .before .before .before .before .before .args .b) (leaf keys (begun Stop) 40 2 (c .before .before .before .before .before .before .before .args .b) (c .before .before .before .before .match .rest) tt (omega arith) (omega arith))
+
+returns-9 : tie.Need-returns-9
+returns-9 c = is-begun Blank (c .before .before .before .args .b) (key (13 ∷ 32 ∷ []) (begun Blank) (c .before .before .before .args .b) (c .match .keys1) tt)
+
+returns-10 : tie.Need-returns-10
+unfolding all
+returns-10 c = is-begun Blank (c .before .before .before .before .before .args .b) (leaf keys (begun Blank) 9 2 (c .before .before .before .before .before .args .b) (c .before .before .match .rest) tt (omega arith) (omega arith))
+
+pub begun-by-spec : {M : Type 1} → statement M
+begun-by-spec =
+    tie.close
+    (tie.spec
+    is-name-requires
+    returns
+    returns-2
+    returns-3
+    returns-4
+    returns-5
+    returns-6
+    returns-7
+    returns-8
+    returns-9
+    returns-10)

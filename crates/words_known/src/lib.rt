@@ -1,0 +1,113 @@
+ghost use mathlib.Core.Path.{_≡_};
+ghost use Prim.Native.Nat.{_-_, _≤_, min};
+ghost use lib.ListN.{length, drop};
+ghost use Rattle.lists.specs.Text.{whole};
+ghost use Rattle.file.specs.Contents.{level-of, permission-of, log-of};
+ghost use Rattle.words_known.specs.Known.{level-told, level-by, permission-told, log-told};
+use rule::Access;
+
+// The level that a text spells.
+pub enum Level {
+    No,
+    Is(usize),
+}
+
+// The permission that a word spells.
+pub enum Permission {
+    No,
+    Is(Access),
+}
+
+// Whether a word traps writes, if it is a log word.
+pub enum Log {
+    No,
+    Is(bool),
+}
+
+// What a byte adds as a digit.
+fn digit(b: u8) -> usize
+    ensures { λ r. ⌜ r ≡ b - 48 ⌝ }
+{
+    if b < 48 {
+        return 0;
+    }
+    b as usize - 48
+}
+
+// The whole number that a text spells from a byte on, 2 for any greater one.
+fn small_whole(t: &[u8], from: usize) -> usize
+    requires { ⌜ from ≤ length (now t) ⌝ }
+    ensures { λ r. ⌜ r ≡ min 2 (whole 0 (drop from (now (t .entry)))) ⌝ }
+{
+    let mut v = 0;
+    let mut i = from;
+    while i < t.len() {
+        v = v * 10 + digit(t[i]);
+        if 1 < v {
+            return 2;
+        }
+        i += 1;
+    }
+    v
+}
+
+fn level_from(t: &[u8], from: usize, negative: bool) -> Level
+    requires { ⌜ from ≤ length (now t) ⌝ }
+    ensures { λ r. ⌜ r ≡ level-told (level-by (whole 0 (drop from (now (t .entry)))) negative) ⌝ }
+{
+    let v = small_whole(t, from);
+    if v == 0 {
+        return Level::Is(0);
+    }
+    if v == 1 {
+        if negative {
+            return Level::No;
+        }
+        return Level::Is(1);
+    }
+    Level::No
+}
+
+// A level counts by its value: `+1`, `01` and `-0` are levels, `-1` is not.
+pub fn level_of(t: &[u8]) -> Level
+    ensures { λ r. ⌜ r ≡ level-told (level-of (now (t .entry))) ⌝ }
+{
+    if t.len() == 0 {
+        return Level::Is(0);
+    }
+    let b = t[0];
+    if b == 43 {
+        return level_from(t, 1, false);
+    }
+    if b == 45 {
+        return level_from(t, 1, true);
+    }
+    level_from(t, 0, false)
+}
+
+pub fn permission_of(t: &[u8]) -> Permission
+    ensures { λ r. ⌜ r ≡ permission-told (permission-of (now (t .entry))) ⌝ }
+{
+    if compare::equal(t, b"NONE") {
+        return Permission::Is(Access::None);
+    }
+    if compare::equal(t, b"READ") {
+        return Permission::Is(Access::Read);
+    }
+    if compare::equal(t, b"WRITE") {
+        return Permission::Is(Access::Write);
+    }
+    Permission::No
+}
+
+pub fn log_of(t: &[u8]) -> Log
+    ensures { λ r. ⌜ r ≡ log-told (log-of (now (t .entry))) ⌝ }
+{
+    if compare::equal(t, b"NOTRAPWRITE") {
+        return Log::Is(false);
+    }
+    if compare::equal(t, b"TRAPWRITE") {
+        return Log::Is(true);
+    }
+    Log::No
+}
