@@ -31,7 +31,7 @@ fn wide(x: u16) -> usize
     x as usize
 }
 
-// The braces rule over the first n tokens.
+// The braces rule over the first n tokens. The load has arrays as long as the file.
 pub fn too_deep(kinds: &[u8], places: &[u16], n: usize) -> Deep
     requires { ⌜ (n ≤ length (now kinds)) × (n ≤ length (now places)) ⌝ }
     ensures { λ r. ⌜ ((s starts ends : List ℕ) → Finds s starts ends (now (kinds .entry)) (now (places .entry)) n r) ⌝ }
