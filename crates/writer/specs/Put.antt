@@ -1,0 +1,54 @@
+-- What writing at a place of the lent bytes leaves. A place past their end is skipped, so a table can be measured before it is written.
+use mathlib.Core.Path.{_≡_, refl, sym, ap, _∙_}
+use mathlib.Core.Bool.{Bool, cond}
+use mathlib.Core.List.{List, [], _∷_, _++_, append-assoc, map}
+use Prim.Native.Nat.{ℕ, suc, _+_, _<_}
+use native.Mathlib.Nat.{add-zero, add-suc, suc-add, add-assoc}
+use native.Mathlib.Numerals.{add-one}
+use lib.ListN.{length, set, take, getD, length-append}
+use lib.Seq.{sets, length-sets, take-suc}
+use Rattle.lists.specs.Text.{lower-byte}
+use Rattle.lists.specs.Laws.{map-append}
+
+-- no count of bytes comes near to this
+abbrev pub far : ℕ
+far = 1125899906842624
+
+-- the bytes b become c by writing bs at a place, and r is the place behind them
+pub record Put (b c : List ℕ) (at : ℕ) (bs : List ℕ) (r : ℕ) : Type 0 where
+  pub bytes : c ≡ sets b at bs
+  pub end : r ≡ at + length bs
+
+-- a byte, in lower case if asked
+abbrev pub cased : Bool → ℕ → ℕ
+cased low b = cond low (lower-byte b) b
+
+module _ {A : Type 0} where
+  pub sets-sets : (ws vs b : List A) (at : ℕ) → sets (sets b at ws) (at + length ws) vs ≡ sets b at (ws ++ vs)
+  sets-sets [] vs b at = rw (add-zero at)
+  sets-sets (w ∷ ws) vs b at = rw (add-suc at (length ws), ← suc-add at (length ws)) (sets-sets ws vs (set b at w) (suc at))
+
+-- one writing behind another
+pub put-put : {b c d : List ℕ} {at r t : ℕ} {ws vs : List ℕ} → Put b c at ws r → Put c d r vs t → Put b d at (ws ++ vs) t
+put-put {b} {c} {d} {at} {r} {t} {ws} {vs} p q =
+    record {
+      bytes = q .bytes ∙ ap (λ (l : List ℕ). sets l r vs) (p .bytes) ∙ ap (λ (k : ℕ). sets (sets b at ws) k vs) (p .end) ∙ sets-sets ws vs b at;
+      end = q .end ∙ ap (λ (k : ℕ). k + length vs) (p .end) ∙ add-assoc at (length ws) (length vs) ∙ ap (λ (k : ℕ). at + k) (sym (length-append ws vs));
+    }
+
+pub put-none : (b : List ℕ) (at : ℕ) → Put b b at [] at
+put-none b at = record { bytes = refl; end = sym (add-zero at) }
+
+pub put-length : {b c : List ℕ} {at r : ℕ} {bs : List ℕ} → Put b c at bs r → length c ≡ length b
+put-length {b} {at = at} {bs = bs} p = ap length (p .bytes) ∙ length-sets b at bs
+
+pub put-one : {b c : List ℕ} {at v : ℕ} → c ≡ set b at v → Put b c at (v ∷ []) (at + 1)
+put-one e = record { bytes = e; end = refl }
+
+-- ---- a text byte by byte
+
+pub text-turn :
+    (f : ℕ → ℕ) {b c d : List ℕ} (t : List ℕ) (at i next : ℕ) → i < length t
+    → Put b c at (map f (take i t)) next → d ≡ set c next (f (getD t i 0)) → Put b d at (map f (take (i + 1) t)) (next + 1)
+text-turn f t at i next l p e =
+    rw (add-one i, take-suc t i 0 l, map-append f (take i t) (getD t i 0 ∷ [])) (put-put p (put-one e))
