@@ -25,12 +25,6 @@ fn opened(kind: u8, count: usize) -> usize
     }
 }
 
-fn wide(x: u16) -> usize
-    ensures { λ r. ⌜ r ≡ x ⌝ }
-{
-    x as usize
-}
-
 // The braces rule over the first n tokens. The load has arrays as long as the file.
 pub fn too_deep(kinds: &[u8], places: &[u16], n: usize) -> Deep
     requires { ⌜ (n ≤ length (now kinds)) × (n ≤ length (now places)) ⌝ }
@@ -41,7 +35,7 @@ pub fn too_deep(kinds: &[u8], places: &[u16], n: usize) -> Deep
     while i < n {
         count = opened(kinds[i], count);
         if 16 < count {
-            return Deep::At(wide(places[i]));
+            return Deep::At(kept::wide(places[i]));
         }
         i += 1;
     }

@@ -9,3 +9,12 @@ pub enum Loaded {
         place: usize,
     },
 }
+
+// What listing the warnings of a text answers: how many there are, or why the text is refused.
+pub enum Listed {
+    Warnings(usize),
+    Refused {
+        refusal: file::Refusal,
+        place: usize,
+    },
+}

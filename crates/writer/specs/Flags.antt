@@ -3,15 +3,14 @@ use mathlib.Core.Path.{_≡_, refl, sym, ap, _∙_}
 use mathlib.Core.Bool.{Bool, true, false, cond, not, _&&_}
 use mathlib.Core.List.{List, [], _∷_, map}
 use mathlib.Core.Option.{Option, none, some, Option·getD}
-use Prim.Native.Nat.{ℕ, zero, suc, _+_, _*_, _≤_}
+use Prim.Native.Nat.{ℕ, suc, _*_, _≤_}
 use native.Mathlib.Omega.{arith}
 use lib.Dec.{eqb}
 use borrow.Author.Tests.{ne-eqb}
-use lib.ListN.{length, length-map}
+use lib.ListN.{length}
 use Rattle.lists.specs.Text.{whole, among}
 use Rattle.lists.specs.Select.{select}
 use Rattle.token.specs.Word.{unsigned}
-use Rattle.grammar.specs.declared.Role.{Role}
 use Rattle.grammar.specs.declared.Role.the-variants.{UnknownPredicate}
 use Rattle.grammar.specs.Reading.{Said}
 use Rattle.rule.specs.declared.Access.{Access}
@@ -27,7 +26,7 @@ use Rattle.words_known.specs.declared.Permission.the-variants as permission
 use Rattle.words_known.specs.declared.Log.{Log}
 use Rattle.words_known.specs.declared.Log.the-variants as log
 use Rattle.words_known.specs.Known.{level-told, permission-told, log-told}
-use Rattle.writer.specs.Pass.{first-text, size}
+use Rattle.writer.specs.Pass.{size}
 
 abbrev pub off-bits : ℕ → ℕ
 off-bits n = cond (eqb n 0) 0 16

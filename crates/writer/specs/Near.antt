@@ -1,12 +1,12 @@
 -- Pens stay far from the greatest number.
-use mathlib.Core.Path.{_≡_, refl, sym, ap, _∙_}
+use mathlib.Core.Path.{_≡_, refl, ap}
 use mathlib.Core.Bool.{Bool, true, false, cond, not}
-use mathlib.Core.List.{List, [], _∷_, _++_, map}
+use mathlib.Core.List.{List, [], _∷_, map}
 use mathlib.Core.Option.{Option, none, some, Option·getD}
-use Prim.Native.Nat.{ℕ, zero, suc, _+_, _*_, _-_, _≤_, _<_}
+use Prim.Native.Nat.{ℕ, zero, suc, _+_, _*_, _-_, _≤_}
 use native.Mathlib.Omega.{arith}
-use lib.ListN.{length, take, drop, getD, length-take, length-drop, length-map}
-use Rattle.lists.specs.Text.{lowered, lower-byte}
+use lib.ListN.{length, drop, getD, length-take, length-drop, length-map}
+use Rattle.lists.specs.Text.{lower-byte}
 use Rattle.lists.specs.Select.{select, prepend-if, run, keep-if}
 use Rattle.lists.specs.Every.{Every, nil, cons, every-run, every-select}
 use Rattle.grammar.specs.declared.Role.{Role}
@@ -19,7 +19,7 @@ use Rattle.table.specs.Written.{flags, calculation-words}
 use Rattle.writer.specs.declared.Pen.{Pen}
 use Rattle.writer.specs.declared.Work.{Work}
 use Rattle.writer.specs.declared.Work.the-variants.{Groups, Names, Access, Inputs, Rules, References, Texts, Lowered, Firsts}
-use Rattle.writer.specs.Pass.{cut, size, first-text, pen, emit, named, firsts, seconds, move, moves}
+use Rattle.writer.specs.Pass.{cut, size, first-text, emit, named, firsts, seconds, move, moves}
 
 -- half of what is far
 abbrev pub halfway : ℕ
@@ -58,7 +58,7 @@ tokens-length s ar roles i zero = refl
 tokens-length s ar roles i (suc k) = ap suc (tokens-length s ar roles (suc i) k)
 
 module _ {A : Type 0} (p : A → Bool) where
-  run-length : (xs : List A) → length (run p xs) ≤ length xs
+  pub run-length : (xs : List A) → length (run p xs) ≤ length xs
   run-length [] = omega arith
   run-length (x ∷ xs) = go (p x) (run-length xs)
     where

@@ -1,53 +1,26 @@
 -- What the functions that write for one token promise, and the laws by which they do.
-use mathlib.Core.Path.{_≡_, refl, sym, ap, ap₂, subst, _∙_}
+use mathlib.Core.Path.{_≡_, refl, sym, ap, subst, _∙_}
 use mathlib.Core.Bool.{Bool, true, false, cond}
-use mathlib.Core.List.{List, [], _∷_, _++_, map}
+use mathlib.Core.List.{List, [], _∷_}
 use mathlib.Core.Option.{Option, none, some, Option·getD}
-use Prim.Native.Nat.{ℕ, suc, _+_, _-_, _*_, _≤_, _<_}
-use native.Mathlib.Numerals.{add-one}
+use Prim.Native.Nat.{ℕ, _+_, _-_, _*_, _≤_, _<_}
 use native.Mathlib.Omega.{arith}
-use lib.Dec.{eqb, ltb}
-use lib.ListN.{length, getD, drop, take, length-take, List·getD-eq-default}
-use lib.Seq.{sets, length-sets, drop-cons, getD-take, getD-drop, drop-length}
+use lib.Dec.{ltb}
+use lib.ListN.{length, getD}
+use lib.Seq.{sets, length-sets}
 use borrow.Author.Tests.{eq-eqb, ne-eqb, ltb-true, ltb-false}
-use Rattle.lists.specs.Text.{same}
 use Rattle.lists.specs.Words.{spelled-out}
 use Rattle.grammar.specs.declared.Role.{Role}
-use Rattle.grammar.specs.declared.Role.the-variants.{AsgName}
 use Rattle.grammar.specs.Reading.{Said}
-use Rattle.kept.specs.Kept.{Arrays, role-of-number, between, said-at, said-from}
-use Rattle.file.specs.Contents.{says, text, texts, until, head-of}
-use Rattle.table.specs.Check.{undefined-number}
+use Rattle.kept.specs.Kept.{Arrays, role-of-number, said-at, said-from}
+use Rattle.file.specs.Contents.{text, texts, until, head-of}
 use Rattle.table.specs.Written.{calculation-words}
 use Rattle.writer.specs.declared.Pen.{Pen}
 use Rattle.writer.specs.declared.Work.{Work}
 use Rattle.writer.specs.Put.{Put, far}
-use Rattle.writer.specs.Rolls.{Telling, Lie, arrays, tokens, tokens-step, tokens-none, tally, tally-is, gap, gap-bound, until-one, until-two, first-some, first-none, same-number}
-use Rattle.writer.specs.Pass.{cut, size, first-text, numbered, pen, emit, move, emits, moves, Drawn, same-pen, To-do, done-one, passed-one, none-to-do}
-use Rattle.writer.specs.Near.{Near, halfway, near-more, near-move, between-light, tokens-light, tokens-length}
-
--- the text of a token lies in s
-pub record Lies (s starts ends : List ℕ) (i : ℕ) : Type 0 where
-  pub has-start : i < length starts
-  pub has-end : i < length ends
-  pub in-order : getD starts i 0 ≤ getD ends i 0
-  pub inside : getD ends i 0 ≤ length s
-
-pub lies-at : {s starts ends roles : List ℕ} {n i : ℕ} → i < n → Lie s starts ends roles n → Lies s starts ends i
-lies-at {i = i} h l =
-    record {
-      has-start = omega (arith, l .has-starts);
-      has-end = omega (arith, l .has-ends);
-      in-order = l .in-order i h;
-      inside = l .inside i h;
-    }
-
-abbrev pub text-at : List ℕ → List ℕ → List ℕ → ℕ → List ℕ
-text-at s starts ends i = between s (getD starts i 0) (getD ends i 0)
-
--- the texts of some tokens lie in s
-abbrev pub All-lie : List ℕ → List ℕ → List ℕ → List ℕ → Type 0
-All-lie s starts ends names = (k : ℕ) → k < length names → Lies s starts ends (getD names k 0)
+use Rattle.texts.specs.Rolls.{Telling, Lie, arrays, tokens, tokens-step, tokens-none, tally, tally-is, gap, gap-bound, until-one, until-two, first-some, first-none, same-number}
+use Rattle.writer.specs.Pass.{cut, size, first-text, pen, emit, move, emits, moves, Drawn, same-pen, To-do, done-one, passed-one, none-to-do}
+use Rattle.writer.specs.Near.{Near, halfway, near-more, near-move, near-moves, between-light, tokens-light, tokens-length}
 
 -- what is asked where a token is written for
 pub record Ready (s starts ends roles : List ℕ) (i to q m : ℕ) (p : Pen) : Type 0 where
@@ -120,31 +93,6 @@ module _ (s : List ℕ) (ar : Arrays) (roles : List ℕ) (q m i to e : ℕ) (tq 
 
 pub gap-end : (a b : ℕ) (roles : List ℕ) (i to e : ℕ) → i ≤ to → e ≡ i + gap a b roles i (to - i) → e ≤ to
 gap-end a b roles i to e l h = omega (arith, gap-bound a b roles i (to - i))
-
--- ---- the number of a name
-
-module _ (f : ℕ → List ℕ) (t : List ℕ) (names : List ℕ) where
-  number-step : (k : ℕ) → k < length names → numbered k t (map f (drop k names)) ≡ cond (same (f (getD names k 0)) t) k (numbered (k + 1) t (map f (drop (k + 1) names)))
-  number-step k h =
-      ap (λ (l : List ℕ). numbered k t (map f l)) (drop-cons names k 0 h)
-      ∙ ap (λ (n : ℕ). cond (same (f (getD names k 0)) t) k (numbered (k + 1) t (map f (drop n names)))) (sym (add-one k))
-
-  pub number-here : (k : ℕ) → k < length names → same (f (getD names k 0)) t ≡ true → numbered k t (map f (drop k names)) ≡ k
-  number-here k h e = number-step k h ∙ rw e
-
-  pub number-on : (k : ℕ) → k < length names → same (f (getD names k 0)) t ≡ false → numbered k t (map f (drop k names)) ≡ numbered (k + 1) t (map f (drop (k + 1) names))
-  number-on k h e = number-step k h ∙ rw e
-
-  pub number-none : (k : ℕ) → k ≡ length names → numbered k t (map f (drop k names)) ≡ undefined-number
-  number-none k h = ap (λ (n : ℕ). numbered k t (map f (drop n names))) h ∙ rw (drop-length names)
-
--- ---- a letter
-
-pub letter-at : (s : List ℕ) (a e : ℕ) → a + 3 < e → getD (between s a e) 3 0 ≡ getD s (a + 3) 0
-letter-at s a e h = getD-take (e - a) (drop a s) 3 0 (omega arith) ∙ getD-drop a s 3 0
-
-pub letter-none : (s : List ℕ) (a e : ℕ) → e ≤ a + 3 → getD (between s a e) 3 0 ≡ 0
-letter-none s a e h = List·getD-eq-default (between s a e) 0 {n = 3} (omega (arith, length-take (e - a) (drop a s)))
 
 -- ---- a turn of the loop over tokens
 
@@ -222,3 +170,27 @@ module _ (w : Work) (s starts ends roles : List ℕ) (q m : ℕ) (names : List (
   over {i} {to} h d =
       let z = none-to-do (role-of-number q) (role-of-number m) names w (rw (tokens-none s (arrays starts ends) roles i to h) at d) in
       record { bytes = z .0; moved = z .1 }
+
+-- ---- a pass for which no names are looked up
+
+-- a pass over as many tokens as there may be moves the pen by no more than this
+abbrev pub stride : ℕ
+stride = 1073741824
+
+-- ---- a pass leaves the pen near
+
+pub near-on : {b c : List ℕ} {k : ℕ} {p t r : Pen} {bs : List ℕ} → Drawn b c p bs t r → Near k t → Near k r
+near-on d n = rw (d .moved) n
+
+pub near-tokens :
+    {s starts ends roles : List ℕ} {to : ℕ} (q m : Role) (names : List (List ℕ)) (w : Work) (from : ℕ) {k : ℕ} {p : Pen} → Lie s starts ends roles to → Near k p
+    → Near (k + stride) (moves q m names w (tokens s (arrays starts ends) roles from to) p)
+near-tokens {s} {starts} {ends} {roles} {to} q m names w from lie n =
+    let few = tokens-length s (arrays starts ends) roles from (to - from) in
+    let l : length (tokens s (arrays starts ends) roles from to) ≤ 16384 = omega (arith, few, lie .few) in
+    near-more (omega arith) (near-moves q m names w (tokens s (arrays starts ends) roles from to) (tokens-light s (arrays starts ends) roles from (to - from) (lie .short)) l n)
+
+-- what such a pass promises
+pub record Went (w : Work) (q m : ℕ) (s starts ends roles : List ℕ) (from to : ℕ) (b c : List ℕ) (p r : Pen) : Type 0 where
+  pub drawn : Passed w q m [] s starts ends roles from to b c p r
+  pub near : (k : ℕ) → Near k p → Near (k + stride) r

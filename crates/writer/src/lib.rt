@@ -1,24 +1,27 @@
 ghost use mathlib.Core.Path.{_≡_};
-ghost use mathlib.Core.List.{[], _∷_, map};
-ghost use Prim.Native.Nat.{_+_, _*_, _-_, _≤_, _<_};
+ghost use mathlib.Core.List.{List, [], _∷_, map};
+ghost use Prim.Native.Nat.{ℕ, _+_, _*_, _-_, _≤_, _<_};
 ghost use lib.ListN.{length, set};
-ghost use Rattle.lists.specs.Text.{same};
 ghost use Rattle.lists.specs.Words.{word-bytes, spelled-out};
 ghost use Rattle.writer.specs.Put.{Put, far, cased};
-ghost use lib.ListN.{getD};
 ghost use mathlib.Core.Bool.{false, cond};
-ghost use Rattle.token.specs.Word.{link-letter};
 ghost use Rattle.rule.specs.declared.Access.the-variants.{None};
 ghost use Rattle.rule.specs.Rule.{rank};
 ghost use Rattle.file.specs.Contents.{texts, value-of, level-of, permission-of, log-of, rule-text};
 ghost use Rattle.table.specs.Written.{flag, flags};
 ghost use Rattle.writer.specs.Flags.{off-bits};
-ghost use Rattle.kept.specs.Kept.{role-of-number, said-at};
+ghost use Rattle.kept.specs.Kept.{Arrays, role-of-number};
 ghost use Rattle.writer.specs.declared.Work.the-variants.{Groups, Names, Access, Inputs, Rules, References, Texts, Lowered, Firsts};
-ghost use Rattle.writer.specs.Rolls.{Telling, Lie, arrays, tokens, tally, gap};
-ghost use Rattle.writer.specs.Pass.{Drawn, emits, moves, first-text, numbered, pen};
+ghost use Rattle.texts.specs.Rolls.{Telling, Lie, arrays, tokens, tally, gap};
+ghost use Rattle.writer.specs.Pass.{Drawn, cut, first-text, numbered, pen};
 ghost use Rattle.writer.specs.Near.{Near};
-ghost use Rattle.writer.specs.Step.{Lies, All-lie, Ready, Start, Step, Passed, text-at};
+ghost use Rattle.texts.specs.Lies.{Lies, All-lie, text-at};
+ghost use Rattle.writer.specs.Step.{Ready, Start, Step, Passed, Went};
+ghost use Rattle.grammar.specs.declared.Role.the-variants.{RuleWord};
+ghost use Rattle.writer.specs.Chain.{rule-emits, rule-moves, refers, refers-to};
+ghost use Rattle.writer.specs.Refer.{Asked, third, quarter};
+ghost use Rattle.writer.specs.Parts.{near-3, near-5, near-7, near-names, Fronted, Middled, Backed, Named, access-strings, Counted, head-words};
+ghost use Rattle.writer.specs.Table.{Given, table-told, Wrote};
 
 // The numbers of the roles that are written: grammar/specs/Role.antt.
 const UAG_NAME: u8 = 1;
@@ -163,30 +166,6 @@ fn next(roles: &[u8], from: usize, to: usize, a: u8, b: u8) -> usize
     i
 }
 
-fn wide(x: u16) -> usize
-    ensures { λ r. ⌜ r ≡ x ⌝ }
-{
-    x as usize
-}
-
-// The text of a token.
-fn text<'a>(s: &'a [u8], starts: &[u16], ends: &[u16], i: usize) -> &'a [u8]
-    requires { ⌜ Lies (now s) (now starts) (now ends) i ⌝ }
-    ensures { λ r. ⌜ now r ≡ text-at (now (s .entry)) (now (starts .entry)) (now (ends .entry)) i ⌝ }
-{
-    let a = wide(starts[i]);
-    let e = wide(ends[i]);
-    &s[a..e]
-}
-
-fn long(s: &[u8], starts: &[u16], ends: &[u16], i: usize) -> usize
-    requires { ⌜ Lies (now s) (now starts) (now ends) i ⌝ }
-    ensures { λ r. ⌜ r ≡ length (text-at (now (s .entry)) (now (starts .entry)) (now (ends .entry)) i) ⌝ }
-{
-    let t = text(s, starts, ends, i);
-    t.len()
-}
-
 // The first text of a role in a part, or an empty one.
 fn first_text<'a>(
     s: &'a [u8],
@@ -202,32 +181,9 @@ fn first_text<'a>(
 {
     let j = next(roles, from, to, m, m);
     if j < to {
-        return text(s, starts, ends, j);
+        return texts::text(s, starts, ends, j);
     }
     &s[0..0]
-}
-
-// The letter of an INP word, A being 0.
-fn letter(s: &[u8], starts: &[u16], ends: &[u16], i: usize) -> usize
-    requires { ⌜ Lies (now s) (now starts) (now ends) i ⌝ }
-    ensures { λ r. ⌜ r ≡ link-letter (text-at (now (s .entry)) (now (starts .entry)) (now (ends .entry)) i) ⌝ }
-{
-    let t = text(s, starts, ends, i);
-    if t.len() <= 3 {
-        return 0;
-    }
-    let b = t[3];
-    if b < 65 {
-        return 0;
-    }
-    b as usize - 65
-}
-
-fn same_text(s: &[u8], starts: &[u16], ends: &[u16], i: usize, j: usize) -> bool
-    requires { ⌜ Lies (now s) (now starts) (now ends) i × Lies (now s) (now starts) (now ends) j ⌝ }
-    ensures { λ r. ⌜ r ≡ same (text-at (now (s .entry)) (now (starts .entry)) (now (ends .entry)) i) (text-at (now (s .entry)) (now (starts .entry)) (now (ends .entry)) j) ⌝ }
-{
-    compare::equal(text(s, starts, ends, i), text(s, starts, ends, j))
 }
 
 // The number of the first group that has a token's text for its name, or 65,535.
@@ -235,14 +191,8 @@ fn number_of(s: &[u8], starts: &[u16], ends: &[u16], names: &[u16], i: usize) ->
     requires { ⌜ Lies (now s) (now starts) (now ends) i × All-lie (now s) (now starts) (now ends) (now names) ⌝ }
     ensures { λ r. ⌜ r ≡ numbered 0 (text-at (now (s .entry)) (now (starts .entry)) (now (ends .entry)) i) (map (text-at (now (s .entry)) (now (starts .entry)) (now (ends .entry))) (now (names .entry))) ⌝ }
 {
-    let mut k = 0;
-    while k < names.len() {
-        if same_text(s, starts, ends, wide(names[k]), i) {
-            return k;
-        }
-        k += 1;
-    }
-    65535
+    let k = texts::position(s, starts, ends, names, i);
+    if k < names.len() { k } else { 65535 }
 }
 
 // ---- the flags of a rule
@@ -345,7 +295,7 @@ fn put_group(
     requires { ⌜ Ready (now s) (now starts) (now ends) (now roles) i to q m p ⌝ }
     ensures { λ r. ⌜ Step Groups q m [] (now (s .entry)) (now (starts .entry)) (now (ends .entry)) (now (roles .entry)) i to (now (lent .entry)) (now (lent .exit)) p r ⌝ }
 {
-    let len = long(s, starts, ends, i);
+    let len = texts::long(s, starts, ends, i);
     let e = next(roles, i + 1, to, q, q);
     let k = count(roles, i + 1, e, m);
     let half = put_two(lent, p.at, p.off, len);
@@ -362,7 +312,7 @@ fn put_name(s: &[u8], starts: &[u16], ends: &[u16], i: usize, p: Pen, lent: &mut
     requires { ⌜ Lies (now s) (now starts) (now ends) i × Near far p × (length (now s) < far) ⌝ }
     ensures { λ r. ⌜ Drawn (now (lent .entry)) (now (lent .exit)) p (spelled-out (p .off ∷ length (text-at (now (s .entry)) (now (starts .entry)) (now (ends .entry)) i) ∷ [])) (pen (p .at + 4) (p .off + length (text-at (now (s .entry)) (now (starts .entry)) (now (ends .entry)) i)) (p .first + 0) (p .second + 0)) r ⌝ }
 {
-    let len = long(s, starts, ends, i);
+    let len = texts::long(s, starts, ends, i);
     let end = put_two(lent, p.at, p.off, len);
     Pen {
         at: end,
@@ -388,7 +338,7 @@ fn put_access(
     requires { ⌜ Ready (now s) (now starts) (now ends) (now roles) i to q m p ⌝ }
     ensures { λ r. ⌜ Step Access q m [] (now (s .entry)) (now (starts .entry)) (now (ends .entry)) (now (roles .entry)) i to (now (lent .entry)) (now (lent .exit)) p r ⌝ }
 {
-    let len = long(s, starts, ends, i);
+    let len = texts::long(s, starts, ends, i);
     let e = next(roles, i + 1, to, q, q);
     let inputs = count(roles, i + 1, e, INPUT);
     let rules = count(roles, i + 1, e, RULE_WORD);
@@ -422,7 +372,7 @@ fn put_input(
     let e = next(roles, i + 1, to, q, ASG_NAME);
     let t = first_text(s, starts, ends, roles, i + 1, e, m);
     let len = t.len();
-    let end = put_three(lent, p.at, letter(s, starts, ends, i), p.off, len);
+    let end = put_three(lent, p.at, texts::letter(s, starts, ends, i), p.off, len);
     Pen {
         at: end,
         off: p.off + len,
@@ -478,7 +428,7 @@ fn put_reference(
     requires { ⌜ Lies (now s) (now starts) (now ends) i × All-lie (now s) (now starts) (now ends) (now names) × Near far p × (length (now s) < far) ⌝ }
     ensures { λ r. ⌜ Drawn (now (lent .entry)) (now (lent .exit)) p (spelled-out (numbered 0 (text-at (now (s .entry)) (now (starts .entry)) (now (ends .entry)) i) (map (text-at (now (s .entry)) (now (starts .entry)) (now (ends .entry))) (now (names .entry))) ∷ p .off ∷ length (text-at (now (s .entry)) (now (starts .entry)) (now (ends .entry)) i) ∷ [])) (pen (p .at + 6) (p .off + length (text-at (now (s .entry)) (now (starts .entry)) (now (ends .entry)) i)) (p .first + 0) (p .second + 0)) r ⌝ }
 {
-    let len = long(s, starts, ends, i);
+    let len = texts::long(s, starts, ends, i);
     let end = put_three(lent, p.at, number_of(s, starts, ends, names, i), p.off, len);
     Pen {
         at: end,
@@ -553,8 +503,8 @@ fn put(
         Work::Inputs => put_input(s, starts, ends, roles, i, to, q, m, p, lent),
         Work::Rules => put_rule(s, starts, ends, roles, i, to, q, m, p, lent),
         Work::References => put_reference(s, starts, ends, names, i, p, lent),
-        Work::Texts => put_string(text(s, starts, ends, i), false, p, lent),
-        Work::Lowered => put_string(text(s, starts, ends, i), true, p, lent),
+        Work::Texts => put_string(texts::text(s, starts, ends, i), false, p, lent),
+        Work::Lowered => put_string(texts::text(s, starts, ends, i), true, p, lent),
         Work::Firsts => put_first(s, starts, ends, roles, i, to, q, m, p, lent),
     }
 }
@@ -586,4 +536,364 @@ fn pass(
         i += 1;
     }
     p
+}
+
+// ---- the references of rules
+
+// What is written for a rule's references to user groups, then for those to host groups.
+fn of_rule(
+    work: Work,
+    s: &[u8],
+    starts: &[u16],
+    ends: &[u16],
+    roles: &[u8],
+    uags: &[u16],
+    hags: &[u16],
+    i: usize,
+    n: usize,
+    p: Pen,
+    lent: &mut [u8],
+) -> Pen
+    requires { ⌜ Asked (now s) (now starts) (now ends) (now roles) n (now uags) (now hags) third p × (i < n) ⌝ }
+    ensures { λ r. ⌜ Drawn (now (lent .entry)) (now (lent .exit)) p (rule-emits work (map (text-at (now (s .entry)) (now (starts .entry)) (now (ends .entry))) (now (uags .entry))) (map (text-at (now (s .entry)) (now (starts .entry)) (now (ends .entry))) (now (hags .entry))) (cut RuleWord (tokens (now (s .entry)) (arrays (now (starts .entry)) (now (ends .entry))) (now (roles .entry)) (i + 1) n)) p) (rule-moves work (map (text-at (now (s .entry)) (now (starts .entry)) (now (ends .entry))) (now (uags .entry))) (map (text-at (now (s .entry)) (now (starts .entry)) (now (ends .entry))) (now (hags .entry))) (cut RuleWord (tokens (now (s .entry)) (arrays (now (starts .entry)) (now (ends .entry))) (now (roles .entry)) (i + 1) n)) p) r ⌝ }
+{
+    let a = i + 1;
+    let e = next(roles, a, n, RULE_WORD, ASG_NAME);
+    let u = UAG_NAMED;
+    let h = HAG_NAMED;
+    let users = pass(work, s, starts, ends, roles, uags, a, e, u, u, p, lent);
+    pass(work, s, starts, ends, roles, hags, a, e, h, h, users, lent)
+}
+
+// And for those of all rules.
+fn references(
+    work: Work,
+    s: &[u8],
+    starts: &[u16],
+    ends: &[u16],
+    roles: &[u8],
+    uags: &[u16],
+    hags: &[u16],
+    from: usize,
+    n: usize,
+    pen: Pen,
+    lent: &mut [u8],
+) -> Pen
+    requires { ⌜ Asked (now s) (now starts) (now ends) (now roles) n (now uags) (now hags) quarter pen ⌝ }
+    ensures { λ r. ⌜ Drawn (now (lent .entry)) (now (lent .exit)) pen (refers work (map (text-at (now (s .entry)) (now (starts .entry)) (now (ends .entry))) (now (uags .entry))) (map (text-at (now (s .entry)) (now (starts .entry)) (now (ends .entry))) (now (hags .entry))) (tokens (now (s .entry)) (arrays (now (starts .entry)) (now (ends .entry))) (now (roles .entry)) from n) pen) (refers-to work (map (text-at (now (s .entry)) (now (starts .entry)) (now (ends .entry))) (now (uags .entry))) (map (text-at (now (s .entry)) (now (starts .entry)) (now (ends .entry))) (now (hags .entry))) (tokens (now (s .entry)) (arrays (now (starts .entry)) (now (ends .entry))) (now (roles .entry)) from n) pen) r ⌝ }
+{
+    let mut p = pen;
+    let mut i = from;
+    while i < n {
+        if roles[i] == RULE_WORD {
+            p = of_rule(work, s, starts, ends, roles, uags, hags, i, n, p, lent);
+        }
+        i += 1;
+    }
+    p
+}
+
+// ---- the sections
+
+// A pass for which no names are looked up.
+fn draw(
+    work: Work,
+    s: &[u8],
+    starts: &[u16],
+    ends: &[u16],
+    roles: &[u8],
+    from: usize,
+    n: usize,
+    q: u8,
+    m: u8,
+    p: Pen,
+    lent: &mut [u8],
+) -> Pen
+    requires { ⌜ Start (now s) (now starts) (now ends) (now roles) n q m p ⌝ }
+    ensures { λ r. ⌜ Went work q m (now (s .entry)) (now (starts .entry)) (now (ends .entry)) (now (roles .entry)) from n (now (lent .entry)) (now (lent .exit)) p r ⌝ }
+{
+    let none = &starts[0..0];
+    pass(work, s, starts, ends, roles, none, from, n, q, m, p, lent)
+}
+
+// Where sections 2 and 3 begin, and the pen behind section 3.
+pub struct Front {
+    pub two: usize,
+    pub three: usize,
+    pub pen: Pen,
+}
+
+// Sections 1 to 3: user groups, host groups, and the members of both.
+fn groups(s: &[u8], starts: &[u16], ends: &[u16], roles: &[u8], n: usize, lent: &mut [u8]) -> Front
+    requires { ⌜ Lie (now s) (now starts) (now ends) (now roles) n ⌝ }
+    ensures { λ r. ⌜ Fronted (tokens (now (s .entry)) (arrays (now (starts .entry)) (now (ends .entry))) (now (roles .entry)) 0 n) (now (lent .entry)) (now (lent .exit)) (pen 36 0 0 0) r ⌝ }
+{
+    let a = next(roles, 0, n, UAG_NAME, UAG_NAME);
+    let b = next(roles, 0, n, HAG_NAME, HAG_NAME);
+    let p = Pen {
+        at: 36,
+        off: 0,
+        first: 0,
+        second: 0,
+    };
+    let w = Work::Groups;
+    let one = draw(w, s, starts, ends, roles, 0, n, UAG_NAME, USER, p, lent);
+    let two = draw(w, s, starts, ends, roles, 0, n, HAG_NAME, HOST, one, lent);
+    let v = Work::Names;
+    let users = draw(v, s, starts, ends, roles, a, n, USER, USER, two, lent);
+    let hosts = draw(v, s, starts, ends, roles, b, n, HOST, HOST, users, lent);
+    Front {
+        two: one.at,
+        three: two.at,
+        pen: hosts,
+    }
+}
+
+// Where section 5 begins, and the pen behind it.
+pub struct Middle {
+    pub five: usize,
+    pub pen: Pen,
+}
+
+// Sections 4 and 5: access groups and inputs.
+fn access(
+    s: &[u8],
+    starts: &[u16],
+    ends: &[u16],
+    roles: &[u8],
+    n: usize,
+    p: Pen,
+    lent: &mut [u8],
+) -> Middle
+    requires { ⌜ Lie (now s) (now starts) (now ends) (now roles) n × Near near-3 p ⌝ }
+    ensures { λ r. ⌜ Middled (tokens (now (s .entry)) (arrays (now (starts .entry)) (now (ends .entry))) (now (roles .entry)) 0 n) (now (lent .entry)) (now (lent .exit)) p r ⌝ }
+{
+    let a = next(roles, 0, n, ASG_NAME, ASG_NAME);
+    let q = Pen {
+        at: p.at,
+        off: p.off,
+        first: 0,
+        second: 0,
+    };
+    let w = Work::Access;
+    let four = draw(w, s, starts, ends, roles, 0, n, ASG_NAME, ASG_NAME, q, lent);
+    let v = Work::Inputs;
+    let five = draw(v, s, starts, ends, roles, a, n, INPUT, PVNAME, four, lent);
+    Middle {
+        five: four.at,
+        pen: five,
+    }
+}
+
+// Where section 7 begins, how many references there are, and the pen behind them.
+pub struct Back {
+    pub seven: usize,
+    pub named: usize,
+    pub pen: Pen,
+}
+
+// Sections 6 and 7: rules and references. A reference's name stands before the rules' calculations, so rules are written last.
+fn rules(
+    s: &[u8],
+    starts: &[u16],
+    ends: &[u16],
+    roles: &[u8],
+    n: usize,
+    uags: &[u16],
+    hags: &[u16],
+    p: Pen,
+    lent: &mut [u8],
+) -> Back
+    requires { ⌜ Asked (now s) (now starts) (now ends) (now roles) n (now uags) (now hags) near-5 p ⌝ }
+    ensures { λ r. ⌜ Backed (map (text-at (now (s .entry)) (now (starts .entry)) (now (ends .entry))) (now (uags .entry))) (map (text-at (now (s .entry)) (now (starts .entry)) (now (ends .entry))) (now (hags .entry))) (tokens (now (s .entry)) (arrays (now (starts .entry)) (now (ends .entry))) (now (roles .entry)) 0 n) (now (lent .entry)) (now (lent .exit)) p r ⌝ }
+{
+    let a = next(roles, 0, n, ASG_NAME, ASG_NAME);
+    let at = p.at + 14 * count(roles, a, n, RULE_WORD);
+    let behind = Pen {
+        at,
+        off: p.off,
+        first: 0,
+        second: 0,
+    };
+    let work = Work::References;
+    let seven = references(work, s, starts, ends, roles, uags, hags, a, n, behind, lent);
+    let before = Pen {
+        at: p.at,
+        off: seven.off,
+        first: 0,
+        second: 0,
+    };
+    let w = Work::Rules;
+    let m = CALCULATION;
+    let six = draw(w, s, starts, ends, roles, a, n, RULE_WORD, m, before, lent);
+    Back {
+        seven: at,
+        named: six.first,
+        pen: seven,
+    }
+}
+
+// ---- the strings
+
+// The names of groups and members.
+fn group_names(
+    s: &[u8],
+    starts: &[u16],
+    ends: &[u16],
+    roles: &[u8],
+    n: usize,
+    p: Pen,
+    lent: &mut [u8],
+) -> Pen
+    requires { ⌜ Lie (now s) (now starts) (now ends) (now roles) n × Near near-7 p ⌝ }
+    ensures { λ r. ⌜ Named (tokens (now (s .entry)) (arrays (now (starts .entry)) (now (ends .entry))) (now (roles .entry)) 0 n) (now (lent .entry)) (now (lent .exit)) p r ⌝ }
+{
+    let a = next(roles, 0, n, UAG_NAME, UAG_NAME);
+    let b = next(roles, 0, n, HAG_NAME, HAG_NAME);
+    let w = Work::Texts;
+    let q = draw(w, s, starts, ends, roles, 0, n, UAG_NAME, UAG_NAME, p, lent);
+    let r = draw(w, s, starts, ends, roles, 0, n, HAG_NAME, HAG_NAME, q, lent);
+    let users = draw(w, s, starts, ends, roles, a, n, USER, USER, r, lent);
+    let low = Work::Lowered;
+    draw(low, s, starts, ends, roles, b, n, HOST, HOST, users, lent)
+}
+
+// The names of access groups, inputs and references, and the calculations.
+fn access_names(
+    s: &[u8],
+    starts: &[u16],
+    ends: &[u16],
+    roles: &[u8],
+    n: usize,
+    uags: &[u16],
+    hags: &[u16],
+    p: Pen,
+    lent: &mut [u8],
+) -> usize
+    requires { ⌜ Asked (now s) (now starts) (now ends) (now roles) n (now uags) (now hags) near-names p ⌝ }
+    ensures { λ r. ⌜ Put (now (lent .entry)) (now (lent .exit)) (p .at) (access-strings (tokens (now (s .entry)) (arrays (now (starts .entry)) (now (ends .entry))) (now (roles .entry)) 0 n)) r ⌝ }
+{
+    let a = next(roles, 0, n, ASG_NAME, ASG_NAME);
+    let w = Work::Texts;
+    let four = draw(w, s, starts, ends, roles, 0, n, ASG_NAME, ASG_NAME, p, lent);
+    let v = Work::Firsts;
+    let five = draw(v, s, starts, ends, roles, a, n, INPUT, PVNAME, four, lent);
+    let seven = references(w, s, starts, ends, roles, uags, hags, a, n, five, lent);
+    let m = CALCULATION;
+    let end = draw(v, s, starts, ends, roles, a, n, RULE_WORD, m, seven, lent);
+    end.at
+}
+
+// ---- the header
+
+// How many records sections 1 to 6 have.
+pub struct Counts {
+    pub uags: usize,
+    pub hags: usize,
+    pub members: usize,
+    pub asgs: usize,
+    pub inputs: usize,
+    pub rules: usize,
+}
+
+// Members stand behind a group's name, inputs and rules behind an access group's.
+fn count_all(roles: &[u8], n: usize) -> Counts
+    requires { ⌜ (n ≤ 16384) × (n ≤ length (now roles)) ⌝ }
+    ensures { λ r. ⌜ ((s : List ℕ) (ar : Arrays) → Counted (tokens s ar (now (roles .entry)) 0 n) r) ⌝ }
+{
+    let a = next(roles, 0, n, UAG_NAME, UAG_NAME);
+    let b = next(roles, 0, n, HAG_NAME, HAG_NAME);
+    let c = next(roles, 0, n, ASG_NAME, ASG_NAME);
+    let users = count(roles, a, n, USER);
+    let hosts = count(roles, b, n, HOST);
+    Counts {
+        uags: count(roles, 0, n, UAG_NAME),
+        hags: count(roles, 0, n, HAG_NAME),
+        members: users + hosts,
+        asgs: count(roles, 0, n, ASG_NAME),
+        inputs: count(roles, c, n, INPUT),
+        rules: count(roles, c, n, RULE_WORD),
+    }
+}
+
+// The form, the whole length, and the count and place of each section. The strings are counted in bytes.
+fn put_header(
+    c: Counts,
+    front: Front,
+    middle: Middle,
+    back: Back,
+    end: usize,
+    lent: &mut [u8],
+) -> usize
+    requires { ⌜ back .pen .at ≤ end ⌝ }
+    ensures { λ r. ⌜ Put (now (lent .entry)) (now (lent .exit)) 0 (spelled-out (head-words c front middle back end)) r ⌝ }
+{
+    let p = front.pen;
+    let q = middle.pen;
+    let r = back.pen;
+    let length = put_two(lent, 0, 1, end);
+    let one = put_two(lent, length, c.uags, 36);
+    let two = put_two(lent, one, c.hags, front.two);
+    let three = put_two(lent, two, c.members, front.three);
+    let four = put_two(lent, three, c.asgs, p.at);
+    let five = put_two(lent, four, c.inputs, middle.five);
+    let six = put_two(lent, five, c.rules, q.at);
+    let seven = put_two(lent, six, back.named, back.seven);
+    put_two(lent, seven, end - r.at, r.at)
+}
+
+// ---- the table
+
+// The table of a file at the start of the lent bytes, as far as there is room. Its length is returned.
+fn table(
+    s: &[u8],
+    starts: &[u16],
+    ends: &[u16],
+    roles: &[u8],
+    n: usize,
+    uags: &[u16],
+    hags: &[u16],
+    lent: &mut [u8],
+) -> usize
+    requires { ⌜ Given (now s) (now starts) (now ends) (now roles) n (now uags) (now hags) ⌝ }
+    ensures { λ r. ⌜ Put (now (lent .entry)) (now (lent .exit)) 0 (table-told (now (s .entry)) (now (starts .entry)) (now (ends .entry)) (now (roles .entry)) n (now (uags .entry)) (now (hags .entry))) r ⌝ }
+{
+    let front = groups(s, starts, ends, roles, n, lent);
+    let three = front.pen;
+    let middle = access(s, starts, ends, roles, n, three, lent);
+    let five = middle.pen;
+    let back = rules(s, starts, ends, roles, n, uags, hags, five, lent);
+    let seven = back.pen;
+    let named = group_names(s, starts, ends, roles, n, seven, lent);
+    let end = access_names(s, starts, ends, roles, n, uags, hags, named, lent);
+    let c = count_all(roles, n);
+    put_header(c, front, middle, back, end, lent);
+    end
+}
+
+pub enum Written {
+    Done(usize),
+    NoRoom(usize),
+}
+
+// Nothing is written if there is no room for all of it. Without room a table is measured.
+pub fn write(
+    s: &[u8],
+    starts: &[u16],
+    ends: &[u16],
+    roles: &[u8],
+    n: usize,
+    uags: &[u16],
+    hags: &[u16],
+    lent: &mut [u8],
+) -> Written
+    requires { ⌜ Given (now s) (now starts) (now ends) (now roles) n (now uags) (now hags) ⌝ }
+    ensures { λ r. ⌜ Wrote (table-told (now (s .entry)) (now (starts .entry)) (now (ends .entry)) (now (roles .entry)) n (now (uags .entry)) (now (hags .entry))) (now (lent .entry)) (now (lent .exit)) r ⌝ }
+{
+    let size = table(s, starts, ends, roles, n, uags, hags, &mut lent[0..0]);
+    if lent.len() < size {
+        return Written::NoRoom(size);
+    }
+    table(s, starts, ends, roles, n, uags, hags, lent);
+    Written::Done(size)
 }

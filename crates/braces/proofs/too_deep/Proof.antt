@@ -14,7 +14,7 @@ use Rattle.braces.proofs.too_deep.Tie as tie
 use Rattle.braces.proofs.too_deep.Reads as reads
 use Rattle.braces.proofs.too_deep.Lts as lts
 use Rattle.braces.proofs.opened.Reads as opened-reads
-use Rattle.braces.proofs.wide.Reads as wide-reads
+use Rattle.kept.proofs.wide.Reads as wide-reads
 
 abbrev Inv-loop : tie.InvT-loop
 Inv-loop kinds places n count₀ i₀ count i =

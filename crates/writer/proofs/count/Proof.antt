@@ -1,4 +1,4 @@
-use Rattle.writer.specs.Rolls.{tally, tally-hit, tally-miss, tally-none}
+use Rattle.texts.specs.Rolls.{tally, tally-hit, tally-miss, tally-none}
 use lib.ListN.{length}
 use Prim.Native.Nat.{_+_, _-_, _≤_}
 use mathlib.Core.Logic.{⊎-elim}

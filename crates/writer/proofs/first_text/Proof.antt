@@ -1,5 +1,6 @@
-use Rattle.writer.specs.Step.{lies-at, first-here, first-nowhere}
-use Rattle.writer.specs.Rolls.{arrays}
+use Rattle.texts.specs.Lies.{lies-at}
+use Rattle.writer.specs.Step.{first-here, first-nowhere}
+use Rattle.texts.specs.Rolls.{arrays}
 use mathlib.Core.Path.{_∙_, sym}
 use borrow.Author.Needs.{needs}
 use Rattle.writer.proofs.first_text.Statement.{statement}
@@ -7,7 +8,7 @@ use Rattle.writer.proofs.first_text.Tie as tie
 use Rattle.writer.proofs.first_text.Reads as reads
 use Rattle.writer.proofs.first_text.Lts as lts
 use Rattle.writer.proofs.next.Reads as next-reads
-use Rattle.writer.proofs.text.Reads as text-reads
+use Rattle.texts.proofs.text.Reads as text-reads
 
 -- src/lib.rt:171:9
 next-requires : tie.Need-next-requires

@@ -1,4 +1,4 @@
-use Rattle.writer.specs.Rolls.{gap, gap-first, gap-second, gap-on, gap-none}
+use Rattle.texts.specs.Rolls.{gap, gap-first, gap-second, gap-on, gap-none}
 use Prim.Native.Nat.{_+_, _-_, _≤_}
 use mathlib.Core.Path.{_≡_, refl}
 use native.Mathlib.Omega.{arith}

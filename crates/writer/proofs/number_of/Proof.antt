@@ -1,78 +1,27 @@
-use Rattle.writer.specs.Step.{text-at, number-here, number-on, number-none}
-use Rattle.writer.specs.Pass.{numbered}
-use Rattle.lists.specs.Text.{same}
-use lib.ListN.{length, drop}
-use Prim.Native.Nat.{ℕ, _-_, _≤_}
-use mathlib.Core.List.{map}
-use mathlib.Core.Path.{_≡_, refl, _∙_, sym, ap}
+use mathlib.Core.Path.{sym, _∙_}
+use lib.ListN.{length-map}
 use native.Mathlib.Omega.{arith}
+use mathlib.Core.List.{map}
+use Rattle.texts.specs.Lies.{text-at}
+use Rattle.writer.specs.Pass.{numbered-here, numbered-out}
 use borrow.Author.Needs.{needs}
 use Rattle.writer.proofs.number_of.Statement.{statement}
 use Rattle.writer.proofs.number_of.Tie as tie
 use Rattle.writer.proofs.number_of.Reads as reads
 use Rattle.writer.proofs.number_of.Lts as lts
-use Rattle.writer.proofs.same_text.Reads as same-text-reads
-use Rattle.writer.proofs.wide.Reads as wide-reads
+use Rattle.texts.proofs.position.Reads as position-reads
 
-abbrev Inv-loop : tie.InvT-loop
-Inv-loop s starts ends names i k₀ k = (k ≤ length names) × (numbered 0 (text-at s starts ends i) (map (text-at s starts ends) names) ≡ numbered k (text-at s starts ends i) (map (text-at s starts ends) (drop k names)))
+-- src/lib.rt:190:9
+position-requires : tie.Need-position-requires
+position-requires c κs = search needs
 
-abbrev μ-loop : tie.MeasureT-loop
-μ-loop s starts ends names i k₀ k = length names - k
+-- src/lib.rt:186:1
+returns : tie.Need-returns
+returns c = c .before .position .ensures ∙ sym (numbered-here (text-at (c .before .before .before .before .before .before .args .s .now) (c .before .before .before .before .before .before .args .starts .now) (c .before .before .before .before .before .before .args .ends .now) (c .before .before .before .before .before .before .args .i)) (map (text-at (c .before .before .before .before .before .before .args .s .now) (c .before .before .before .before .before .before .args .starts .now) (c .before .before .before .before .before .before .args .ends .now)) (c .before .before .before .before .before .before .args .names .now)) (omega (arith, c .if1 .taken, c .before .position .ensures, length-map (c .before .before .before .before .before .before .args .names .now) (text-at (c .before .before .before .before .before .before .args .s .now) (c .before .before .before .before .before .before .args .starts .now) (c .before .before .before .before .before .before .args .ends .now)))))
 
--- src/lib.rt:207:5
-loop-holds : tie.Need-loop-holds Inv-loop μ-loop
-loop-holds c = (omega arith, refl)
-
--- src/lib.rt:208:44
-mul-wide : tie.Need-mul-wide Inv-loop μ-loop
-mul-wide c = search needs
-
--- src/lib.rt:208:44
-shared-slice-read-wide : tie.Need-shared-slice-read-wide Inv-loop μ-loop
-shared-slice-read-wide c = search needs
-
--- src/lib.rt:208:39
-wide-requires : tie.Need-wide-requires Inv-loop μ-loop
-wide-requires c κs = search needs
-
--- src/lib.rt:208:12
-same-text-requires : tie.Need-same-text-requires Inv-loop μ-loop
-same-text-requires c κs = (rw (c .wide .ensures) (c .before .before .before .before .before .before .before .before .pre .1 (c .before .before .before .loop .k) (c .before .before .loop-test .taken)), c .before .before .before .before .before .before .before .before .pre .0)
-
--- src/lib.rt:209:13
-returns : tie.Need-returns Inv-loop μ-loop
-returns c = sym (c .before .before .before .before .before .loop .inv .1 ∙ number-here (text-at (c .before .before .before .before .before .before .before .before .before .before .args .s .now) (c .before .before .before .before .before .before .before .before .before .before .args .starts .now) (c .before .before .before .before .before .before .before .before .before .before .args .ends .now)) (text-at (c .before .before .before .before .before .before .before .before .before .before .args .s .now) (c .before .before .before .before .before .before .before .before .before .before .args .starts .now) (c .before .before .before .before .before .before .before .before .before .before .args .ends .now) (c .before .before .before .before .before .before .before .before .before .before .args .i)) (c .before .before .before .before .before .before .before .before .before .before .args .names .now) (c .before .before .before .before .before .loop .k) (c .before .before .before .before .loop-test .taken) (ap (λ (j : ℕ). same (text-at (c .before .before .before .before .before .before .before .before .before .before .args .s .now) (c .before .before .before .before .before .before .before .before .before .before .args .starts .now) (c .before .before .before .before .before .before .before .before .before .before .args .ends .now) j) (text-at (c .before .before .before .before .before .before .before .before .before .before .args .s .now) (c .before .before .before .before .before .before .before .before .before .before .args .starts .now) (c .before .before .before .before .before .before .before .before .before .before .args .ends .now) (c .before .before .before .before .before .before .before .before .before .before .args .i))) (sym (c .before .before .wide .ensures)) ∙ sym (c .before .same-text .ensures) ∙ c .if1 .taken))
-
--- src/lib.rt:211:9
-add-k : tie.Need-add-k Inv-loop μ-loop
-add-k c = search needs
-
--- src/lib.rt:207:5
-loop-less : tie.Need-loop-less Inv-loop μ-loop
-loop-less c = search needs
-
--- src/lib.rt:207:5
-loop-again : tie.Need-loop-again Inv-loop μ-loop
-loop-again c = (omega arith, c .before .before .before .before .before .loop .inv .1 ∙ number-on (text-at (c .before .before .before .before .before .before .before .before .before .before .args .s .now) (c .before .before .before .before .before .before .before .before .before .before .args .starts .now) (c .before .before .before .before .before .before .before .before .before .before .args .ends .now)) (text-at (c .before .before .before .before .before .before .before .before .before .before .args .s .now) (c .before .before .before .before .before .before .before .before .before .before .args .starts .now) (c .before .before .before .before .before .before .before .before .before .before .args .ends .now) (c .before .before .before .before .before .before .before .before .before .before .args .i)) (c .before .before .before .before .before .before .before .before .before .before .args .names .now) (c .before .before .before .before .before .loop .k) (c .before .before .before .before .loop-test .taken) (ap (λ (j : ℕ). same (text-at (c .before .before .before .before .before .before .before .before .before .before .args .s .now) (c .before .before .before .before .before .before .before .before .before .before .args .starts .now) (c .before .before .before .before .before .before .before .before .before .before .args .ends .now) j) (text-at (c .before .before .before .before .before .before .before .before .before .before .args .s .now) (c .before .before .before .before .before .before .before .before .before .before .args .starts .now) (c .before .before .before .before .before .before .before .before .before .before .args .ends .now) (c .before .before .before .before .before .before .before .before .before .before .args .i))) (sym (c .before .before .wide .ensures)) ∙ sym (c .before .same-text .ensures) ∙ c .if1 .left))
-
--- src/lib.rt:202:1
-returns-2 : tie.Need-returns-2 Inv-loop μ-loop
-returns-2 c = sym (c .before .loop .inv .1 ∙ number-none (text-at (c .before .before .before .before .before .before .args .s .now) (c .before .before .before .before .before .before .args .starts .now) (c .before .before .before .before .before .before .args .ends .now)) (text-at (c .before .before .before .before .before .before .args .s .now) (c .before .before .before .before .before .before .args .starts .now) (c .before .before .before .before .before .before .args .ends .now) (c .before .before .before .before .before .before .args .i)) (c .before .before .before .before .before .before .args .names .now) (c .before .loop .k) (omega arith))
+-- src/lib.rt:186:1
+returns-2 : tie.Need-returns-2
+returns-2 c = sym (numbered-out (text-at (c .before .before .before .before .before .before .args .s .now) (c .before .before .before .before .before .before .args .starts .now) (c .before .before .before .before .before .before .args .ends .now) (c .before .before .before .before .before .before .args .i)) (map (text-at (c .before .before .before .before .before .before .args .s .now) (c .before .before .before .before .before .before .args .starts .now) (c .before .before .before .before .before .before .args .ends .now)) (c .before .before .before .before .before .before .args .names .now)) (omega (arith, c .if1 .left, c .before .position .ensures, length-map (c .before .before .before .before .before .before .args .names .now) (text-at (c .before .before .before .before .before .before .args .s .now) (c .before .before .before .before .before .before .args .starts .now) (c .before .before .before .before .before .before .args .ends .now)))))
 
 pub number-of-spec : {M : Type 1} → statement M
-number-of-spec =
-    tie.close
-    (tie.spec
-    Inv-loop
-    μ-loop
-    loop-holds
-    mul-wide
-    shared-slice-read-wide
-    wide-requires
-    same-text-requires
-    returns
-    add-k
-    loop-less
-    loop-again
-    returns-2)
+number-of-spec = tie.close (tie.spec position-requires returns returns-2)

@@ -1,8 +1,8 @@
 use Rattle.writer.specs.Step.{hit, miss, over}
-use Rattle.writer.specs.Step.{text-at}
+use Rattle.texts.specs.Lies.{text-at}
 use Rattle.writer.specs.Near.{Near, near-more, halfway}
 use Rattle.writer.specs.Pass.{emits, moves, To-do}
-use Rattle.writer.specs.Rolls.{arrays, tokens}
+use Rattle.texts.specs.Rolls.{arrays, tokens}
 use Rattle.writer.specs.Put.{far}
 use Rattle.kept.specs.Kept.{role-of-number}
 use lib.Seq.{sets}

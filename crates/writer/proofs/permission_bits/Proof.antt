@@ -1,5 +1,5 @@
 use Rattle.writer.specs.Flags.{level-known, permission-known, log-known, level-small, rank-small, flag-small, off-bits, off-is}
-use Rattle.writer.specs.Rolls.{arrays, tokens, tally, tally-is}
+use Rattle.texts.specs.Rolls.{arrays, tokens, tally, tally-is}
 use mathlib.Core.Bool.{true, false}
 use Rattle.rule.specs.declared.Access.the-variants as access
 use Rattle.file.specs.Contents.{texts, value-of, level-of, permission-of, log-of}

@@ -1,4 +1,5 @@
-use Rattle.writer.specs.Step.{lies-at, drawn-text}
+use Rattle.texts.specs.Lies.{lies-at}
+use Rattle.writer.specs.Step.{drawn-text}
 use Rattle.writer.specs.Near.{between-light}
 use Rattle.lists.specs.SameLaws.{unchanged}
 use Rattle.lists.specs.Text.{lowered}
@@ -19,7 +20,7 @@ use Rattle.writer.proofs.put_name.Reads as put-name-reads
 use Rattle.writer.proofs.put_reference.Reads as put-reference-reads
 use Rattle.writer.proofs.put_rule.Reads as put-rule-reads
 use Rattle.writer.proofs.put_string.Reads as put-string-reads
-use Rattle.writer.proofs.text.Reads as text-reads
+use Rattle.texts.proofs.text.Reads as text-reads
 
 -- src/lib.rt:450:75
 enum-told : tie.Need-enum-told

@@ -1,7 +1,8 @@
-use Rattle.writer.specs.Step.{drawn, text-at, lies-at, gap-end, counted-until, counted-cut, cut-is, calculation-is}
+use Rattle.texts.specs.Lies.{text-at, lies-at}
+use Rattle.writer.specs.Step.{drawn, gap-end, counted-until, counted-cut, cut-is, calculation-is}
 use Rattle.writer.specs.Near.{between-light, between-short}
 use Rattle.writer.specs.Pass.{Drawn, pen, first-text, cut, size}
-use Rattle.writer.specs.Rolls.{Telling, arrays, tokens, tally-bound, tally-is, lie-less}
+use Rattle.texts.specs.Rolls.{Telling, arrays, tokens, tally-bound, tally-is, lie-less}
 use Rattle.writer.specs.Put.{put-put}
 use Rattle.kept.specs.Kept.{role-of-number}
 use Rattle.grammar.specs.Reading.{Said}
@@ -19,7 +20,7 @@ use Rattle.writer.proofs.put_input.Tie as tie
 use Rattle.writer.proofs.put_input.Reads as reads
 use Rattle.writer.proofs.put_input.Lts as lts
 use Rattle.writer.proofs.first_text.Reads as first-text-reads
-use Rattle.writer.proofs.letter.Reads as letter-reads
+use Rattle.texts.proofs.letter.Reads as letter-reads
 use Rattle.writer.proofs.next.Reads as next-reads
 use Rattle.writer.proofs.put_three.Reads as put-three-reads
 

@@ -2,10 +2,11 @@ use Rattle.file.specs.Contents.{rule-text}
 use Rattle.table.specs.Written.{flags}
 use Rattle.writer.specs.Step.{rule-words}
 use Rattle.writer.specs.Near.{first-light, tokens-light}
-use Rattle.writer.specs.Step.{drawn, text-at, lies-at, gap-end, counted-until, counted-cut, cut-is, calculation-is}
+use Rattle.texts.specs.Lies.{text-at, lies-at}
+use Rattle.writer.specs.Step.{drawn, gap-end, counted-until, counted-cut, cut-is, calculation-is}
 use Rattle.writer.specs.Near.{between-light, between-short}
 use Rattle.writer.specs.Pass.{Drawn, pen, first-text, cut, size}
-use Rattle.writer.specs.Rolls.{Telling, arrays, tokens, tally-bound, tally-is, lie-less}
+use Rattle.texts.specs.Rolls.{Telling, arrays, tokens, tally-bound, tally-is, lie-less}
 use Rattle.writer.specs.Put.{put-put}
 use Rattle.kept.specs.Kept.{role-of-number}
 use Rattle.grammar.specs.Reading.{Said}

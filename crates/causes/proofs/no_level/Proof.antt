@@ -1,0 +1,31 @@
+use Rattle.causes.specs.Words.{level-known}
+use Rattle.file.specs.Contents.{level-of}
+use borrow.Author.Needs.{needs}
+use Rattle.causes.proofs.no_level.Statement.{statement}
+use Rattle.causes.proofs.no_level.Tie as tie
+use Rattle.causes.proofs.no_level.Reads as reads
+use Rattle.causes.proofs.no_level.Lts as lts
+use Rattle.words_known.proofs.level_of.Reads as level-of-reads
+
+-- src/lib.rt:78:11
+level-of-requires : tie.Need-level-of-requires
+level-of-requires c κs = search needs
+
+-- src/lib.rt:79:38
+enum-told : tie.Need-enum-told
+enum-told c = search needs
+
+-- src/lib.rt:80:35
+enum-told-2 : tie.Need-enum-told-2
+enum-told-2 c = search needs
+
+-- src/lib.rt:75:1
+returns : tie.Need-returns
+returns c = level-known (level-of (c .before .before .before .before .args .t .now)) (c .before .before .level-of .ensures) (c .enum-told .given .1)
+
+-- src/lib.rt:75:1
+returns-2 : tie.Need-returns-2
+returns-2 c = level-known (level-of (c .before .before .before .before .args .t .now)) (c .before .before .level-of .ensures) (c .enum-told2 .given .1)
+
+pub no-level-spec : {M : Type 1} → statement M
+no-level-spec = tie.close (tie.spec level-of-requires enum-told enum-told-2 returns returns-2)

@@ -1,0 +1,31 @@
+use Rattle.causes.specs.Words.{log-known}
+use Rattle.file.specs.Contents.{log-of}
+use borrow.Author.Needs.{needs}
+use Rattle.causes.proofs.no_log.Statement.{statement}
+use Rattle.causes.proofs.no_log.Tie as tie
+use Rattle.causes.proofs.no_log.Reads as reads
+use Rattle.causes.proofs.no_log.Lts as lts
+use Rattle.words_known.proofs.log_of.Reads as log-of-reads
+
+-- src/lib.rt:96:11
+log-of-requires : tie.Need-log-of-requires
+log-of-requires c κs = search needs
+
+-- src/lib.rt:97:36
+enum-told : tie.Need-enum-told
+enum-told c = search needs
+
+-- src/lib.rt:98:33
+enum-told-2 : tie.Need-enum-told-2
+enum-told-2 c = search needs
+
+-- src/lib.rt:93:1
+returns : tie.Need-returns
+returns c = log-known (log-of (c .before .before .before .before .args .t .now)) (c .before .before .log-of .ensures) (c .enum-told .given .1)
+
+-- src/lib.rt:93:1
+returns-2 : tie.Need-returns-2
+returns-2 c = log-known (log-of (c .before .before .before .before .args .t .now)) (c .before .before .log-of .ensures) (c .enum-told2 .given .1)
+
+pub no-log-spec : {M : Type 1} → statement M
+no-log-spec = tie.close (tie.spec log-of-requires enum-told enum-told-2 returns returns-2)

@@ -1,0 +1,4 @@
+pub mod Cause
+pub mod Outcome
+pub mod Over
+pub mod Heard

@@ -1,0 +1,210 @@
+ghost use mathlib.Core.Path.{_≡_};
+ghost use mathlib.Core.List.{List};
+ghost use Prim.Native.Nat.{ℕ, _≤_};
+ghost use lib.ListN.{length};
+ghost use Rattle.kept.specs.Stores.{kept-in};
+ghost use Rattle.texts.specs.Rolls.{Lie};
+ghost use Rattle.loader.specs.Cause.{Judged};
+ghost use Rattle.kept.specs.Kept.{said-from};
+ghost use Rattle.file.specs.Load.{accept};
+ghost use Rattle.load.specs.Load.{by-verdict, load};
+ghost use Rattle.load.specs.Listing.{listing};
+ghost use Rattle.warn.specs.Told.{Told, told};
+ghost use Rattle.loader.specs.Heard.{Spacious, Final};
+ghost use Rattle.loader.specs.Outcome.{Ready};
+use file::Refusal;
+use hear::Heard;
+use load::Listed;
+use load::Loaded;
+
+// The numbers of the roles that are collected: grammar/specs/Role.antt.
+const UAG_NAME: u8 = 1;
+
+const HAG_NAME: u8 = 3;
+
+// The refusals 5 to 10, of n tokens: the lowest number that applies, at its earliest place.
+fn judge(
+    s: &[u8],
+    places: &[u16],
+    starts: &[u16],
+    ends: &[u16],
+    roles: &[u8],
+    n: usize,
+    seen: &mut [u16],
+) -> Heard
+    requires { ⌜ Lie (now s) (now starts) (now ends) (now roles) n × (n ≤ length (now places)) × (n ≤ length (now seen)) ⌝ }
+    ensures { λ r. ⌜ ((kinds : List ℕ) → Judged (now (s .entry)) (kept-in kinds (now (places .entry)) (now (starts .entry)) (now (ends .entry))) (now (roles .entry)) n r) ⌝ }
+{
+    let long = causes::too_long(s, starts, ends, roles, n);
+    if long < n {
+        return Heard::Refused(Refusal::StringTooLong, kept::wide(places[long]));
+    }
+    let many = causes::too_many(s, starts, ends, roles, n);
+    if many < n {
+        return Heard::Refused(Refusal::TooMany, kept::wide(places[many]));
+    }
+    let twice = again::given_again(s, starts, ends, roles, n, seen);
+    if twice < n {
+        return Heard::Refused(Refusal::GivenAgain, kept::wide(places[twice]));
+    }
+    let level = causes::bad_level(s, starts, ends, roles, n);
+    if level < n {
+        return Heard::Refused(Refusal::BadLevel, kept::wide(places[level]));
+    }
+    let word = causes::unknown_word(s, starts, ends, roles, n);
+    if word < n {
+        return Heard::Refused(Refusal::UnknownWord, kept::wide(places[word]));
+    }
+    let calc = causes::bad_calculation(s, starts, ends, roles, n);
+    if calc < n {
+        return Heard::Refused(Refusal::BadCalculation, kept::wide(places[calc]));
+    }
+    Heard::Tokens(n)
+}
+
+// The refusals 1 to 10. The arrays hold the tokens of a text that has none.
+fn hear(
+    s: &[u8],
+    kinds: &mut [u8],
+    places: &mut [u16],
+    starts: &mut [u16],
+    ends: &mut [u16],
+    roles: &mut [u8],
+    seen: &mut [u16],
+) -> Heard
+    requires { ⌜ Spacious (kept-in (now kinds) (now places) (now starts) (now ends)) (now roles) × (16384 ≤ length (now seen)) ⌝ }
+    ensures { λ r. ⌜ Final (now (s .entry)) (kept-in (now (kinds .exit)) (now (places .exit)) (now (starts .exit)) (now (ends .exit))) (now (roles .exit)) r ⌝ }
+{
+    if 16384 < s.len() {
+        return Heard::Refused(Refusal::FileTooLong, 0);
+    }
+    match hear::listen(s, kinds, places, starts, ends, roles) {
+        Heard::Refused(k, p) => Heard::Refused(k, p),
+        Heard::Tokens(n) => judge(s, places, starts, ends, roles, n, seen),
+    }
+}
+
+// The warnings of n tokens of an accepted file, from the skip-th on, as many as there is room for, and how many there are.
+fn warnings(
+    s: &[u8],
+    places: &[u16],
+    starts: &[u16],
+    ends: &[u16],
+    roles: &[u8],
+    n: usize,
+    skip: usize,
+    numbers: &mut [u8],
+    at: &mut [u16],
+) -> usize
+    requires { ⌜ Ready (now s) (now places) (now starts) (now ends) (now roles) n ⌝ }
+    ensures { λ r. ⌜ Told (told (now (s .entry)) (now (places .entry)) (now (starts .entry)) (now (ends .entry)) (now (roles .entry)) n) skip (now (numbers .entry)) (now (numbers .exit)) (now (at .entry)) (now (at .exit)) r ⌝ }
+{
+    let mut uags = [0u16; 64];
+    let mut hags = [0u16; 64];
+    let u = texts::collect(roles, n, UAG_NAME, &mut uags);
+    let h = texts::collect(roles, n, HAG_NAME, &mut hags);
+    warn::warn(
+        s,
+        starts,
+        ends,
+        places,
+        roles,
+        n,
+        &uags[..u],
+        &hags[..h],
+        skip,
+        numbers,
+        at,
+    )
+}
+
+// How many warnings a text has. The numbers and places of those from the skip-th on are written, as many as there is room for.
+pub fn list_warnings(text: &[u8], skip: usize, numbers: &mut [u8], at: &mut [u16]) -> Listed
+    ensures { λ r. ⌜ record { answer = r; numbers = now (numbers .exit); places = now (at .exit) } ≡ listing skip (now (numbers .entry)) (now (at .entry)) (now (text .entry)) ⌝ }
+{
+    let mut kinds = [0u8; 16384];
+    let mut places = [0u16; 16384];
+    let mut starts = [0u16; 16384];
+    let mut ends = [0u16; 16384];
+    let mut roles = [0u8; 16384];
+    let mut seen = [0u16; 16384];
+    match hear(
+        text,
+        &mut kinds,
+        &mut places,
+        &mut starts,
+        &mut ends,
+        &mut roles,
+        &mut seen,
+    ) {
+        Heard::Refused(k, p) => Listed::Refused {
+            refusal: k,
+            place: p,
+        },
+        Heard::Tokens(n) => {
+            let count = warnings(text, &places, &starts, &ends, &roles, n, skip, numbers, at);
+            Listed::Warnings(count)
+        }
+    }
+}
+
+// The table of n tokens of an accepted file, if there is room, and how many warnings they have.
+fn store(
+    s: &[u8],
+    places: &[u16],
+    starts: &[u16],
+    ends: &[u16],
+    roles: &[u8],
+    n: usize,
+    lent: &mut [u8],
+) -> Loaded
+    requires { ⌜ Ready (now s) (now places) (now starts) (now ends) (now roles) n ⌝ }
+    ensures { λ r. ⌜ ((kinds : List ℕ) → record { answer = r; bytes = now (lent .exit) } ≡ by-verdict (now (lent .entry)) (accept (said-from (now (s .entry)) (kept-in kinds (now (places .entry)) (now (starts .entry)) (now (ends .entry))) (now (roles .entry)) 0 n))) ⌝ }
+{
+    let mut uags = [0u16; 64];
+    let mut hags = [0u16; 64];
+    let u = texts::collect(roles, n, UAG_NAME, &mut uags);
+    let h = texts::collect(roles, n, HAG_NAME, &mut hags);
+    match writer::write(s, starts, ends, roles, n, &uags[..u], &hags[..h], lent) {
+        writer::Written::NoRoom(size) => Loaded::Refused {
+            refusal: Refusal::NoRoom,
+            place: size,
+        },
+        writer::Written::Done(size) => {
+            let mut numbers = [0u8; 1];
+            let mut at = [0u16; 1];
+            let count = warnings(s, places, starts, ends, roles, n, 1, &mut numbers, &mut at);
+            Loaded::Accepted {
+                length: size,
+                warnings: count,
+            }
+        }
+    }
+}
+
+// The table of a text at the start of the lent bytes, or a refusal, which leaves them as they are.
+pub fn load(text: &[u8], lent: &mut [u8]) -> Loaded
+    ensures { λ r. ⌜ record { answer = r; bytes = now (lent .exit) } ≡ load (now (lent .entry)) (now (text .entry)) ⌝ }
+{
+    let mut kinds = [0u8; 16384];
+    let mut places = [0u16; 16384];
+    let mut starts = [0u16; 16384];
+    let mut ends = [0u16; 16384];
+    let mut roles = [0u8; 16384];
+    let mut seen = [0u16; 16384];
+    match hear(
+        text,
+        &mut kinds,
+        &mut places,
+        &mut starts,
+        &mut ends,
+        &mut roles,
+        &mut seen,
+    ) {
+        Heard::Refused(k, p) => Loaded::Refused {
+            refusal: k,
+            place: p,
+        },
+        Heard::Tokens(n) => store(text, &places, &starts, &ends, &roles, n, lent),
+    }
+}

@@ -1,0 +1,6 @@
+pub mod Rolls
+pub mod Lies
+pub mod Spot
+pub mod Listed
+pub mod Seek
+pub mod Bare
