@@ -1,0 +1,190 @@
+-- Laws of scripts, and the demand of a run.
+use mathlib.Core.Path.{_≡_, refl, sym, ap, _∙_}
+use mathlib.Core.List.{List, [], _∷_, _++_}
+use Prim.Native.Nat.{ℕ, zero, suc, _+_, _*_, _-_, _/_, _%_, _≤_, _<_}
+use native.Mathlib.Nat.{div-add-mod'}
+use native.Mathlib.Numerals.{add-one}
+use native.Mathlib.Omega.{arith}
+use lib.ListN.{length, take, drop, getD, set, length-set, drop-of-length-le, length-drop}
+use lib.Seq.{take-all, take-nil, take-suc-set}
+use lib.Ieee.{Float}
+use Rattle.calculation.specs.declared.Reading.{Reading}
+use Rattle.calculation.specs.declared.Reading.the-variants.{Value}
+use Rattle.rule.specs.Question.{Question, reading-instead}
+use Rattle.file.specs.Load.{Verdict, refuse, accept, verdict}
+use Rattle.kept.specs.Kept.{between}
+use Rattle.load.specs.declared.Loaded.{Loaded}
+use Rattle.load.specs.Load.{Outcome, load}
+use Rattle.load.specs.Listing.{listed-by, listing}
+use Rattle.decision.specs.declared.Answer.{Answer}
+use Rattle.decision.specs.Decision.{access-in, decide}
+use Rattle.decision.specs.LookUp.{look-up}
+use Rattle.demand.specs.Calls.{Call, after-call, after-calls, is-accepted}
+use Rattle.demand.specs.Front.{demand-3}
+use Rattle.calls.specs.declared.Told.{Told}
+use Rattle.calls.specs.declared.Told.the-variants as told
+use Rattle.calls.specs.Script.{Script, word, text-at, reading, reading-at, readings-from, readings, call-of, call-at, calls-from, calls}
+use Rattle.calls.specs.Answers.{answer-to, Made}
+use Rattle.calls.specs.Door.{Door}
+
+-- ---- readings
+
+-- what stands in a list does not depend on what would stand beyond it
+pub getD-within : {A : Type 0} (xs : List A) (i : ℕ) (d e : A) → i < length xs → getD xs i d ≡ getD xs i e
+getD-within [] i d e h = absurd (omega arith)
+getD-within (x ∷ xs) zero d e h = refl
+getD-within (x ∷ xs) (suc i) d e h = getD-within xs i d e (omega arith)
+
+pub reading-valued : (n : ℕ) (x : Float) → (n ≡ 0 → ⊥) → (n ≡ 1 → ⊥) → Value x ≡ reading n x
+reading-valued zero x a b = absurd (a refl)
+reading-valued (suc zero) x a b = absurd (b refl)
+reading-valued (suc (suc n)) x a b = refl
+
+module _ (states : List ℕ) (values : List Float) where
+  -- one reading more behind
+  readings-more : (k n : ℕ) → readings-from states values k (n + 1) ≡ readings-from states values k n ++ (reading-at states values (k + n) ∷ [])
+  unfolding readings-from
+  readings-more k zero = let e : k ≡ k + 0 = omega arith in ap (λ (j : ℕ). reading-at states values j ∷ []) e
+  readings-more k (suc n) =
+      let e : suc n + 1 ≡ suc (n + 1) = omega arith in
+      let g : (k + 1) + n ≡ k + suc n = omega arith in
+      ap (readings-from states values k) e
+      ∙ ap (λ (l : List Reading). reading-at states values k ∷ l) (readings-more (k + 1) n ∙ ap (λ (j : ℕ). readings-from states values (k + 1) n ++ (reading-at states values j ∷ [])) g)
+
+  -- the first i of the readings stand
+  pub record Heard-to (k : ℕ) (rs : List Reading) (i : ℕ) : Type 0 where
+    pub whole : length rs ≡ 21
+    pub within : i ≤ 21
+    pub stand : take i rs ≡ readings-from states values k i
+
+  pub heard-none : (k : ℕ) (rs : List Reading) → length rs ≡ 21 → Heard-to k rs 0
+  unfolding readings-from
+  heard-none k rs w = record { whole = w; within = omega arith; stand = refl }
+
+  pub heard-more : {k : ℕ} {rs : List Reading} {i : ℕ} {r : Reading} → Heard-to k rs i → i < 21 → r ≡ reading-at states values (k + i) → Heard-to k (set rs i r) (i + 1)
+  heard-more {k} {rs} {i} {r} h l e =
+      let w = h .whole in
+      record {
+        whole = length-set rs i r ∙ w;
+        within = omega arith;
+        stand = rw (add-one, take-suc-set rs i r (omega arith), h .stand, e, ← add-one) (sym (readings-more k i));
+      }
+
+  pub heard-all : {k : ℕ} {rs : List Reading} {i : ℕ} → Heard-to k rs i → 21 ≤ i → rs ≡ readings states values k
+  heard-all {k} {rs} {i} h l =
+      let w = h .whole in
+      let b = h .within in
+      let e : i ≡ 21 = omega arith in
+      sym (take-all i rs (omega arith)) ∙ (h .stand ∙ ap (readings-from states values k) e)
+
+-- ---- parts of a text
+
+module _ (s : List ℕ) (a e : ℕ) where
+  pub part-none : e ≤ a → [] ≡ between s a e
+  part-none h = let z : e - a ≡ 0 = omega arith in rw z
+
+  pub part-over : length s ≤ e → between s a (length s) ≡ between s a e
+  part-over h = take-all (length s - a) (drop a s) (rw length-drop (omega arith)) ∙ sym (take-all (e - a) (drop a s) (rw length-drop (omega arith)))
+
+  pub part-beyond : length s ≤ a → [] ≡ between s a e
+  part-beyond h = rw (drop-of-length-le s h, take-nil (e - a))
+
+-- ---- calls
+
+-- no call but a load writes
+pub others-leave : (m : ℕ) (a b c : List ℕ) (n : ℕ) (rs : List Reading) (lent : List ℕ) → (m ≡ 0 → ⊥) → lent ≡ after-call lent (call-of m a b c n rs)
+others-leave zero a b c n rs lent h = absurd (h refl)
+others-leave (suc zero) a b c n rs lent h = refl
+others-leave (suc (suc zero)) a b c n rs lent h = refl
+others-leave (suc (suc (suc zero))) a b c n rs lent h = refl
+others-leave (suc (suc (suc (suc zero)))) a b c n rs lent h = refl
+others-leave (suc (suc (suc (suc (suc m))))) a b c n rs lent h = refl
+
+-- a number over 4 looks up
+pub look-up-told :
+    (m : ℕ) (a b c : List ℕ) (n : ℕ) (rs : List Reading) (lent : List ℕ) → 0 < m → (m ≡ 1 → ⊥) → (m ≡ 2 → ⊥) → (m ≡ 3 → ⊥) → (m ≡ 4 → ⊥)
+    → told.Found (look-up lent a n) ≡ answer-to lent (call-of m a b c n rs)
+look-up-told zero a b c n rs lent h h1 h2 h3 h4 = absurd (omega arith)
+look-up-told (suc zero) a b c n rs lent h h1 h2 h3 h4 = absurd (h1 refl)
+look-up-told (suc (suc zero)) a b c n rs lent h h1 h2 h3 h4 = absurd (h2 refl)
+look-up-told (suc (suc (suc zero))) a b c n rs lent h h1 h2 h3 h4 = absurd (h3 refl)
+look-up-told (suc (suc (suc (suc zero)))) a b c n rs lent h h1 h2 h3 h4 = absurd (h4 refl)
+look-up-told (suc (suc (suc (suc (suc m))))) a b c n rs lent h h1 h2 h3 h4 = refl
+
+-- how many warnings there are does not depend on the room for their list
+pub listed-alike : (skip : ℕ) (numbers places : List ℕ) (s : List ℕ) → listing skip numbers places s .answer ≡ listing 0 [] [] s .answer
+unfolding listing
+listed-alike skip numbers places s = by (verdict s)
+  where
+    by : (v : Verdict) → listed-by skip numbers places v .answer ≡ listed-by 0 [] [] v .answer
+    by (refuse n p) = refl
+    by (accept xs) = refl
+
+module _ (s : Script) (i : ℕ) (lent : List ℕ) {w : ℕ} (what : w ≡ word (s .words) i 0) where
+  pub load-made : {after t : List ℕ} {r : Loaded} → w ≡ 0 → t ≡ text-at (s .words) (s .pool) i 1 → record { answer = r; bytes = after } ≡ load lent t → Made lent (call-at s i) after (told.Loaded r)
+  load-made {t = t} z e l =
+      let first = sym what ∙ z in
+      record {
+        answer = ap (λ (o : Outcome). told.Loaded (o .answer)) l ∙ rw (e, first);
+        bytes = ap (λ (o : Outcome). o .bytes) l ∙ rw (e, first);
+      }
+
+  pub other-made :
+      {a b c : List ℕ} {n k : ℕ} {rs : List Reading} {r : Told} → (w ≡ 0 → ⊥)
+      → a ≡ text-at (s .words) (s .pool) i 1 → b ≡ text-at (s .words) (s .pool) i 3 → c ≡ text-at (s .words) (s .pool) i 5
+      → n ≡ word (s .words) i 7 % 256 → k ≡ word (s .words) i 8 → rs ≡ readings (s .states) (s .values) k
+      → r ≡ answer-to lent (call-of w a b c n rs) → Made lent (call-at s i) lent r
+  other-made {a} {b} {c} {n} {k} {rs} z ea eb ec en ek er h =
+      let same : call-of w a b c n rs ≡ call-at s i = rw (ea, eb, ec, en, er, ek, what) in
+      record {
+        answer = h ∙ ap (answer-to lent) same;
+        bytes = others-leave w a b c n rs lent z ∙ ap (after-call lent) same;
+      }
+
+-- ---- scripts
+
+-- each call of a script stands in it whole
+pub call-within : (i n : ℕ) → i < n / 16 → i * 16 + 16 ≤ n
+call-within i n h = omega (arith, div-add-mod' n 16)
+
+module _ (s : Script) (n : ℕ) (start : List ℕ) where
+  -- from the i-th call on, what is left to do comes to what was to do at the start
+  pub record Followed (lent : List ℕ) (i : ℕ) : Type 0 where
+    pub within : i ≤ n
+    pub comes : after-calls lent (calls-from s i (n - i)) ≡ after-calls start (calls-from s 0 n)
+
+  pub followed-none : Followed start 0
+  followed-none =
+      let z : n - 0 ≡ n = omega arith in
+      record { within = omega arith; comes = rw z }
+
+  pub followed-more : {lent after : List ℕ} {i : ℕ} → Followed lent i → i < n → after ≡ after-call lent (call-at s i) → Followed after (i + 1)
+  unfolding calls-from
+  followed-more {lent} {after} {i} h l e =
+      let m : n - i ≡ suc (n - (i + 1)) = omega arith in
+      record { within = omega arith; comes = rw e (rw m at (h .comes)) }
+
+  pub followed-all : {lent : List ℕ} {i : ℕ} → Followed lent i → n ≤ i → lent ≡ after-calls start (calls-from s 0 n)
+  unfolding calls-from
+  followed-all {lent} {i} h l =
+      let z : n - i ≡ 0 = omega arith in
+      rw z at (h .comes)
+
+-- ---- the door
+
+pub door-is :
+    {lent s kept after : List ℕ} {cs : List Call} {q : Question} {r : Loaded} {a : Answer}
+    → record { answer = r; bytes = kept } ≡ load lent s → after ≡ after-calls kept cs → a ≡ decide after q
+    → Door lent s cs q after (record { loaded = r; answer = a })
+door-is {lent} {s} {kept} {after} {cs} {q} {r} {a} l f d =
+    let answered = ap (λ (o : Outcome). o .answer) l in
+    let bytes : after ≡ after-calls (load lent s .bytes) cs = f ∙ ap (λ (o : Outcome). after-calls (o .bytes) cs) l in
+    let asked : a ≡ decide (after-calls (load lent s .bytes) cs) q = d ∙ ap (λ (b : List ℕ). decide b q) bytes in
+    record {
+      loaded = answered;
+      bytes = bytes;
+      answer = asked;
+      never-opens = λ h xs t n e.
+          let shown = demand-3 lent s (sym (ap is-accepted answered) ∙ h) xs t cs n e in
+          (λ were g. rw asked (shown (reading-instead q were) .0 (q .readings) g), λ no. ap access-in asked ∙ shown q .1 no);
+    }

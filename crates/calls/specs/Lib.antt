@@ -1,0 +1,4 @@
+pub mod Script
+pub mod Answers
+pub mod Door
+pub mod Laws
