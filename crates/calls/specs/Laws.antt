@@ -1,15 +1,12 @@
 -- Laws of scripts, and the demand of a run.
 use mathlib.Core.Path.{_≡_, refl, sym, ap, _∙_}
-use mathlib.Core.List.{List, [], _∷_, _++_}
+use mathlib.Core.List.{List, []}
 use Prim.Native.Nat.{ℕ, zero, suc, _+_, _*_, _-_, _/_, _%_, _≤_, _<_}
 use native.Mathlib.Nat.{div-add-mod'}
-use native.Mathlib.Numerals.{add-one}
 use native.Mathlib.Omega.{arith}
-use lib.ListN.{length, take, drop, getD, set, length-set, drop-of-length-le, length-drop}
-use lib.Seq.{take-all, take-nil, take-suc-set}
-use lib.Ieee.{Float}
+use lib.ListN.{length, drop, drop-of-length-le, length-drop}
+use lib.Seq.{take-all, take-nil}
 use Rattle.calculation.specs.declared.Reading.{Reading}
-use Rattle.calculation.specs.declared.Reading.the-variants.{Value}
 use Rattle.rule.specs.Question.{Question, reading-instead}
 use Rattle.file.specs.Load.{Verdict, refuse, accept, verdict}
 use Rattle.kept.specs.Kept.{between}
@@ -23,59 +20,10 @@ use Rattle.demand.specs.Calls.{Call, after-call, after-calls, is-accepted}
 use Rattle.demand.specs.Front.{demand-3}
 use Rattle.calls.specs.declared.Told.{Told}
 use Rattle.calls.specs.declared.Told.the-variants as told
-use Rattle.calls.specs.Script.{Script, word, text-at, reading, reading-at, readings-from, readings, call-of, call-at, calls-from, calls}
+use Rattle.calls.specs.Script.{Script, word, text-at, call-of, call-at, calls-from, calls}
+use Rattle.readings.specs.Readings.{readings}
 use Rattle.calls.specs.Answers.{answer-to, Made}
 use Rattle.calls.specs.Door.{Door}
-
--- ---- readings
-
--- what stands in a list does not depend on what would stand beyond it
-pub getD-within : {A : Type 0} (xs : List A) (i : ℕ) (d e : A) → i < length xs → getD xs i d ≡ getD xs i e
-getD-within [] i d e h = absurd (omega arith)
-getD-within (x ∷ xs) zero d e h = refl
-getD-within (x ∷ xs) (suc i) d e h = getD-within xs i d e (omega arith)
-
-pub reading-valued : (n : ℕ) (x : Float) → (n ≡ 0 → ⊥) → (n ≡ 1 → ⊥) → Value x ≡ reading n x
-reading-valued zero x a b = absurd (a refl)
-reading-valued (suc zero) x a b = absurd (b refl)
-reading-valued (suc (suc n)) x a b = refl
-
-module _ (states : List ℕ) (values : List Float) where
-  -- one reading more behind
-  readings-more : (k n : ℕ) → readings-from states values k (n + 1) ≡ readings-from states values k n ++ (reading-at states values (k + n) ∷ [])
-  unfolding readings-from
-  readings-more k zero = let e : k ≡ k + 0 = omega arith in ap (λ (j : ℕ). reading-at states values j ∷ []) e
-  readings-more k (suc n) =
-      let e : suc n + 1 ≡ suc (n + 1) = omega arith in
-      let g : (k + 1) + n ≡ k + suc n = omega arith in
-      ap (readings-from states values k) e
-      ∙ ap (λ (l : List Reading). reading-at states values k ∷ l) (readings-more (k + 1) n ∙ ap (λ (j : ℕ). readings-from states values (k + 1) n ++ (reading-at states values j ∷ [])) g)
-
-  -- the first i of the readings stand
-  pub record Heard-to (k : ℕ) (rs : List Reading) (i : ℕ) : Type 0 where
-    pub whole : length rs ≡ 21
-    pub within : i ≤ 21
-    pub stand : take i rs ≡ readings-from states values k i
-
-  pub heard-none : (k : ℕ) (rs : List Reading) → length rs ≡ 21 → Heard-to k rs 0
-  unfolding readings-from
-  heard-none k rs w = record { whole = w; within = omega arith; stand = refl }
-
-  pub heard-more : {k : ℕ} {rs : List Reading} {i : ℕ} {r : Reading} → Heard-to k rs i → i < 21 → r ≡ reading-at states values (k + i) → Heard-to k (set rs i r) (i + 1)
-  heard-more {k} {rs} {i} {r} h l e =
-      let w = h .whole in
-      record {
-        whole = length-set rs i r ∙ w;
-        within = omega arith;
-        stand = rw (add-one, take-suc-set rs i r (omega arith), h .stand, e, ← add-one) (sym (readings-more k i));
-      }
-
-  pub heard-all : {k : ℕ} {rs : List Reading} {i : ℕ} → Heard-to k rs i → 21 ≤ i → rs ≡ readings states values k
-  heard-all {k} {rs} {i} h l =
-      let w = h .whole in
-      let b = h .within in
-      let e : i ≡ 21 = omega arith in
-      sym (take-all i rs (omega arith)) ∙ (h .stand ∙ ap (readings-from states values k) e)
 
 -- ---- parts of a text
 

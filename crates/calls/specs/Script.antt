@@ -4,8 +4,7 @@ use Prim.Native.Nat.{ℕ, zero, suc, _+_, _*_, _/_, _%_}
 use lib.ListN.{length, getD}
 use lib.Ieee.{Float}
 use Rattle.calculation.specs.declared.Reading.{Reading}
-use Rattle.calculation.specs.declared.Reading.the-variants.{NeverHeard, Invalid, Value}
-use Rattle.calculation.specs.Value.{zero-value}
+use Rattle.readings.specs.Readings.{readings}
 use Rattle.kept.specs.Kept.{between}
 use Rattle.demand.specs.Calls.{Call, load-text, list-warnings, calculate, check-table, ask, look-up-input}
 
@@ -14,7 +13,7 @@ use Rattle.demand.specs.Calls.{Call, load-text, list-warnings, calculate, check
 --   1 to 6  three texts, each from where to where it stands in the pool
 --   7       a level or a letter
 --   8       where the 21 readings begin in states and values
--- The others say nothing. What stands beyond an end is no byte, the number 0, a reading never heard.
+-- The others say nothing. What stands beyond an end is no byte, the number 0; of readings see readings/specs.
 pub record Script : Type 0 where
   pub words : List ℕ
   pub pool : List ℕ
@@ -23,24 +22,6 @@ pub record Script : Type 0 where
 
 abbrev pub script-of : List ℕ → List ℕ → List ℕ → List Float → Script
 script-of ws p ss vs = record { words = ws; pool = p; states = ss; values = vs }
-
--- a state and a value: 0 is never heard, 1 is invalid, any other has the value
-abbrev pub reading : ℕ → Float → Reading
-reading zero x = NeverHeard
-reading (suc zero) x = Invalid
-reading (suc (suc n)) x = Value x
-
-abbrev pub reading-at : List ℕ → List Float → ℕ → Reading
-reading-at states values k = reading (getD states k 0) (getD values k zero-value)
-
--- n readings from the k-th on
-unfoldable pub readings-from : List ℕ → List Float → ℕ → ℕ → List Reading
-readings-from states values k zero = []
-readings-from states values k (suc n) = reading-at states values k ∷ readings-from states values (k + 1) n
-
--- the readings of a question or a calculation
-abbrev pub readings : List ℕ → List Float → ℕ → List Reading
-readings states values k = readings-from states values k 21
 
 -- what a number calls, of three texts, a level or letter, and readings: 0 a load, and so on; 5 and more a look-up
 abbrev pub call-of : ℕ → List ℕ → List ℕ → List ℕ → ℕ → List Reading → Call

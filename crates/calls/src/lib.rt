@@ -6,10 +6,9 @@ use load::Listed;
 use load::Loaded;
 ghost use mathlib.Core.Path.{_≡_};
 ghost use Prim.Native.Nat.{_+_, _*_, _%_, _≤_, _<_};
-ghost use lib.ListN.{length, getD};
-ghost use Rattle.calculation.specs.Value.{zero-value};
+ghost use lib.ListN.{length};
 ghost use Rattle.kept.specs.Kept.{between};
-ghost use Rattle.calls.specs.Script.{script-of, reading, readings, word, text-at, call-of, call-at, calls};
+ghost use Rattle.calls.specs.Script.{script-of, word, text-at, call-of, call-at, calls};
 ghost use Rattle.calls.specs.Answers.{answer-to, Made};
 ghost use Rattle.calls.specs.Door.{Door};
 ghost use Rattle.demand.specs.Calls.{after-calls};
@@ -28,55 +27,6 @@ pub enum Told {
     Checked(bool),
     Answered(Answer),
     Found(Found),
-}
-
-// ---- readings
-
-pub fn reading(state: u8, value: f64) -> Reading
-    ensures { λ r. ⌜ r ≡ reading state value ⌝ }
-{
-    if state == 0 {
-        return Reading::NeverHeard;
-    }
-    if state == 1 {
-        return Reading::Invalid;
-    }
-    Reading::Value(value)
-}
-
-fn state_at(states: &[u8], from: usize, i: usize) -> u8
-    ensures { λ r. ⌜ r ≡ getD (now (states .entry)) (from + i) 0 ⌝ }
-{
-    if i < states.len() {
-        if from < states.len() - i {
-            return states[from + i];
-        }
-    }
-    0
-}
-
-fn value_at(values: &[f64], from: usize, i: usize) -> f64
-    ensures { λ r. ⌜ r ≡ getD (now (values .entry)) (from + i) zero-value ⌝ }
-{
-    if i < values.len() {
-        if from < values.len() - i {
-            return values[from + i];
-        }
-    }
-    0.0
-}
-
-// The 21 readings that begin at an index; those beyond an end were never heard.
-pub fn readings(states: &[u8], values: &[f64], from: usize) -> [Reading; 21]
-    ensures { λ r. ⌜ r ≡ readings (now (states .entry)) (now (values .entry)) from ⌝ }
-{
-    let mut rs = [Reading::NeverHeard; 21];
-    let mut i: usize = 0;
-    while i < 21 {
-        rs[i] = reading(state_at(states, from, i), value_at(values, from, i));
-        i += 1;
-    }
-    rs
 }
 
 // ---- the words of a script
@@ -174,7 +124,7 @@ fn call(
     let b = text_at(script, pool, i, 3);
     let c = text_at(script, pool, i, 5);
     let n = byte(script, i, 7);
-    let rs = readings(states, values, word(script, i, 8));
+    let rs = readings::readings(states, values, word(script, i, 8));
     call_reading(what, a, b, c, n, rs, lent)
 }
 

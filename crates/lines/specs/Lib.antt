@@ -1,0 +1,12 @@
+pub mod Line
+pub mod Words
+pub mod Parts
+pub mod Numbers
+pub mod Given
+pub mod Told
+pub mod Forms
+pub mod Passing
+pub mod Asked
+pub mod Put
+pub mod Digits
+pub mod Examples

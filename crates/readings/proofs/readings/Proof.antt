@@ -1,0 +1,65 @@
+use Rattle.readings.specs.Laws.{Heard-to, heard-none, heard-more, heard-all}
+use Rattle.readings.specs.Readings.{reading}
+use native.Mathlib.Omega.{arith}
+use Prim.Native.Nat.{_-_}
+use mathlib.Core.Path.{refl, ap₂, _∙_}
+use borrow.Author.Needs.{needs}
+use Rattle.readings.proofs.readings.Statement.{statement}
+use Rattle.readings.proofs.readings.Tie as tie
+
+abbrev Inv-loop : tie.InvT-loop
+Inv-loop states values from rs₀ i₀ rs i = Heard-to states values from rs i
+
+abbrev μ-loop : tie.MeasureT-loop
+μ-loop states values from rs₀ i₀ rs i = 21 - i
+
+loop-holds : tie.Need-loop-holds Inv-loop μ-loop
+loop-holds c = heard-none _ _ _ _ refl
+
+state-at-requires : tie.Need-state-at-requires Inv-loop μ-loop
+state-at-requires c κs = search needs
+
+value-at-requires : tie.Need-value-at-requires Inv-loop μ-loop
+value-at-requires c κs = search needs
+
+reading-requires : tie.Need-reading-requires Inv-loop μ-loop
+reading-requires c κs = search needs
+
+mul-rs : tie.Need-mul-rs Inv-loop μ-loop
+mul-rs c = search needs
+
+array-set-from-rs : tie.Need-array-set-from-rs Inv-loop μ-loop
+array-set-from-rs c = search needs
+
+add-i : tie.Need-add-i Inv-loop μ-loop
+add-i c = search needs
+
+loop-less : tie.Need-loop-less Inv-loop μ-loop
+loop-less c = omega arith
+
+loop-again : tie.Need-loop-again Inv-loop μ-loop
+loop-again c =
+    let a = c .before .before .before .before .before .before .before .args in
+    heard-more (a .states .now) (a .values .now) (c .before .before .before .before .loop .inv) (c .before .before .before .loop-test .taken) (c .reading .ensures ∙ ap₂ reading (c .before .before .state-at .ensures) (c .before .value-at .ensures))
+
+returns : tie.Need-returns Inv-loop μ-loop
+returns c =
+    let a = c .before .before .before .before .args in
+    heard-all (a .states .now) (a .values .now) (c .before .loop .inv) (c .loop-test .left)
+
+pub readings-spec : {M : Type 1} → statement M
+readings-spec =
+    tie.close
+    (tie.spec
+    Inv-loop
+    μ-loop
+    loop-holds
+    state-at-requires
+    value-at-requires
+    reading-requires
+    mul-rs
+    array-set-from-rs
+    add-i
+    loop-less
+    loop-again
+    returns)

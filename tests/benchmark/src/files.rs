@@ -1,0 +1,72 @@
+//! The three files. Each loads in EPICS 7.0.3.1 too: groups are defined before
+//! the rules that name them, letters are A to L, nothing is unknown.
+
+/// A file with the question that is asked of it.
+pub struct Sample {
+    pub name: &'static str,
+    pub text: String,
+    pub group: String,
+    pub user: String,
+    pub host: String,
+}
+
+/// How many of each, and whether written with space and comments.
+struct Size {
+    groups: usize,
+    members: usize,
+    access_groups: usize,
+    loose: bool,
+}
+
+pub fn samples() -> [Sample; 3] {
+    [
+        sample("small", Size { groups: 4, members: 4, access_groups: 4, loose: true }),
+        sample("site", Size { groups: 14, members: 8, access_groups: 18, loose: true }),
+        sample("full", Size { groups: 64, members: 4, access_groups: 64, loose: false }),
+    ]
+}
+
+/// The last group is asked for, by the last user from the last host.
+fn sample(name: &'static str, size: Size) -> Sample {
+    let mut text = String::new();
+    for (keyword, letter) in [("UAG", 'p'), ("HAG", 'c')] {
+        for i in 0..size.groups {
+            text.push_str(&group(keyword, letter, i, &size));
+        }
+    }
+    for i in 0..size.access_groups {
+        text.push_str(&access_group(i, &size));
+    }
+    let (last, member) = (size.access_groups - 1, size.groups * size.members - 1);
+    Sample {
+        name,
+        text,
+        group: format!("g{last}"),
+        user: format!("p{member:03}"),
+        host: format!("c{member:03}"),
+    }
+}
+
+fn group(keyword: &str, letter: char, i: usize, size: &Size) -> String {
+    let numbers = i * size.members..(i + 1) * size.members;
+    let members: Vec<String> = numbers.map(|n| format!("{letter}{n:03}")).collect();
+    let space = if size.loose { " " } else { "" };
+    format!("{keyword}({}{i}){space}{{{}}}\n", &keyword[..1], members.join(","))
+}
+
+/// Four rules: anybody reads; three ways to write.
+fn access_group(i: usize, size: &Size) -> String {
+    let g = (i + size.groups - size.access_groups % size.groups) % size.groups;
+    let before = (g + size.groups - 1) % size.groups;
+    let text = format!(
+        "ASG(g{i}) {{\n    INPA(T{i}:PGA) INPB(T{i}:M)\n    RULE(1,READ)\n    \
+         RULE(0,WRITE) {{UAG(U{before}) HAG(H{g})}}\n    \
+         RULE(1,WRITE,TRAPWRITE) {{UAG(U{g}) CALC(\"A>0.3?0:1\")}}\n    \
+         RULE(1,WRITE) {{CALC(\"A<0.1&&B=2\")}}\n}}\n"
+    );
+    if size.loose {
+        text
+    } else {
+        text.replace([' ', '\n'], "") + "\n"
+    }
+}

@@ -1,0 +1,204 @@
+//! Times of the static library beside `paper`'s and, where it is installed,
+//! EPICS's, in one run: `benchmark [ROUNDS]` (default 501). Each figure is the
+//! median of that many short batches, the contenders taking turns.
+
+mod epics;
+mod files;
+mod measure;
+
+use epics::{Asked, Epics};
+use files::Sample;
+use measure::{medians, Timed};
+use paper::{Access, Question, Reading, LETTERS, TABLE_BYTES};
+use std::ffi::CString;
+use std::hint::black_box;
+
+/// A and B read these; all other letters were never heard.
+const VALUES: [f64; 2] = [0.25, 2.0];
+const LEVEL: u8 = 1;
+
+/// A sample with all that is needed to ask about it.
+struct Prepared<'a> {
+    sample: &'a Sample,
+    table: Vec<u8>,
+    states: Vec<u8>,
+    rounds: usize,
+    epics: Option<Epics>,
+}
+
+impl Prepared<'_> {
+    fn text(&self) -> &[u8] {
+        self.sample.text.as_bytes()
+    }
+
+    fn asked(&self) -> library::Asked<'_> {
+        library::Asked {
+            group: self.sample.group.as_bytes(),
+            user: self.sample.user.as_bytes(),
+            host: self.sample.host.as_bytes(),
+            level: LEVEL,
+            states: &self.states,
+            values: &VALUES,
+        }
+    }
+
+    fn question(&self) -> Question<'_> {
+        let reading = |i: usize| VALUES.get(i).map_or(Reading::NeverHeard, |v| Reading::Value(*v));
+        Question {
+            group: self.sample.group.as_bytes(),
+            user: self.sample.user.as_bytes(),
+            host: self.sample.host.as_bytes(),
+            level: LEVEL,
+            readings: std::array::from_fn(reading),
+        }
+    }
+
+    fn epics_asked(&self) -> Asked {
+        Asked::new(&self.sample.group, &self.sample.user, &self.sample.host, LEVEL, VALUES)
+    }
+
+    fn epics_text(&self) -> CString {
+        CString::new(self.text()).expect("no NUL in a sample")
+    }
+}
+
+fn prepare(sample: &Sample, rounds: usize, epics: Option<Epics>) -> Prepared<'_> {
+    let mut table = vec![0; TABLE_BYTES];
+    let loaded = paper::load(sample.text.as_bytes(), &mut table).expect("the samples are right");
+    table.truncate(loaded.length);
+    let mut states = vec![0; LETTERS];
+    states[..VALUES.len()].fill(2);
+    let prepared = Prepared { sample, table, states, rounds, epics };
+    prepared.agree();
+    prepared
+}
+
+impl Prepared<'_> {
+    /// All must say the same before they are timed.
+    fn agree(&self) {
+        let answer = paper::decide(&self.table, &self.question()).expect("it is answered");
+        assert_eq!(answer.access, Access::Write, "the sample's question is for WRITE");
+        let mut lent = vec![0; self.table.len()];
+        assert_eq!(library::load(self.text(), &mut lent).refusal, 0);
+        assert_eq!(lent, self.table);
+        assert_eq!(library::is_table(&lent), 1);
+        let decision = library::decide(&lent, &self.asked());
+        assert_eq!((decision.access, decision.trap, decision.refusal), (2, answer.trap, 0));
+        if let Some(epics) = self.epics {
+            assert!(epics.load(&self.epics_text()), "EPICS loads the sample");
+            assert_eq!(epics.question(&mut self.epics_asked()), Some(2));
+        }
+    }
+
+    fn row(&self, name: &str, epics_name: &str, mut timed: Vec<Timed>) {
+        let times = medians(&mut timed, self.rounds);
+        let ours = format!("{:12.0}{:12.0}{:8.2}", times[0], times[1], times[0] / times[1]);
+        match times.get(2) {
+            Some(e) => println!("  {name:38}{ours}{e:12.0}{:8.2}  {epics_name}", times[0] / e),
+            None => println!("  {name:38}{ours}"),
+        }
+    }
+
+    fn loads(&self) {
+        for cleared in [false, true] {
+            let (mut one, mut two) = (vec![0xa5; TABLE_BYTES], vec![0xa5; TABLE_BYTES]);
+            let clear = move |lent: &mut [u8]| {
+                if cleared {
+                    lent.fill(0);
+                }
+            };
+            let mut timed = vec![
+                Timed::new(move || {
+                    clear(&mut one);
+                    black_box(library::load(black_box(self.text()), &mut one));
+                }),
+                Timed::new(move || {
+                    clear(&mut two);
+                    let _ = black_box(paper::load(black_box(self.text()), &mut two));
+                }),
+            ];
+            if let (Some(epics), false) = (self.epics, cleared) {
+                let text = self.epics_text();
+                timed.push(Timed::new(move || {
+                    black_box(epics.load(&text));
+                }));
+            }
+            let name = if cleared { "load, buffer cleared before each" } else { "load, buffer not cleared" };
+            self.row(name, "asInitMem", timed);
+        }
+    }
+
+    fn checks(&self) {
+        let timed = vec![
+            Timed::new(|| {
+                black_box(library::is_table(black_box(&self.table)));
+            }),
+            Timed::new(|| {
+                black_box(paper::is_table(black_box(&self.table)));
+            }),
+        ];
+        self.row("check of the table", "", timed);
+    }
+
+    fn questions(&self) {
+        let timed = vec![
+            Timed::new(|| {
+                black_box(library::decide(black_box(&self.table), &self.asked()));
+            }),
+            Timed::new(|| {
+                let _ = black_box(paper::decide(black_box(&self.table), &self.question()));
+            }),
+        ];
+        self.row("question, table checked each time", "", timed);
+        let mut timed = self.checked_questions();
+        if let Some(epics) = self.epics {
+            let mut asked = self.epics_asked();
+            timed.push(Timed::new(move || {
+                black_box(epics.question(&mut asked));
+            }));
+        }
+        self.row("question, table known as checked", "a whole question", timed);
+        if let Some(known) = self.epics.and_then(|e| e.know(&mut self.epics_asked())) {
+            let mut timed = self.checked_questions();
+            timed.push(Timed::new(move || {
+                black_box(known.compute());
+            }));
+            self.row("the same", "asCompute alone: no group, no calculation", timed);
+        }
+    }
+
+    fn checked_questions(&self) -> Vec<Timed<'_>> {
+        vec![
+            Timed::new(|| {
+                // SAFETY: `agree` has asked `is_table` of these bytes.
+                black_box(unsafe { library::decide_checked(black_box(&self.table), &self.asked()) });
+            }),
+            Timed::new(|| {
+                let _ = black_box(paper::decide_checked(black_box(&self.table), &self.question()));
+            }),
+        ]
+    }
+}
+
+fn main() {
+    if !library::LINKED {
+        eprintln!("benchmark: the static library was not there when this was built");
+        std::process::exit(2);
+    }
+    let rounds = std::env::args().nth(1).map_or(501, |n| n.parse().expect("a number of rounds"));
+    let epics = Epics::open();
+    let stub = if library::STUB { "the stub, not the library; " } else { "" };
+    let beside = if epics.is_some() { "EPICS beside" } else { "EPICS's library not installed" };
+    println!("{stub}{beside}; medians of {rounds} batches, nanoseconds; ratio: library / other");
+    for sample in &files::samples() {
+        let prepared = prepare(sample, rounds, epics);
+        let rules = sample.text.matches("RULE").count();
+        let (bytes, table) = (sample.text.len(), prepared.table.len());
+        println!("\n{}: {bytes} bytes, {rules} rules, a table of {table} bytes", sample.name);
+        let head = format!("  {:38}{:>12}{:>12}{:>8}", "", "library", "paper", "ratio");
+        println!("{head}{}", if epics.is_some() { "       EPICS   ratio" } else { "" });
+        prepared.loads();
+        prepared.checks();
+        prepared.questions();
+    }
+}

@@ -1,0 +1,57 @@
+//! Medians of many runs, the ones to be compared taking turns.
+
+use std::time::Instant;
+
+/// A batch takes about this long, or one run. It is short, so that other work
+/// on the machine falls into few of them.
+const BATCH_NS: f64 = 1e5;
+
+/// Something to be timed.
+pub struct Timed<'a> {
+    pub run: Box<dyn FnMut() + 'a>,
+}
+
+impl<'a> Timed<'a> {
+    pub fn new(run: impl FnMut() + 'a) -> Timed<'a> {
+        Timed { run: Box::new(run) }
+    }
+
+    /// Nanoseconds for one of `count` runs.
+    fn batch(&mut self, count: usize) -> f64 {
+        let start = Instant::now();
+        for _ in 0..count {
+            (self.run)();
+        }
+        start.elapsed().as_nanos() as f64 / count as f64
+    }
+
+    /// How many runs fill a batch. This warms up too.
+    fn count(&mut self) -> usize {
+        let mut count = 1;
+        loop {
+            let each = self.batch(count).max(1.0);
+            let wanted = (BATCH_NS / each) as usize + 1;
+            if wanted <= count * 2 {
+                return wanted;
+            }
+            count = wanted.min(count * 20);
+        }
+    }
+}
+
+/// The median nanoseconds of each, over `rounds` batches.
+pub fn medians(timed: &mut [Timed], rounds: usize) -> Vec<f64> {
+    let counts: Vec<usize> = timed.iter_mut().map(Timed::count).collect();
+    let mut found = vec![Vec::new(); timed.len()];
+    for _ in 0..rounds {
+        for ((one, count), times) in timed.iter_mut().zip(&counts).zip(&mut found) {
+            times.push(one.batch(*count));
+        }
+    }
+    found.into_iter().map(median).collect()
+}
+
+fn median(mut times: Vec<f64>) -> f64 {
+    times.sort_by(f64::total_cmp);
+    times[times.len() / 2]
+}

@@ -1,0 +1,164 @@
+//! The cases: what is made, and what is asked of it.
+
+use crate::compare::{Comparison, Go};
+use crate::generate::question::{good, Names, Owned};
+use crate::generate::{calculation, file, question, table};
+use crate::random::Random;
+use paper::calculation::{parse, value};
+use paper::{LETTERS, TABLE_BYTES};
+
+/// One case, of a kind chosen at random.
+pub fn run(random: &mut Random, comparison: &mut Comparison) -> Go {
+    match random.below(20) {
+        0..=11 => of_file(random, comparison),
+        12..=15 => of_table(random, comparison),
+        16 | 17 => of_calculation(random, comparison),
+        _ => of_values(random, comparison),
+    }
+}
+
+/// The table that `paper` makes of a text, if it accepts it.
+fn table_of(text: &[u8]) -> Option<Vec<u8>> {
+    let mut lent = vec![0; TABLE_BYTES];
+    let loaded = paper::load(text, &mut lent).ok()?;
+    lent.truncate(loaded.length);
+    Some(lent)
+}
+
+/// A file: loads into buffers of several lengths, its warnings, its table.
+fn of_file(random: &mut Random, comparison: &mut Comparison) -> Go {
+    let text = file::any(random);
+    let table = table_of(&text);
+    for _ in 0..2 {
+        let length = lent_length(random, table.as_ref().map_or(100, Vec::len));
+        comparison.load(random, &text, length)?;
+    }
+    let count = paper::warnings(&text).map_or(3, |w| w.len());
+    for _ in 0..random.between(1, 2) {
+        let skip = match random.below(20) {
+            0 => usize::MAX - random.below(3),
+            1 => random.bits() as usize,
+            2..=9 => 0,
+            _ => random.below(count + 3),
+        };
+        let lengths = (random.below(count + 4), random.below(count + 4));
+        comparison.list(random, &text, skip, lengths)?;
+    }
+    match table {
+        Some(table) => of_slice(random, comparison, &table, 2),
+        None => Ok(()),
+    }
+}
+
+/// About the length that is needed, or any.
+fn lent_length(random: &mut Random, needed: usize) -> usize {
+    match random.below(10) {
+        0 => needed,
+        1 => needed.saturating_sub(1),
+        2 => needed + 1,
+        3 => random.below(40),
+        4 => random.below(needed + 1),
+        5 => TABLE_BYTES,
+        6 => TABLE_BYTES + random.below(1000) + 65_536 * usize::from(random.percent(5)),
+        _ => needed + random.below(300),
+    }
+}
+
+/// A table: of a file, damaged, made by itself, or any bytes.
+fn of_table(random: &mut Random, comparison: &mut Comparison) -> Go {
+    let mut slice = match random.below(10) {
+        0..=4 => match table_of(&file::right(random)) {
+            Some(table) => table,
+            None => return Ok(()),
+        },
+        5..=8 => table::free(random),
+        _ => {
+            let length = random.below(120);
+            random.bytes(length)
+        }
+    };
+    if random.percent(60) {
+        table::damage(random, &mut slice);
+    }
+    of_slice(random, comparison, &slice, 3)
+}
+
+/// The check, and questions and look-ups.
+fn of_slice(random: &mut Random, comparison: &mut Comparison, slice: &[u8], questions: usize) -> Go {
+    comparison.is_table(slice)?;
+    let names = Names::of(slice);
+    for _ in 0..questions {
+        comparison.decide(slice, &question::any(random, &names))?;
+    }
+    for _ in 0..questions.div_ceil(2) {
+        let (group, letter) = names.input(random);
+        comparison.find_input(slice, &group, letter)?;
+    }
+    Ok(())
+}
+
+/// A file with one rule of this calculation, and all inputs.
+fn rule_of(text: &[u8]) -> Vec<u8> {
+    let mut file = b"ASG(DEFAULT){".to_vec();
+    for letter in b'A'..=b'U' {
+        file.extend([b'I', b'N', b'P', letter, b'(', b'x', b')']);
+    }
+    file.extend(b"RULE(1,WRITE){CALC(\"");
+    file.extend(text);
+    file.extend(b"\")}}");
+    file
+}
+
+/// Any text as a calculation: allowed, in a file, and asked.
+fn of_calculation(random: &mut Random, comparison: &mut Comparison) -> Go {
+    let text = calculation::any(random);
+    comparison.allowed(&text)?;
+    let file = rule_of(&text);
+    comparison.load(random, &file, 1000)?;
+    let Some(table) = table_of(&file) else { return Ok(()) };
+    let names = Names::of(&table);
+    for _ in 0..3 {
+        comparison.decide(&table, &question::any(random, &names))?;
+    }
+    Ok(())
+}
+
+/// A calculation's value to the bit, by rules that compare it: U reads the
+/// value that it should have, or one next to it.
+fn of_values(random: &mut Random, comparison: &mut Comparison) -> Go {
+    let inner = calculation::right(random, &(0..20).collect::<Vec<u8>>(), 65);
+    let mut values: Vec<f64> = (0..LETTERS).map(|_| good(random)).collect();
+    let ask = |values: &[f64]| Owned {
+        group: Vec::new(),
+        user: b"u".to_vec(),
+        host: b"h".to_vec(),
+        level: 1,
+        states: vec![2; LETTERS],
+        values: values.to_vec(),
+    };
+    let tree = parse(&inner).expect("a right one");
+    let result = value(&tree, &ask(&values).readings()).expect("all are good");
+    let shapes: &[(&[u8], &[u8])] = &[
+        (b"(", b")=U"),
+        (b"(", b")=U"),
+        (b"(", b")>=U"),
+        (b"(", b")<=U"),
+        (b"1/(", b")<0"),
+        (b"(", b")=1/0"),
+        (b"0/0#(", b")"),
+        (b"!(", b")"),
+        (b"(", b")&&1"),
+        (b"(", b")?1:0"),
+    ];
+    for _ in 0..2 {
+        let (before, behind) = random.pick(shapes);
+        let text = [before, &inner[..], behind].concat();
+        let table = table_of(&rule_of(&text)).expect("it is short enough");
+        values[LETTERS - 1] = if result.is_finite() { result } else { 0.0 };
+        comparison.decide(&table, &ask(&values))?;
+        let next = f64::from_bits(values[LETTERS - 1].to_bits() ^ 1);
+        values[LETTERS - 1] = if next.is_finite() { next } else { 0.0 };
+        comparison.decide(&table, &ask(&values))?;
+    }
+    Ok(())
+}

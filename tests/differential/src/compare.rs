@@ -1,0 +1,189 @@
+//! One comparison: ask both, hold the answers and all lent bytes against each
+//! other, count.
+
+use crate::generate::question::Owned;
+use crate::random::Random;
+use library::{Decision, Found, List, Load};
+use paper::Access;
+use std::collections::BTreeMap;
+use std::fmt::Debug;
+
+/// Why a case ends early.
+pub enum Stop {
+    Enough,
+    /// What differs, with the input.
+    Difference(String),
+}
+
+pub type Go = Result<(), Stop>;
+
+pub struct Comparison {
+    pub done: u64,
+    pub limit: u64,
+    /// How often each answer came, by `paper`.
+    pub census: BTreeMap<String, u64>,
+}
+
+pub fn hex(bytes: &[u8]) -> String {
+    bytes.iter().map(|b| format!("{b:02x}")).collect()
+}
+
+/// Bytes that stand before and behind each lent buffer.
+const GUARD: usize = 24;
+
+/// A buffer to lend, in the middle of bytes that must stay.
+struct Lent {
+    whole: Vec<u8>,
+}
+
+impl Lent {
+    fn new(random: &mut Random, length: usize) -> Lent {
+        let (start, step) = (random.byte(), random.byte() | 1);
+        let whole = (0..length + 2 * GUARD).map(|i| start.wrapping_add(step.wrapping_mul(i as u8)));
+        Lent { whole: whole.collect() }
+    }
+
+    fn part(&mut self) -> &mut [u8] {
+        let end = self.whole.len() - GUARD;
+        &mut self.whole[GUARD..end]
+    }
+}
+
+impl Comparison {
+    pub fn new(limit: u64) -> Comparison {
+        Comparison { done: 0, limit, census: BTreeMap::new() }
+    }
+
+    fn same<T: PartialEq + Debug>(&mut self, paper: T, library: T, input: impl Fn() -> String) -> Go {
+        if paper != library {
+            let answers = format!("paper   {paper:?}\nlibrary {library:?}");
+            return Err(Stop::Difference(format!("{}\n{answers}", input())));
+        }
+        self.done += 1;
+        if self.done >= self.limit {
+            Err(Stop::Enough)
+        } else {
+            Ok(())
+        }
+    }
+
+    fn count(&mut self, what: String) {
+        *self.census.entry(what).or_default() += 1;
+    }
+
+    /// Load into a buffer of this length. Both answers and both buffers.
+    pub fn load(&mut self, random: &mut Random, text: &[u8], length: usize) -> Go {
+        let mut ours = Lent::new(random, length);
+        let mut theirs = Lent { whole: ours.whole.clone() };
+        let paper = match paper::load(text, ours.part()) {
+            Ok(l) => Load { number: l.length as u16, warnings: l.warnings as u16, refusal: 0, rest: 0 },
+            Err(r) => Load { number: r.place as u16, warnings: 0, refusal: r.number, rest: 0 },
+        };
+        self.count(format!("load {:2}", paper.refusal));
+        let library = library::load(text, theirs.part());
+        self.same((paper, first_difference(&ours.whole, &theirs.whole)), (library, None), || {
+            format!("load into {length} bytes of\n{}", hex(text))
+        })
+    }
+
+    /// The list of warnings, with arrays of these lengths.
+    pub fn list(&mut self, random: &mut Random, text: &[u8], skip: usize, lengths: (usize, usize)) -> Go {
+        let mut numbers = Lent::new(random, lengths.0);
+        let mut theirs = Lent { whole: numbers.whole.clone() };
+        let mut places: Vec<u16> = (0..lengths.1 + 2 * GUARD).map(|_| random.bits() as u16).collect();
+        let mut their_places = places.clone();
+        let within = GUARD..GUARD + lengths.1;
+        let paper = list_by_paper(text, skip, numbers.part(), &mut places[within.clone()]);
+        self.count(format!("list {:2}", paper.refusal));
+        let library = library::list_warnings(text, skip, theirs.part(), &mut their_places[within]);
+        self.same((paper, numbers.whole, places), (library, theirs.whole, their_places), || {
+            format!("warnings from {skip}, room for {lengths:?}, of\n{}", hex(text))
+        })
+    }
+
+    pub fn is_table(&mut self, slice: &[u8]) -> Go {
+        let paper = u8::from(paper::is_table(slice));
+        self.count(format!("table {paper}"));
+        self.same(paper, library::is_table(slice), || format!("is_table\n{}", hex(slice)))
+    }
+
+    /// The question by `decide`, and by `decide_checked` if it is a table.
+    pub fn decide(&mut self, table: &[u8], question: &Owned) -> Go {
+        let paper = decision_by_paper(table, question);
+        self.count(format!("decide {:2} {} {}", paper.refusal, paper.access, paper.trap));
+        let describe = |name: &str| format!("{name}\ntable {}\n{}", hex(table), described(question));
+        self.same(paper, library::decide(table, &question.asked()), || describe("decide"))?;
+        if !paper::is_table(table) || library::is_table(table) != 1 {
+            return Ok(());
+        }
+        // SAFETY: the library has just said 1 of these bytes.
+        let library = unsafe { library::decide_checked(table, &question.asked()) };
+        self.same(paper, library, || describe("decide_checked"))
+    }
+
+    pub fn find_input(&mut self, table: &[u8], group: &[u8], letter: u8) -> Go {
+        let paper = match paper::find_input(table, group, letter) {
+            Ok((place, length)) => Found { place: place as u16, length: length as u16, refusal: 0, rest: 0 },
+            Err(refusal) => Found { place: 0, length: 0, refusal, rest: 0 },
+        };
+        self.count(format!("find_input {:2}", paper.refusal));
+        self.same(paper, library::find_input(table, group, letter), || {
+            format!("find_input of letter {letter} in group {}\ntable {}", hex(group), hex(table))
+        })
+    }
+
+    pub fn allowed(&mut self, text: &[u8]) -> Go {
+        let paper = u8::from(paper::allowed(text));
+        self.count(format!("allowed {paper}"));
+        self.same(paper, library::allowed(text), || format!("allowed\n{}", hex(text)))
+    }
+}
+
+/// Where two buffers of one length first differ.
+fn first_difference(ours: &[u8], theirs: &[u8]) -> Option<(isize, u8, u8)> {
+    let place = ours.iter().zip(theirs).position(|(a, b)| a != b)?;
+    Some((place as isize - GUARD as isize, ours[place], theirs[place]))
+}
+
+/// The numbers and places from the skip-th on, as many as have room.
+fn list_by_paper(text: &[u8], skip: usize, numbers: &mut [u8], places: &mut [u16]) -> List {
+    let warnings = match paper::warnings(text) {
+        Ok(warnings) => warnings,
+        Err(r) => return List { number: r.place as u16, refusal: r.number, rest: 0 },
+    };
+    let listed = warnings.get(skip..).unwrap_or(&[]);
+    for (to, warning) in numbers.iter_mut().zip(listed) {
+        *to = warning.number;
+    }
+    for (to, warning) in places.iter_mut().zip(listed) {
+        *to = warning.place as u16;
+    }
+    List { number: warnings.len() as u16, refusal: 0, rest: 0 }
+}
+
+fn decision_by_paper(table: &[u8], question: &Owned) -> Decision {
+    match paper::decide(table, &question.question()) {
+        Err(refusal) => Decision { access: 0, trap: false, refusal, rest: 0 },
+        Ok(answer) => {
+            let access = match answer.access {
+                Access::None => 0,
+                Access::Read => 1,
+                Access::Write => 2,
+            };
+            Decision { access, trap: answer.trap, refusal: 0, rest: 0 }
+        }
+    }
+}
+
+fn described(question: &Owned) -> String {
+    let values: Vec<String> = question.values.iter().map(|v| format!("{:016x}", v.to_bits())).collect();
+    format!(
+        "group {}\nuser {}\nhost {}\nlevel {}\nstates {}\nvalues {}",
+        hex(&question.group),
+        hex(&question.user),
+        hex(&question.host),
+        question.level,
+        hex(&question.states),
+        values.join(" ")
+    )
+}

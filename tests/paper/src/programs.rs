@@ -1,0 +1,101 @@
+//! The two programs: what they print for what they read.
+
+use crate::calculation::{number, Reading, Readings};
+use crate::question::{decide, Access, Question};
+use crate::{load, read, Refusal, LETTERS, TABLE_BYTES};
+
+const LINE_BYTES: usize = 255;
+
+/// What the checker prints for a text.
+pub fn check(text: &[u8]) -> String {
+    match read(text) {
+        Err(refusal) => refusal_line(refusal),
+        Ok(file) => {
+            let lines = file.warnings().into_iter();
+            lines.map(|w| format!("warning {} at {}\n", w.number, w.place)).collect()
+        }
+    }
+}
+
+fn refusal_line(refusal: Refusal) -> String {
+    format!("refusal {} at {}\n", refusal.number, refusal.place)
+}
+
+/// What the asker prints, given `rules.acf` (empty if missing) and its lines.
+pub fn ask(rules: &[u8], input: &[u8]) -> String {
+    let mut table = vec![0; TABLE_BYTES];
+    if let Err(refusal) = load(rules, &mut table) {
+        return refusal_line(refusal);
+    }
+    lines(input).into_iter().map(|line| answer_line(&table, line)).collect()
+}
+
+/// Nothing behind the last newline is no line.
+fn lines(input: &[u8]) -> Vec<&[u8]> {
+    let mut lines: Vec<&[u8]> = input.split(|b| *b == b'\n').collect();
+    if lines.last().is_some_and(|l| l.is_empty()) {
+        lines.pop();
+    }
+    lines
+}
+
+fn answer_line(table: &[u8], line: &[u8]) -> String {
+    let Some(question) = question(line) else { return "refused line\n".to_string() };
+    match decide(table, &question) {
+        Err(number) => format!("refused {number}\n"),
+        Ok(answer) => {
+            let access = match answer.access {
+                Access::None => "NONE",
+                Access::Read => "READ",
+                Access::Write => "WRITE",
+            };
+            let log = if answer.trap { "TRAPWRITE" } else { "NOTRAPWRITE" };
+            format!("{access} {log}\n")
+        }
+    }
+}
+
+/// The question of a line, if it has the form.
+pub fn question(line: &[u8]) -> Option<Question<'_>> {
+    if line.len() > LINE_BYTES {
+        return None;
+    }
+    let parts: Vec<&[u8]> = line.split(|b| *b == b' ').collect();
+    let [group, user, host, level, given @ ..] = &parts[..] else { return None };
+    if parts.iter().any(|part| part.is_empty()) {
+        return None;
+    }
+    let [digit @ b'0'..=b'9'] = level else { return None };
+    Some(Question {
+        group: if *group == b"-" { b"" } else { group },
+        user,
+        host,
+        level: digit - b'0',
+        readings: readings(given)?,
+    })
+}
+
+/// A letter may be named once.
+fn readings(parts: &[&[u8]]) -> Option<Readings> {
+    let mut readings = [None; LETTERS];
+    for part in parts {
+        let [letter @ b'A'..=b'U', b':', text @ ..] = part else { return None };
+        let place = &mut readings[usize::from(letter - b'A')];
+        if place.is_some() {
+            return None;
+        }
+        *place = Some(reading(text)?);
+    }
+    Some(readings.map(|r| r.unwrap_or(Reading::NeverHeard)))
+}
+
+fn reading(text: &[u8]) -> Option<Reading> {
+    match text {
+        b"inv" => Some(Reading::Invalid),
+        b"nan" => Some(Reading::Value(f64::NAN)),
+        b"inf" => Some(Reading::Value(f64::INFINITY)),
+        b"-inf" => Some(Reading::Value(f64::NEG_INFINITY)),
+        [b'-', digits @ ..] => Some(Reading::Value(-number(digits)?)),
+        _ => Some(Reading::Value(number(text)?)),
+    }
+}

@@ -1,0 +1,114 @@
+//! The question: the decision, and the look-up of an input's name.
+
+use crate::calculation::{holds, parse, Readings};
+use crate::table::{is_table, Run, StoredRule, View, ACCESS_GROUPS, UNDEFINED};
+use crate::LETTERS;
+
+#[derive(Clone, Copy, Debug, PartialEq, Eq, PartialOrd, Ord)]
+pub enum Access {
+    None,
+    Read,
+    Write,
+}
+
+#[derive(Clone, Copy, Debug, PartialEq, Eq)]
+pub struct Answer {
+    pub access: Access,
+    pub trap: bool,
+}
+
+/// A question without its table.
+#[derive(Clone, Copy, Debug)]
+pub struct Question<'a> {
+    pub group: &'a [u8],
+    pub user: &'a [u8],
+    pub host: &'a [u8],
+    pub level: u8,
+    pub readings: Readings,
+}
+
+const NOTHING: Answer = Answer { access: Access::None, trap: false };
+
+/// The answer, or refusal 20 or 21.
+pub fn decide(table: &[u8], question: &Question) -> Result<Answer, u8> {
+    if !is_table(table) {
+        return Err(20);
+    }
+    decide_checked(table, question)
+}
+
+/// The same for bytes that are a table.
+pub fn decide_checked(table: &[u8], question: &Question) -> Result<Answer, u8> {
+    if question.level > 1 {
+        return Err(21);
+    }
+    let view = View::open(table).ok_or(20)?;
+    let Some(group) = answering_group(&view, question.group) else { return Ok(NOTHING) };
+    let (_, _, (first, count)) = view.access_group(group);
+    let rules: Vec<StoredRule> = (first..first + count).map(|n| view.rule(n)).collect();
+    let passing: Vec<&StoredRule> = rules.iter().filter(|rule| passes(&view, rule, question)).collect();
+    Ok(Answer {
+        access: passing.iter().map(|rule| access_of(rule)).max().unwrap_or(Access::None),
+        trap: passing.iter().find(|r| access_of(r) == Access::Write).is_some_and(|r| r.traps()),
+    })
+}
+
+fn access_of(rule: &StoredRule) -> Access {
+    match rule.permission() {
+        0 => Access::None,
+        1 => Access::Read,
+        _ => Access::Write,
+    }
+}
+
+/// An empty name goes to DEFAULT, any other to the first group of that name,
+/// or to DEFAULT.
+fn answering_group(view: &View, name: &[u8]) -> Option<usize> {
+    let first = |wanted: &[u8]| {
+        (0..view.count(ACCESS_GROUPS)).find(|n| view.string(view.access_group(*n).0) == wanted)
+    };
+    let named = if name.is_empty() { None } else { first(name) };
+    named.or_else(|| first(b"DEFAULT"))
+}
+
+fn passes(view: &View, rule: &StoredRule, question: &Question) -> bool {
+    let host = question.host.to_ascii_lowercase();
+    !rule.is_switched_off()
+        && usize::from(question.level) <= rule.level()
+        && is_named(view, rule.users, |n| view.user_group(n).1, question.user)
+        && is_named(view, rule.hosts, |n| view.host_group(n).1, &host)
+        && calculation_holds(view, rule, question)
+}
+
+/// A member of one of the groups, or no groups named.
+fn is_named(view: &View, (first, count): Run, members: impl Fn(usize) -> Run, name: &[u8]) -> bool {
+    count == 0
+        || (first..first + count).map(|n| view.reference(n).0).any(|group| {
+            group != UNDEFINED.into() && {
+                let (first, count) = members(group);
+                (first..first + count).any(|n| view.string(view.member(n)) == name)
+            }
+        })
+}
+
+fn calculation_holds(view: &View, rule: &StoredRule, question: &Question) -> bool {
+    rule.calculation == (0, 0)
+        || parse(view.string(rule.calculation)).is_some_and(|tree| holds(&tree, &question.readings))
+}
+
+/// Where the name of a letter's first input stands, and its length; or
+/// refusal 20 or 22.
+pub fn find_input(table: &[u8], group: &[u8], letter: u8) -> Result<(usize, usize), u8> {
+    if !is_table(table) {
+        return Err(20);
+    }
+    if usize::from(letter) >= LETTERS {
+        return Err(22);
+    }
+    let view = View::open(table).ok_or(20)?;
+    let group = answering_group(&view, group).ok_or(22)?;
+    let (_, (first, count), _) = view.access_group(group);
+    let inputs = (first..first + count).map(|n| view.input(n));
+    let (_, name) = inputs.into_iter().find(|(l, _)| *l == letter.into()).ok_or(22)?;
+    Ok((view.place(name), name.1))
+}
