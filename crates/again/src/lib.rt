@@ -81,6 +81,7 @@ fn name_again(
 }
 
 // The first name or letter given again, or n.
+// Callers: loader, whose arrays hold tokens that the scanner has kept (loader/specs/Heard).
 pub fn given_again(
     s: &[u8],
     starts: &[u16],

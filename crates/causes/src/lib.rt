@@ -68,6 +68,7 @@ fn long_at(s: &[u8], starts: &[u16], ends: &[u16], roles: &[u8], n: usize, i: us
 }
 
 // The first token whose text is longer than its role allows, or n.
+// Callers: loader, whose arrays hold tokens that the scanner has kept (loader/specs/Heard).
 pub fn too_long(s: &[u8], starts: &[u16], ends: &[u16], roles: &[u8], n: usize) -> usize
     requires { ⌜ Lie (now s) (now starts) (now ends) (now roles) n ⌝ }
     ensures { λ r. ⌜ r ≡ seek too-long [] (tokens (now (s .entry)) (arrays (now (starts .entry)) (now (ends .entry))) (now (roles .entry)) 0 n) ⌝ }
@@ -98,6 +99,7 @@ fn section_of(role: u8) -> usize
 }
 
 // The first item that passes the limit of its section, or n.
+// Callers: loader, whose arrays hold tokens that the scanner has kept (loader/specs/Heard).
 pub fn too_many(s: &[u8], starts: &[u16], ends: &[u16], roles: &[u8], n: usize) -> usize
     requires { ⌜ Lie (now s) (now starts) (now ends) (now roles) n ⌝ }
     ensures { λ r. ⌜ r ≡ seek too-many [] (tokens (now (s .entry)) (arrays (now (starts .entry)) (now (ends .entry))) (now (roles .entry)) 0 n) ⌝ }
@@ -153,6 +155,7 @@ fn bad_level_at(s: &[u8], starts: &[u16], ends: &[u16], roles: &[u8], n: usize, 
 }
 
 // The first level that is neither 0 nor 1, or n.
+// Callers: loader, whose arrays hold tokens that the scanner has kept (loader/specs/Heard).
 pub fn bad_level(s: &[u8], starts: &[u16], ends: &[u16], roles: &[u8], n: usize) -> usize
     requires { ⌜ Lie (now s) (now starts) (now ends) (now roles) n ⌝ }
     ensures { λ r. ⌜ r ≡ seek bad-level [] (tokens (now (s .entry)) (arrays (now (starts .entry)) (now (ends .entry))) (now (roles .entry)) 0 n) ⌝ }
@@ -182,6 +185,7 @@ fn unknown_at(s: &[u8], starts: &[u16], ends: &[u16], roles: &[u8], n: usize, i:
 }
 
 // The first permission or log option that is no known word, or n.
+// Callers: loader, whose arrays hold tokens that the scanner has kept (loader/specs/Heard).
 pub fn unknown_word(s: &[u8], starts: &[u16], ends: &[u16], roles: &[u8], n: usize) -> usize
     requires { ⌜ Lie (now s) (now starts) (now ends) (now roles) n ⌝ }
     ensures { λ r. ⌜ r ≡ seek unknown-word [] (tokens (now (s .entry)) (arrays (now (starts .entry)) (now (ends .entry))) (now (roles .entry)) 0 n) ⌝ }
@@ -273,6 +277,7 @@ fn bad_calculation_at(
 }
 
 // The first calculation that is not allowed, or n.
+// Callers: loader, whose arrays hold tokens that the scanner has kept (loader/specs/Heard).
 pub fn bad_calculation(s: &[u8], starts: &[u16], ends: &[u16], roles: &[u8], n: usize) -> usize
     requires { ⌜ Lie (now s) (now starts) (now ends) (now roles) n ⌝ }
     ensures { λ r. ⌜ r ≡ seek bad-calculation [] (tokens (now (s .entry)) (arrays (now (starts .entry)) (now (ends .entry))) (now (roles .entry)) 0 n) ⌝ }

@@ -259,6 +259,7 @@ fn fraction_at(s: &[u8], at: usize, left: usize, n: u64) -> Figure
     }
 }
 
+// The number that begins at a byte. Callers have seen a digit or a point there.
 pub fn number_at(s: &[u8], at: usize) -> Figure
     requires { ⌜ (at < length (now s)) × (numeral-byte (getD (now s) at 0) ≡ true) ⌝ }
     ensures { λ r. ⌜ Numbered (now (s .entry)) at r ⌝ }

@@ -148,7 +148,7 @@ pub extern "C" fn hrazvanut_decide(
     answer_number(answer::decide(table, group, user, host, level, rs))
 }
 
-// The one that asks something of its caller: the bytes are a table.
+// The one that asks something of its caller: hrazvanut_is_table has said 1 of the same bytes.
 #[no_mangle]
 pub extern "C" fn hrazvanut_decide_checked(
     table: &[u8],

@@ -215,6 +215,7 @@ fn readings_allowed(line: &[u8], from: usize) -> bool
 }
 
 // The readings of a question whose level stands at a place.
+// Callers have the place from question, which says that it lies in the line (Told: Placed).
 pub fn readings(line: &[u8], level: usize) -> [Reading; 21]
     requires { ⌜ level < length (now line) ⌝ }
     ensures { λ r. ⌜ r ≡ readings-behind (now (line .entry)) level ⌝ }
@@ -266,6 +267,7 @@ pub fn question(line: &[u8]) -> Line
 }
 
 // A name of a question, from its place up to the space before the next.
+// Callers have both places from question, which says their order (Told: Placed).
 pub fn part<'a>(line: &'a [u8], from: usize, next: usize) -> &'a [u8]
     requires { ⌜ (from < next) × (next ≤ length (now line)) ⌝ }
     ensures { λ r. ⌜ now r ≡ cut from (next - 1) (now (line .entry)) ⌝ }
@@ -275,6 +277,7 @@ pub fn part<'a>(line: &'a [u8], from: usize, next: usize) -> &'a [u8]
 }
 
 // The group of a question whose user stands at a place.
+// Callers have the place from question (Told: Placed).
 pub fn group<'a>(line: &'a [u8], user: usize) -> &'a [u8]
     requires { ⌜ (0 < user) × (user ≤ length (now line)) ⌝ }
     ensures { λ r. ⌜ now r ≡ group-of (cut 0 (user - 1) (now (line .entry))) ⌝ }

@@ -8,7 +8,7 @@ ghost use Rattle.texts.specs.Lies.{Lies, All-lie, text-at};
 ghost use Rattle.texts.specs.Spot.{spot};
 ghost use Rattle.texts.specs.Listed.{Listed};
 
-// The text of a token.
+// The text of a token. Inner, as all here: callers know from the scanner's promise (kept/specs/Stores: Good) that it lies in the file.
 pub fn text<'a>(s: &'a [u8], starts: &[u16], ends: &[u16], i: usize) -> &'a [u8]
     requires { ⌜ Lies (now s) (now starts) (now ends) i ⌝ }
     ensures { λ r. ⌜ now r ≡ text-at (now (s .entry)) (now (starts .entry)) (now (ends .entry)) i ⌝ }

@@ -88,6 +88,7 @@ fn put_place(at: &mut [u16], skip: usize, k: usize, place: u16)
 }
 
 // How many warnings there are. Those from the skip-th on are written, as many as there is room for.
+// The caller, loader, has the tokens from the scanner and the groups from texts::collect.
 pub fn warn(
     s: &[u8],
     starts: &[u16],

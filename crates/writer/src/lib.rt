@@ -877,6 +877,7 @@ pub enum Written {
 }
 
 // Nothing is written if there is no room for all of it. Without room a table is measured.
+// The caller, loader, has the tokens from the scanner and the groups from texts::collect.
 pub fn write(
     s: &[u8],
     starts: &[u16],
