@@ -303,7 +303,8 @@ fn put_byte(b: u8, out: &mut [u8], at: usize) -> usize
 }
 
 // A text written from a place on, as far as there is room, and the place behind it.
-fn put(text: &[u8], out: &mut [u8], at: usize) -> usize
+// Callers begin at 0 or behind another text, which ends within (Put: put-within).
+pub fn put(text: &[u8], out: &mut [u8], at: usize) -> usize
     requires { ⌜ at ≤ length (now out) ⌝ }
     ensures { λ r. ⌜ Put (now (text .entry)) (now (out .entry)) at (now (out .exit)) r ⌝ }
 {
@@ -330,13 +331,14 @@ fn put_number(n: usize, out: &mut [u8], at: usize) -> usize
     put_byte(48 + ((n % 10) as u8), out, next)
 }
 
-fn put_access(a: Access, out: &mut [u8]) -> usize
-    ensures { λ r. ⌜ Put (access-word a) (now (out .entry)) 0 (now (out .exit)) r ⌝ }
+fn put_access(a: Access, out: &mut [u8], at: usize) -> usize
+    requires { ⌜ at ≤ length (now out) ⌝ }
+    ensures { λ r. ⌜ Put (access-word a) (now (out .entry)) at (now (out .exit)) r ⌝ }
 {
     match a {
-        Access::None => put(b"NONE", out, 0),
-        Access::Read => put(b"READ", out, 0),
-        Access::Write => put(b"WRITE", out, 0),
+        Access::None => put(b"NONE", out, at),
+        Access::Read => put(b"READ", out, at),
+        Access::Write => put(b"WRITE", out, at),
     }
 }
 
@@ -350,46 +352,51 @@ fn put_trap(trap: bool, out: &mut [u8], at: usize) -> usize
     put(b" NOTRAPWRITE", out, at)
 }
 
-// What is printed for an answer, written into the bytes lent as far as they reach, and how many bytes that is.
-pub fn answer_text(a: Answer, out: &mut [u8]) -> usize
-    ensures { λ r. ⌜ Put (answer-text a) (now (out .entry)) 0 (now (out .exit)) r ⌝ }
+// What is printed for an answer, written from a place on as far as there is room, and the place behind it.
+pub fn answer_text(a: Answer, out: &mut [u8], at: usize) -> usize
+    requires { ⌜ at ≤ length (now out) ⌝ }
+    ensures { λ r. ⌜ Put (answer-text a) (now (out .entry)) at (now (out .exit)) r ⌝ }
 {
     match a {
         Answer::Answered { access, trap } => {
-            let at = put_access(access, out);
-            put_trap(trap, out, at)
+            let next = put_access(access, out, at);
+            put_trap(trap, out, next)
         }
-        Answer::NotTable => put(b"refused 20", out, 0),
-        Answer::BadLevel => put(b"refused 21", out, 0),
+        Answer::NotTable => put(b"refused 20", out, at),
+        Answer::BadLevel => put(b"refused 21", out, at),
     }
 }
 
 // The same for a line that is refused.
-pub fn refused_text(out: &mut [u8]) -> usize
-    ensures { λ r. ⌜ Put refused-line (now (out .entry)) 0 (now (out .exit)) r ⌝ }
+pub fn refused_text(out: &mut [u8], at: usize) -> usize
+    requires { ⌜ at ≤ length (now out) ⌝ }
+    ensures { λ r. ⌜ Put refused-line (now (out .entry)) at (now (out .exit)) r ⌝ }
 {
-    put(b"refused line", out, 0)
+    put(b"refused line", out, at)
 }
 
-fn put_placed(word: &[u8], n: usize, p: usize, out: &mut [u8]) -> usize
-    ensures { λ r. ⌜ Put (placed (now (word .entry)) n p) (now (out .entry)) 0 (now (out .exit)) r ⌝ }
+fn put_placed(word: &[u8], n: usize, p: usize, out: &mut [u8], at: usize) -> usize
+    requires { ⌜ at ≤ length (now out) ⌝ }
+    ensures { λ r. ⌜ Put (placed (now (word .entry)) n p) (now (out .entry)) at (now (out .exit)) r ⌝ }
 {
-    let a = put(word, out, 0);
+    let a = put(word, out, at);
     let b = put_number(n, out, a);
     let c = put(b" at ", out, b);
     put_number(p, out, c)
 }
 
 // The same for a refusal of a file.
-pub fn refusal_text(n: usize, p: usize, out: &mut [u8]) -> usize
-    ensures { λ r. ⌜ Put (refusal-text n p) (now (out .entry)) 0 (now (out .exit)) r ⌝ }
+pub fn refusal_text(n: usize, p: usize, out: &mut [u8], at: usize) -> usize
+    requires { ⌜ at ≤ length (now out) ⌝ }
+    ensures { λ r. ⌜ Put (refusal-text n p) (now (out .entry)) at (now (out .exit)) r ⌝ }
 {
-    put_placed(b"refusal ", n, p, out)
+    put_placed(b"refusal ", n, p, out, at)
 }
 
 // The same for a warning.
-pub fn warning_text(n: usize, p: usize, out: &mut [u8]) -> usize
-    ensures { λ r. ⌜ Put (warning-text n p) (now (out .entry)) 0 (now (out .exit)) r ⌝ }
+pub fn warning_text(n: usize, p: usize, out: &mut [u8], at: usize) -> usize
+    requires { ⌜ at ≤ length (now out) ⌝ }
+    ensures { λ r. ⌜ Put (warning-text n p) (now (out .entry)) at (now (out .exit)) r ⌝ }
 {
-    put_placed(b"warning ", n, p, out)
+    put_placed(b"warning ", n, p, out, at)
 }
