@@ -19,17 +19,17 @@ pub record Put (ws b : List ℕ) (at : ℕ) (c : List ℕ) (r : ℕ) : Type 0 wh
   pub bytes : c ≡ sets b at ws
   pub end : r ≡ reached (length b) (at + length ws)
 
-reached-fits : (room n : ℕ) → n ≤ room → reached room n ≡ n
+pub reached-fits : (room n : ℕ) → n ≤ room → reached room n ≡ n
 reached-fits room n h = rw (le-leb n room h)
 
-reached-full : (room n : ℕ) → room ≤ n → reached room n ≡ room
+pub reached-full : (room n : ℕ) → room ≤ n → reached room n ≡ room
 reached-full room n h = go (leb n room) refl
   where
     go : (t : Bool) → leb n room ≡ t → cond t n room ≡ room
     go true e = let z = leb-true n room e in omega arith
     go false e = refl
 
-reached-within : (room n : ℕ) → reached room n ≤ room
+pub reached-within : (room n : ℕ) → reached room n ≤ room
 reached-within room n = go (leb n room) refl
   where
     go : (t : Bool) → leb n room ≡ t → cond t n room ≤ room
@@ -37,7 +37,7 @@ reached-within room n = go (leb n room) refl
     go false e = omega arith
 
 -- past the end nothing is written
-sets-out : (vs b : List ℕ) (i : ℕ) → length b ≤ i → sets b i vs ≡ b
+pub sets-out : (vs b : List ℕ) (i : ℕ) → length b ≤ i → sets b i vs ≡ b
 sets-out [] b i h = refl
 sets-out (v ∷ vs) b i h = ap (λ (l : List ℕ). sets l (suc i) vs) (set-out b i v h) ∙ sets-out vs b (suc i) (omega arith)
 

@@ -1,0 +1,5 @@
+pub mod Input
+pub mod Pieces
+pub mod Held
+pub mod Steps
+pub mod Saying
