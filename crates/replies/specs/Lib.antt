@@ -3,3 +3,4 @@ pub mod Pieces
 pub mod Held
 pub mod Steps
 pub mod Saying
+pub mod Room

@@ -18,7 +18,7 @@ printed-by table h (p ∷ ps) = replies table (parted (h ++ p) .lines) ++ printe
 -- ---- one line
 
 -- what is known of a byte before others, where it is known whether it is a newline
-by-first : (b : ℕ) (l : List ℕ) (t : Bool) → ends-line b ≡ t → plain (b ∷ l) ≡ true → (not t && plain l) ≡ true
+pub by-first : (b : ℕ) (l : List ℕ) (t : Bool) → ends-line b ≡ t → plain (b ∷ l) ≡ true → (not t && plain l) ≡ true
 by-first b l t e k = subst (λ (x : Bool). (not x && plain l) ≡ true) e k
 
 pub plain-parted : (l : List ℕ) → plain l ≡ true → parted l ≡ record { lines = []; rest = l }
