@@ -1,11 +1,11 @@
 -- The parts of demands 1 and 2 that no crate below states by itself.
-use mathlib.Core.Path.{_≡_, refl}
+use mathlib.Core.Path.{_≡_, refl, ap, _∙_}
 use mathlib.Core.Bool.{true, false}
 use mathlib.Core.List.{List, _++_}
 use mathlib.Core.Option.{some}
 use Prim.Native.Nat.{ℕ, _≤_, _<_}
 use native.Mathlib.Omega.{arith}
-use lib.ListN.{length, replicate}
+use lib.ListN.{length, drop, replicate}
 use borrow.Author.Tests.{le-leb, lt-leb}
 use Rattle.grammar.specs.Reading.{Said}
 use Rattle.rule.specs.declared.Access.the-variants as access
@@ -22,7 +22,8 @@ use Rattle.decision.specs.declared.Answer.{Answer}
 use Rattle.decision.specs.declared.Answer.the-variants.{Answered, NotTable, BadLevel}
 use Rattle.decision.specs.Decision.{number, access-in, trap-in, decide}
 use Rattle.demand.specs.ByFile.{answer-by-file}
-use Rattle.demand.specs.Loaded.{fits, decided}
+use Rattle.demand.specs.Calls.{is-accepted}
+use Rattle.demand.specs.Loaded.{stored, fits, decided}
 
 pub refused-grants-nothing : (b : List ℕ) (q : Question) (n : ℕ) → number (decide b q) ≡ some n → (access-in (decide b q) ≡ access.None) × (trap-in (decide b q) ≡ false)
 refused-grants-nothing b q n e = by (decide b q) e
@@ -46,6 +47,12 @@ not-laid-down lent s xs a l = rw (acceptable-is s xs a, lt-leb (length (table-of
 
 pub stands : (s : List ℕ) (xs : List Said) → Acceptable s xs → (rest : List ℕ) → (is-table (table-of (file-of xs) ++ rest) ≡ true) × (length (table-of (file-of xs)) ≤ greatest-table)
 stands s xs a rest = let f = fits s xs (acceptable-is s xs a) in (is-a-table (file-of xs) f rest, table-length (file-of xs) f)
+
+-- what an accepted load leaves is a table
+pub leaves-table : (lent s : List ℕ) → is-accepted (load lent s .answer) ≡ true → is-table (load lent s .bytes) ≡ true
+leaves-table lent s e =
+    let k = stored lent s e in
+    ap is-table (k .bytes) ∙ is-a-table (file-of (k .said)) (fits s (k .said) (k .accepted)) (drop (length (table-of (file-of (k .said)))) lent)
 
 pub answers-by-file : (s : List ℕ) (xs : List Said) → Acceptable s xs → (rest : List ℕ) (q : Question) → decide (table-of (file-of xs) ++ rest) q ≡ answer-by-file (file-of xs) q
 answers-by-file s xs a rest q = decided (file-of xs) (fits s xs (acceptable-is s xs a)) rest q

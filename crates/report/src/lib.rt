@@ -12,7 +12,7 @@ ghost use Rattle.file.specs.Refusal.{number};
 pub const BEFORE: u8 = 0xA5;
 
 // How many warnings are fetched at once.
-const ROOM: usize = 8;
+const ROOM: usize = 256;
 
 // No file has more tokens than bytes, and so no more warnings.
 const MOST: usize = 16384;
@@ -57,17 +57,20 @@ pub fn read(path: &[u8], buf: &mut [u8]) -> usize
     n
 }
 
-// A line of the checker: a refusal or a warning.
-fn put_line(word: &[u8], number: usize, place: usize) {
-    put(word);
-    put_number(number);
-    put(b" at ");
-    put_number(place);
-    put(b"\n");
+// The checker's line for a refusal.
+pub fn put_refusal(k: Refusal, place: usize) {
+    let mut text = [0u8; 64];
+    let end = lines::refusal_text(refusal_number(k), place, &mut text, 0);
+    let next = lines::put(b"\n", &mut text, end);
+    put(&text[..next]);
 }
 
-pub fn put_refusal(k: Refusal, place: usize) {
-    put_line(b"refusal ", refusal_number(k), place);
+// The checker's line for a warning.
+fn put_warning(number: usize, place: usize) {
+    let mut text = [0u8; 64];
+    let end = lines::warning_text(number, place, &mut text, 0);
+    let next = lines::put(b"\n", &mut text, end);
+    put(&text[..next]);
 }
 
 fn wide(x: u8) -> usize {
@@ -82,11 +85,11 @@ fn at_most(n: usize, most: usize) -> usize
 
 // The lines of the first n warnings.
 fn put_warnings(numbers: [u8; ROOM], at: [u16; ROOM], n: usize)
-    requires { ⌜ n ≤ 8 ⌝ }
+    requires { ⌜ n ≤ 256 ⌝ }
 {
     let mut i = 0;
     while i < n {
-        put_line(b"warning ", wide(numbers[i]), kept::wide(at[i]));
+        put_warning(wide(numbers[i]), kept::wide(at[i]));
         i += 1;
     }
 }

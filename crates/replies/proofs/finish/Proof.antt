@@ -13,24 +13,19 @@ use Rattle.replies.proofs.finish.Reads as reads
 use Rattle.replies.proofs.finish.Lts as lts
 use Rattle.replies.proofs.reply.Reads as reply-reads
 
--- src/lib.rt:89:9
 returns : tie.Need-returns
 unfolding replies
 returns c = (omega arith, λ h a. put-as (ap (replies (c .before .before .before .before .args .table .now)) (none-held (c .before .before .before .before .args .held .now) h (c .before .before .before .before .args .count) (c .if1 .taken) a)) (record { bytes = refl; end = sym (reached-fits (length (c .before .before .before .before .args .out .now)) 0 (omega arith)) }))
 
--- src/lib.rt:91:18
 slice-aggregate-reply : tie.Need-slice-aggregate-reply
 slice-aggregate-reply c = sym (length-take-le _ _ (omega (arith, c .before .before .before .before .before .pre .1)))
 
--- src/lib.rt:91:5
 reply-requires : tie.Need-reply-requires
 reply-requires c κs = search needs
 
--- src/lib.rt:84:1
 same-length : tie.Need-same-length
 same-length c = search needs
 
--- src/lib.rt:84:1
 returns-2 : tie.Need-returns-2
 unfolding replies
 returns-2 c = (put-within (c .before .before .reply .ensures), λ h a. put-as (ap (replies (c .before .before .before .before .before .before .before .before .before .args .table .now)) (some-held (c .before .before .before .before .before .before .before .before .before .args .held .now) h (c .before .before .before .before .before .before .before .before .before .args .count) (omega (arith, c .before .before .before .before .before .if1 .left)) (c .before .before .before .before .before .before .before .before .before .pre .1) a) ∙ append-nil (reply (c .before .before .before .before .before .before .before .before .before .args .table .now) h) ∙ sym (reply-held (c .before .before .before .before .before .before .before .before .before .args .table .now) a)) (c .before .before .reply .ensures))

@@ -26,39 +26,30 @@ Inv-loop table piece held₀ count out₀ kept₀ printed₀ at₀ held out kept
 abbrev μ-loop : tie.MeasureT-loop
 μ-loop table piece held₀ count out₀ kept₀ printed₀ at₀ held out kept printed at = length piece - at
 
--- src/lib.rt:97:5
 loop-holds : tie.Need-loop-holds Inv-loop μ-loop
 loop-holds c = (c .before .before .before .before .pre .1, c .before .before .before .before .pre .2, omega arith, refl, omega arith, λ h a. begins (c .before .before .before .before .args .table .now) h (c .before .before .before .before .args .piece .now) (c .before .before .before .before .args .out .now) (c .before .before .before .before .args .held .now) (c .before .before .before .before .args .count) a)
 
--- src/lib.rt:98:13
 find-requires : tie.Need-find-requires Inv-loop μ-loop
 find-requires c κs = search needs
 
--- src/lib.rt:99:13
 take-line-requires : tie.Need-take-line-requires Inv-loop μ-loop
 take-line-requires c κs = (c .before .before .before .before .before .before .before .before .before .pre .0, goes (c .before .before .before .before .before .before .before .before .before .args .piece .now) (c .before .before .before .before .loop .at) (c .before .before .find .result) (omega (arith, c .before .before .before .loop-test .taken)) (c .before .before .find .ensures .0) (c .before .before .find .ensures .1), c .before .before .before .before .loop .inv .0, c .before .before .before .before .loop .inv .1, c .before .before .before .before .loop .inv .2)
 
--- src/lib.rt:102:14
 add-at : tie.Need-add-at Inv-loop μ-loop
 add-at c = search needs
 
--- src/lib.rt:97:5
 loop-less : tie.Need-loop-less Inv-loop μ-loop
 loop-less c = search needs
 
--- src/lib.rt:97:5
 loop-again : tie.Need-loop-again Inv-loop μ-loop
 loop-again c = (let z = c .before .before .before .before .before .before .before .before .before .loop .inv .0 in omega arith, c .before .before .before .before .take-line .ensures .0, c .before .before .before .before .take-line .ensures .1, let z = c .before .before .before .before .before .before .before .before .before .loop .inv .3 in omega arith, let z = c .before .before .before .before .before .before .before .find .ensures .1 in omega arith, λ h a. c .before .before .before .before .take-line .ensures .2 h (c .before .before .before .before .before .before .before .before .before .before .before .before .before .before .args .out .now) (c .before .before .before .before .before .before .before .before .before .loop .inv .5 h a))
 
--- src/lib.rt:84:1
 same-length : tie.Need-same-length Inv-loop μ-loop
 same-length c = search needs
 
--- src/lib.rt:84:1
 same-length-2 : tie.Need-same-length-2 Inv-loop μ-loop
 same-length-2 c = search needs
 
--- src/lib.rt:84:1
 returns : tie.Need-returns Inv-loop μ-loop
 returns c = (c .before .loop .inv .1, c .before .loop .inv .2, λ h a. subst (λ (s : List ℕ). Answers (c .before .before .before .before .before .before .args .table .now) h s (c .before .before .before .before .before .before .args .out .now) (c .before .loop .out) (c .before .loop .printed) (c .before .loop .held) (c .before .loop .kept)) (take-all (c .before .loop .at) (c .before .before .before .before .before .before .args .piece .now) (let z = c .loop-test .left in omega arith)) (c .before .loop .inv .5 h a))
 

@@ -14,59 +14,45 @@ use Rattle.lines.proofs.question.Reads as question-reads
 use Rattle.lines.proofs.readings.Reads as readings-reads
 use Rattle.lines.proofs.refused_text.Reads as refused-text-reads
 
--- src/lib.rt:26:11
 question-requires : tie.Need-question-requires
 question-requires c κs = search needs
 
--- src/lib.rt:27:46
 enum-told : tie.Need-enum-told
 enum-told c = search needs
 
--- src/lib.rt:27:26
 refused-text-requires : tie.Need-refused-text-requires
 refused-text-requires c κs = search needs
 
--- src/lib.rt:29:13
 enum-known-user : tie.Need-enum-known-user
 enum-known-user c = search needs
 
--- src/lib.rt:34:17
 group-requires : tie.Need-group-requires
 group-requires c κs = let o = in-order (c .before .before .before .before .before .before .before .args .line .now) (c .before .before .before .question .result) _ _ _ _ (c .before .user .given .1) (c .before .before .before .question .ensures .1) in (let z = o .a-group in omega arith, let z = o .a-user in let y = o .a-host in let w = o .within in omega arith)
 
--- src/lib.rt:35:17
 part-requires : tie.Need-part-requires
 part-requires c κs = let o = in-order (c .before .before .before .before .before .before .before .before .args .line .now) (c .before .before .before .before .question .result) _ _ _ _ (c .before .before .user .given .1) (c .before .before .before .before .question .ensures .1) in (let z = o .a-user in omega arith, let y = o .a-host in let w = o .within in omega arith)
 
--- src/lib.rt:36:17
 part-requires-2 : tie.Need-part-requires-2
 part-requires-2 c κs = let o = in-order (c .before .before .before .before .before .before .before .before .before .args .line .now) (c .before .before .before .before .before .question .result) _ _ _ _ (c .before .before .before .user .given .1) (c .before .before .before .before .before .question .ensures .1) in (let y = o .a-host in omega arith, let w = o .within in omega arith)
 
--- src/lib.rt:37:17
 readings-requires : tie.Need-readings-requires
 readings-requires c κs = (in-order (c .before .before .before .before .before .before .before .before .before .before .args .line .now) (c .before .before .before .before .before .before .question .result) _ _ _ _ (c .before .before .before .before .user .given .1) (c .before .before .before .before .before .before .question .ensures .1)) .within
 
--- src/lib.rt:38:17
 decide-checked-requires : tie.Need-decide-checked-requires
 decide-checked-requires c κs = search needs
 
--- src/lib.rt:39:13
 answer-text-requires : tie.Need-answer-text-requires
 answer-text-requires c κs = search needs
 
--- src/lib.rt:22:1
 same-length : tie.Need-same-length
 same-length c = search needs
 
--- src/lib.rt:22:1
 returns : tie.Need-returns
 returns c = put-as (says-refused (c .before .before .before .before .before .before .before .before .before .before .args .line .now) (c .before .before .before .before .before .before .question .result) (c .before .before .before .before .before .before .before .before .before .before .args .table .now) (c .before .before .before .before .enum-told .given .1) (c .before .before .before .before .before .before .question .ensures .0)) (c .before .before .refused-text .ensures)
 
--- src/lib.rt:22:1
 same-length-2 : tie.Need-same-length-2
 same-length-2 c = search needs
 
--- src/lib.rt:22:1
 returns-2 : tie.Need-returns-2
 returns-2 c = put-as (says-answer (c .before .before .before .before .before .before .before .before .before .before .before .before .before .before .before .before .args .line .now) (c .before .before .before .before .before .before .before .before .before .before .before .before .question .result) _ _ _ _ (c .before .before .before .before .before .before .before .before .before .before .user .given .1) (c .before .before .before .before .before .before .before .before .before .before .before .before .before .before .before .before .args .table .now) _ _ _ _ _ (c .before .before .before .before .before .before .before .before .before .before .before .before .question .ensures .0) (c .before .before .before .before .before .before .before .before .group .ensures) (c .before .before .before .before .before .before .before .part .ensures) (c .before .before .before .before .before .before .part2 .ensures) (c .before .before .before .before .before .readings .ensures) (c .before .before .before .before .decide-checked .ensures)) (c .before .before .answer-text .ensures)
 

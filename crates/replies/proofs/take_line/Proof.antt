@@ -12,51 +12,39 @@ use Rattle.replies.proofs.take_line.Lts as lts
 use Rattle.lines.proofs.put.Reads as put-reads
 use Rattle.replies.proofs.reply.Reads as reply-reads
 
--- src/lib.rt:68:27
 sub-put : tie.Need-sub-put
 sub-put c = search needs
 
--- src/lib.rt:68:27
 part-put-start : tie.Need-part-put-start
 part-put-start c = search needs
 
--- src/lib.rt:68:27
 part-put-end : tie.Need-part-put-end
 part-put-end c = search needs
 
--- src/lib.rt:68:9
 put-requires : tie.Need-put-requires
 put-requires c κs = search needs
 
--- src/lib.rt:70:33
 slice-reshare-prefix-reply : tie.Need-slice-reshare-prefix-reply
 slice-reshare-prefix-reply c = put-within (c .before .before .before .put .ensures)
 
--- src/lib.rt:70:33
 slice-aggregate-reply : tie.Need-slice-aggregate-reply
 slice-aggregate-reply c = sym (length-take-le _ _ (put-within (c .before .before .before .before .put .ensures)))
 
--- src/lib.rt:70:13
 reply-requires : tie.Need-reply-requires
 reply-requires c κs = search needs
 
--- src/lib.rt:71:9
 same-length : tie.Need-same-length
 same-length c = search needs
 
--- src/lib.rt:71:9
 same-length-2 : tie.Need-same-length-2
 same-length-2 c = search needs
 
--- src/lib.rt:71:9
 returns : tie.Need-returns
 returns c = (omega arith, put-within (c .before .before .reply .ensures), λ h out₀ a. ends (c .before .before .before .before .before .before .before .before .before .before .before .before .before .before .before .args .table .now) h (c .before .before .before .before .before .before .before .before .before .before .before .before .before .before .before .args .piece .now) out₀ (c .before .before .before .before .before .before .before .before .before .before .before .before .before .before .before .args .at) (c .before .before .before .before .before .before .before .before .before .before .before .before .before .before .before .args .end) _ _ (c .before .before .before .before .before .before .before .before .before .before .before .before .before .before .before .args .held .now) _ (c .before .before .before .before .before .before .before .before .before .before .before .before .before .before .before .args .printed) _ (c .before .before .before .before .before .before .before .before .before .before .before .before .before .before .before .args .count) (c .before .before .before .before .before .before .before .before .before .before .before .before .before .before .before .pre .1) (c .before .before .before .before .before .if1 .taken) a (put-as (sym (reply-held (c .before .before .before .before .before .before .before .before .before .before .before .before .before .before .before .args .table .now) (holds-more (c .before .before .before .before .before .before .before .before .before .before .before .before .before .before .before .pre .2) (a .holds) (c .before .before .before .before .before .before .before .before .before .before .before .before .before .before .before .pre .1 .line) (c .before .before .before .before .before .before .before .before .put .ensures)))) (c .before .before .reply .ensures)))
 
--- src/lib.rt:55:1
 same-length-3 : tie.Need-same-length-3
 same-length-3 c = search needs
 
--- src/lib.rt:55:1
 returns-2 : tie.Need-returns-2
 returns-2 c = (let z = put-within (c .before .before .before .put .ensures) in let y = put-length (c .before .before .before .put .ensures) in let x = c .before .before .before .before .before .before .before .before .before .before .pre .2 in omega arith, c .before .before .before .before .before .before .before .before .before .before .pre .4, λ h out₀ a. goes-on (c .before .before .before .before .before .before .before .before .before .before .args .table .now) h (c .before .before .before .before .before .before .before .before .before .before .args .piece .now) out₀ (c .before .before .before .before .before .before .before .before .before .before .args .at) (c .before .before .before .before .before .before .before .before .before .before .args .end) _ (c .before .before .before .before .before .before .before .before .before .before .args .held .now) _ (c .before .before .before .before .before .before .before .before .before .before .args .printed) (c .before .before .before .before .before .before .before .before .before .before .args .count) _ (c .before .before .before .before .before .before .before .before .before .before .pre .1) (let z = c .before .before .before .before .before .before .before .before .before .before .pre .1 .within in let y = c .if1 .left in omega arith) a (holds-more (c .before .before .before .before .before .before .before .before .before .before .pre .2) (a .holds) (c .before .before .before .before .before .before .before .before .before .before .pre .1 .line) (c .before .before .before .put .ensures)))
 

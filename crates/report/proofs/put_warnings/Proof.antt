@@ -7,16 +7,13 @@ use Rattle.report.proofs.put_warnings.Tie as tie
 use Rattle.kept.proofs.wide.Reads as wide-reads′
 
 abbrev Inv-loop : tie.InvT-loop
-Inv-loop n numbers at i₀ t7 i = (length numbers ≡ 8) × (length at ≡ 8)
+Inv-loop n numbers at i₀ i = (length numbers ≡ 256) × (length at ≡ 256)
 
 abbrev μ-loop : tie.MeasureT-loop
-μ-loop n numbers at i₀ t7 i = n - i
+μ-loop n numbers at i₀ i = n - i
 
 loop-holds : tie.Need-loop-holds Inv-loop μ-loop
 loop-holds c = search needs
-
-slice-aggregate-put-line : tie.Need-slice-aggregate-put-line Inv-loop μ-loop
-slice-aggregate-put-line c = search needs
 
 array-read-wide : tie.Need-array-read-wide Inv-loop μ-loop
 array-read-wide c = search needs
@@ -33,8 +30,8 @@ array-read-wide-2 c = search needs
 wide-requires-2 : tie.Need-wide-requires-2 Inv-loop μ-loop
 wide-requires-2 c κs = search needs
 
-put-line-requires : tie.Need-put-line-requires Inv-loop μ-loop
-put-line-requires c κs = search needs
+put-warning-requires : tie.Need-put-warning-requires Inv-loop μ-loop
+put-warning-requires c κs = search needs
 
 add-i : tie.Need-add-i Inv-loop μ-loop
 add-i c = search needs
@@ -55,13 +52,12 @@ put-warnings-spec =
     Inv-loop
     μ-loop
     loop-holds
-    slice-aggregate-put-line
     array-read-wide
     wide-requires
     mul-wide
     array-read-wide-2
     wide-requires-2
-    put-line-requires
+    put-warning-requires
     add-i
     loop-less
     loop-again
