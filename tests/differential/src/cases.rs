@@ -1,9 +1,9 @@
 //! The cases: what is made, and what is asked of it.
 
 use crate::compare::{Comparison, Go};
-use crate::generate::question::{good, Names, Owned};
-use crate::generate::{calculation, file, question, table};
-use crate::random::Random;
+use inputs::question::{good, Names, Owned};
+use inputs::random::Random;
+use inputs::{calculation, file, question, table};
 use paper::calculation::{parse, value};
 use paper::{LETTERS, TABLE_BYTES};
 

@@ -1,9 +1,9 @@
 //! One comparison: ask both, hold the answers and all lent bytes against each
 //! other, count.
 
-use crate::generate::question::Owned;
-use crate::random::Random;
-use library::{Decision, Found, List, Load};
+use inputs::question::Owned;
+use inputs::random::Random;
+use library::{Asked, Decision, Found, List, Load};
 use paper::Access;
 use std::collections::BTreeMap;
 use std::fmt::Debug;
@@ -112,12 +112,12 @@ impl Comparison {
         let paper = decision_by_paper(table, question);
         self.count(format!("decide {:2} {} {}", paper.refusal, paper.access, paper.trap));
         let describe = |name: &str| format!("{name}\ntable {}\n{}", hex(table), described(question));
-        self.same(paper, library::decide(table, &question.asked()), || describe("decide"))?;
+        self.same(paper, library::decide(table, &asked(question)), || describe("decide"))?;
         if !paper::is_table(table) || library::is_table(table) != 1 {
             return Ok(());
         }
         // SAFETY: the library has just said 1 of these bytes.
-        let library = unsafe { library::decide_checked(table, &question.asked()) };
+        let library = unsafe { library::decide_checked(table, &asked(question)) };
         self.same(paper, library, || describe("decide_checked"))
     }
 
@@ -159,6 +159,18 @@ fn list_by_paper(text: &[u8], skip: usize, numbers: &mut [u8], places: &mut [u16
         *to = warning.place as u16;
     }
     List { number: warnings.len() as u16, refusal: 0, rest: 0 }
+}
+
+/// As the library is asked.
+fn asked(question: &Owned) -> Asked<'_> {
+    Asked {
+        group: &question.group,
+        user: &question.user,
+        host: &question.host,
+        level: question.level,
+        states: &question.states,
+        values: &question.values,
+    }
 }
 
 fn decision_by_paper(table: &[u8], question: &Owned) -> Decision {

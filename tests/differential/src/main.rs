@@ -9,11 +9,9 @@
 
 mod cases;
 mod compare;
-mod generate;
-mod random;
 
 use compare::{Comparison, Stop};
-use random::Random;
+use inputs::random::Random;
 use std::process::exit;
 
 fn usage() -> ! {

@@ -1,8 +1,8 @@
 //! Near misses: one byte, word or token that may not stand there.
 
 use super::words::{any_token, joined, one_of, text_of, words, Token};
-use crate::generate::{damage_bytes, with_byte};
 use crate::random::Random;
+use crate::{damage_bytes, with_byte};
 
 const BYTE_TEMPLATES: [&str; 12] = [
     "UAG(a@b)",

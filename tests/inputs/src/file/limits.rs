@@ -3,7 +3,7 @@
 use super::near::damage_tokens;
 use super::words::{must_part, one_of, word, words, Token};
 use super::{right, tokens, Wrong};
-use crate::generate::damage_bytes;
+use crate::damage_bytes;
 use crate::random::Random;
 use paper::{FILE_BYTES, LETTERS};
 

@@ -1,11 +1,13 @@
-//! The inputs: files, tables, questions, calculations.
+//! Inputs made from a seed: files, tables, questions, calculations, lines.
+#![forbid(unsafe_code)]
 
 pub mod calculation;
 pub mod file;
 pub mod question;
+pub mod random;
 pub mod table;
 
-use crate::random::Random;
+use random::Random;
 
 /// Change some bytes: flip, set, take out, put in, cut off, repeat a part.
 pub fn damage_bytes(random: &mut Random, text: &mut Vec<u8>, alphabet: &[u8]) {

@@ -1,7 +1,6 @@
 //! Questions to a table, and readings.
 
 use crate::random::Random;
-use library::Asked;
 use paper::table::{self, Run, Text, View, UNDEFINED};
 use paper::{Question, Reading, Readings, LETTERS};
 
@@ -132,18 +131,6 @@ pub struct Owned {
 }
 
 impl Owned {
-    /// As the library is asked.
-    pub fn asked(&self) -> Asked<'_> {
-        Asked {
-            group: &self.group,
-            user: &self.user,
-            host: &self.host,
-            level: self.level,
-            states: &self.states,
-            values: &self.values,
-        }
-    }
-
     /// As `paper` is asked.
     pub fn question(&self) -> Question<'_> {
         Question {
