@@ -121,7 +121,8 @@ fn number(random: &mut Random) -> Vec<u8> {
     digits_and_point(random, digits)
 }
 
-fn digits_and_point(random: &mut Random, digits: usize) -> Vec<u8> {
+/// So many digits, mostly with a point before one of them.
+pub fn digits_and_point(random: &mut Random, digits: usize) -> Vec<u8> {
     let mut text: Vec<u8> = (0..digits).map(|_| b'0' + random.below(10) as u8).collect();
     if random.percent(60) {
         text.insert(random.below(digits), b'.');

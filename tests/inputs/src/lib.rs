@@ -3,6 +3,7 @@
 
 pub mod calculation;
 pub mod file;
+pub mod lines;
 pub mod question;
 pub mod random;
 pub mod table;

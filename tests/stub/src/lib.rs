@@ -6,10 +6,9 @@
 use paper::{Access, Answer, Question, Reading, Refusal, LETTERS};
 use std::sync::OnceLock;
 
-/// How many faults there are: 1 to this.
-pub const FAULTS: u32 = 22;
-
-fn fault(number: u32) -> bool {
+/// Whether this fault is the chosen one. 1 to 22 are of the library, 23 to 38
+/// of the asker, 39 to 44 of the checker.
+pub fn fault(number: u32) -> bool {
     static CHOSEN: OnceLock<u32> = OnceLock::new();
     let chosen = CHOSEN.get_or_init(|| {
         let given = std::env::var("HRAZVANUT_FAULT").ok();

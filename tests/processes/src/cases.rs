@@ -1,0 +1,72 @@
+//! The cases: a file for the checker, or rules and lines for the asker.
+
+use crate::compare::{Bench, Go, Rules};
+use crate::process::How;
+use inputs::question::Names;
+use inputs::random::Random;
+use inputs::{file, lines};
+use paper::{programs, TABLE_BYTES};
+
+/// A run of the asker takes many lines, so there are more of the checker.
+pub fn run(random: &mut Random, bench: &mut Bench) -> Go {
+    if random.percent(12) {
+        of_lines(random, bench)
+    } else {
+        of_file(random, bench)
+    }
+}
+
+fn of_file(random: &mut Random, bench: &mut Bench) -> Go {
+    let text = match random.below(50) {
+        0 => Vec::new(),
+        1 => lines::huge_file(random),
+        _ => file::any(random),
+    };
+    let how = how(random, &text);
+    bench.check(&text, &how, programs::check(&text).as_bytes())
+}
+
+fn of_lines(random: &mut Random, bench: &mut Bench) -> Go {
+    let rules = lines::rules(random);
+    let text = rules.as_deref().unwrap_or_default();
+    let names = Names::of(&table_of(text));
+    let count = if random.percent(40) { random.between(1, 30) } else { random.between(500, 4000) };
+    let input = lines::input(random, &names, count);
+    let how = how(random, &input);
+    let expected = programs::ask(text, &input);
+    bench.ask(Rules::Text(rules.as_deref()), &input, &how, expected.as_bytes())
+}
+
+/// The table that `paper` makes of a text; no bytes if it refuses.
+fn table_of(text: &[u8]) -> Vec<u8> {
+    let mut lent = vec![0; TABLE_BYTES];
+    let length = paper::load(text, &mut lent).map_or(0, |loaded| loaded.length);
+    lent.truncate(length);
+    lent
+}
+
+/// Pieces end anywhere: in a line, just before or behind a newline.
+fn how(random: &mut Random, input: &[u8]) -> How {
+    match random.below(10) {
+        0..=4 => How::Pipe,
+        5..=6 => How::File,
+        7 if input.len() <= 60 => How::Pieces((1..input.len()).collect()),
+        _ => {
+            let mut ends: Vec<usize> = (0..random.between(1, 12)).map(|_| piece_end(random, input)).collect();
+            ends.sort();
+            How::Pieces(ends)
+        }
+    }
+}
+
+fn piece_end(random: &mut Random, input: &[u8]) -> usize {
+    let place = random.below(input.len() + 1);
+    let newline = input[place..].iter().position(|b| *b == b'\n').map_or(input.len(), |n| place + n);
+    match random.below(6) {
+        0 => newline,
+        1 => input.len().min(newline + 1),
+        2 => input.len() - input.len().min(random.below(4)),
+        3 => input.len().min(random.below(600)),
+        _ => place,
+    }
+}

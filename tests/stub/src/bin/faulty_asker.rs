@@ -1,0 +1,73 @@
+//! The asker by `paper`, with a fault of its own: HRAZVANUT_FAULT, 23 to 38.
+
+use std::io::{self, Read, Write};
+use stub::fault;
+
+/// What the line would be read as, if it is misread. None if it is skipped.
+fn misread(line: &[u8]) -> Option<Vec<u8>> {
+    let parts = || line.split(|b| *b == b' ');
+    let changed = |from: u8, to: u8| line.iter().map(|b| if *b == from { to } else { *b }).collect();
+    Some(match line {
+        [] if fault(23) => return None,
+        _ if fault(24) && line.len() == 255 => Vec::new(),
+        _ if fault(25) && line.len() == 256 => line[..255].to_vec(),
+        _ if fault(26) && line.len() > 256 => [&line[..256], b"\n", &line[256..]].concat(),
+        _ if fault(27) => changed(b'\t', b' '),
+        [start @ .., b'\r'] if fault(28) => start.to_vec(),
+        [start @ .., b' '] if fault(29) => start.to_vec(),
+        _ if fault(30) => {
+            let mut seen = Vec::new();
+            let first = |part: &&[u8]| {
+                let again = part.get(1) == Some(&b':') && seen.contains(&part[0]);
+                seen.extend(part.first());
+                !again
+            };
+            parts().filter(first).collect::<Vec<_>>().join(&b' ')
+        }
+        _ if fault(31) && parts().nth(3).is_some_and(|level| matches!(level, [b'2'..=b'9'])) => {
+            parts().take(4).collect::<Vec<_>>().join(&b' ')
+        }
+        _ if fault(32) => line.split(|b| *b == 0).next().unwrap_or_default().to_vec(),
+        _ if fault(33) && line.ends_with(b":-nan") => [&line[..line.len() - 4], b"nan"].concat(),
+        _ => line.to_vec(),
+    })
+}
+
+/// All of standard input; with fault 34 a short read is taken for its end.
+fn input() -> io::Result<Vec<u8>> {
+    let mut stdin = io::stdin().lock();
+    let (mut all, mut part) = (Vec::new(), [0; 4096]);
+    loop {
+        let count = stdin.read(&mut part)?;
+        all.extend(&part[..count]);
+        if count == 0 || fault(34) && count < part.len() {
+            return Ok(all);
+        }
+    }
+}
+
+fn main() -> io::Result<()> {
+    let mut rules = std::fs::read("rules.acf").ok();
+    if fault(35) && rules.is_none() {
+        return Ok(());
+    }
+    if let Some(text) = rules.as_mut().filter(|_| fault(36)) {
+        text.truncate(16_384); // a longer file is cut
+    }
+    let mut all = input()?;
+    if fault(37) && !all.ends_with(b"\n") {
+        let end = all.iter().rposition(|b| *b == b'\n').map_or(0, |place| place + 1);
+        all.truncate(end);
+    }
+    while fault(38) && all.is_empty() {} // hangs
+    let ended = all.ends_with(b"\n");
+    let mut lines: Vec<&[u8]> = all.split(|b| *b == b'\n').collect();
+    if ended {
+        lines.pop();
+    }
+    let mut misread: Vec<u8> = lines.into_iter().filter_map(misread).collect::<Vec<_>>().join(&b'\n');
+    if ended {
+        misread.push(b'\n');
+    }
+    io::stdout().write_all(paper::programs::ask(&rules.unwrap_or_default(), &misread).as_bytes())
+}
