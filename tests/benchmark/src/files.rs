@@ -1,4 +1,4 @@
-//! The three files. Each loads in EPICS 7.0.3.1 too: groups are defined before
+//! The four files. Each loads in EPICS 7.0.3.1 too: groups are defined before
 //! the rules that name them, letters are A to L, nothing is unknown.
 
 /// A file with the question that is asked of it.
@@ -18,16 +18,30 @@ struct Size {
     loose: bool,
 }
 
-pub fn samples() -> [Sample; 3] {
+/// The paper's example.
+const SMALL: &str =
+    "ASG(DEFAULT) {INPA(B1:PGA) RULE(1,READ) RULE(1,WRITE,TRAPWRITE) {CALC(\"A>0.3?0:1\")}}\n";
+
+/// Three towers and a pump house.
+const SITE: &str = include_str!("site.acf");
+
+/// Each is asked so that a calculation decides.
+pub fn samples() -> [Sample; 4] {
     [
-        sample("small", Size { groups: 4, members: 4, access_groups: 4, loose: true }),
-        sample("site", Size { groups: 14, members: 8, access_groups: 18, loose: true }),
-        sample("full", Size { groups: 64, members: 4, access_groups: 64, loose: false }),
+        written("small", SMALL, "DEFAULT", "ann", "pc1"),
+        written("site", SITE, "towers", "eli", "pc4"),
+        made("large", Size { groups: 14, members: 8, access_groups: 18, loose: true }),
+        made("full", Size { groups: 64, members: 4, access_groups: 64, loose: false }),
     ]
 }
 
+fn written(name: &'static str, text: &str, group: &str, user: &str, host: &str) -> Sample {
+    let [text, group, user, host] = [text, group, user, host].map(str::to_string);
+    Sample { name, text, group, user, host }
+}
+
 /// The last group is asked for, by the last user from the last host.
-fn sample(name: &'static str, size: Size) -> Sample {
+fn made(name: &'static str, size: Size) -> Sample {
     let mut text = String::new();
     for (keyword, letter) in [("UAG", 'p'), ("HAG", 'c')] {
         for i in 0..size.groups {

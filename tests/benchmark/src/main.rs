@@ -1,15 +1,18 @@
 //! Times of the static library beside `paper`'s and, where it is installed,
 //! EPICS's, in one run: `benchmark [ROUNDS]` (default 501). Each figure is the
-//! median of that many short batches, the contenders taking turns.
+//! median or the best of that many short batches, the contenders taking turns.
+//! The last line has the greatest ratios to EPICS.
 
 mod epics;
 mod files;
 mod measure;
+mod ratios;
 
 use epics::{Asked, Epics};
 use files::Sample;
-use measure::{medians, Timed};
+use measure::{times, Timed};
 use paper::{Access, Question, Reading, LETTERS, TABLE_BYTES};
+use ratios::{Kind, Ratios};
 use std::ffi::CString;
 use std::hint::black_box;
 
@@ -90,16 +93,20 @@ impl Prepared<'_> {
         }
     }
 
-    fn row(&self, name: &str, epics_name: &str, mut timed: Vec<Timed>) {
-        let times = medians(&mut timed, self.rounds);
-        let ours = format!("{:12.0}{:12.0}{:8.2}", times[0], times[1], times[0] / times[1]);
-        match times.get(2) {
-            Some(e) => println!("  {name:38}{ours}{e:12.0}{:8.2}  {epics_name}", times[0] / e),
-            None => println!("  {name:38}{ours}"),
-        }
+    /// A line of times: library, `paper`, and EPICS if it is the third.
+    fn row(&self, name: &str, epics_name: &str, mut timed: Vec<Timed>) -> Option<[f64; 2]> {
+        let times = times(&mut timed, self.rounds);
+        let columns: String = times.iter().map(|t| format!("{:11.0}{:9.0}", t.median, t.best)).collect();
+        let Some(epics) = times.get(2) else {
+            println!("  {name:34}{columns}");
+            return None;
+        };
+        let ratio = [times[0].median / epics.median, times[0].best / epics.best];
+        println!("  {name:34}{columns}{:8.2}{:7.2}  {epics_name}", ratio[0], ratio[1]);
+        Some(ratio)
     }
 
-    fn loads(&self) {
+    fn loads(&self, ratios: &mut Ratios) {
         for cleared in [false, true] {
             let (mut one, mut two) = (vec![0xa5; TABLE_BYTES], vec![0xa5; TABLE_BYTES]);
             let clear = move |lent: &mut [u8]| {
@@ -117,14 +124,15 @@ impl Prepared<'_> {
                     let _ = black_box(paper::load(black_box(self.text()), &mut two));
                 }),
             ];
-            if let (Some(epics), false) = (self.epics, cleared) {
+            if let Some(epics) = self.epics {
                 let text = self.epics_text();
                 timed.push(Timed::new(move || {
                     black_box(epics.load(&text));
                 }));
             }
             let name = if cleared { "load, buffer cleared before each" } else { "load, buffer not cleared" };
-            self.row(name, "asInitMem", timed);
+            let kind = if cleared { Kind::LoadCleared } else { Kind::Load };
+            ratios.note(kind, self.sample.name, self.row(name, "asInitMem", timed));
         }
     }
 
@@ -140,8 +148,12 @@ impl Prepared<'_> {
         self.row("check of the table", "", timed);
     }
 
-    fn questions(&self) {
-        let timed = vec![
+    fn questions(&self, ratios: &mut Ratios) {
+        let mut timed = self.checked_questions();
+        timed.extend(self.epics_question());
+        let row = self.row("question, table known as checked", "a whole question", timed);
+        ratios.note(Kind::Question, self.sample.name, row);
+        let mut timed = vec![
             Timed::new(|| {
                 black_box(library::decide(black_box(&self.table), &self.asked()));
             }),
@@ -149,22 +161,24 @@ impl Prepared<'_> {
                 let _ = black_box(paper::decide(black_box(&self.table), &self.question()));
             }),
         ];
-        self.row("question, table checked each time", "", timed);
-        let mut timed = self.checked_questions();
-        if let Some(epics) = self.epics {
-            let mut asked = self.epics_asked();
-            timed.push(Timed::new(move || {
-                black_box(epics.question(&mut asked));
-            }));
-        }
-        self.row("question, table known as checked", "a whole question", timed);
+        timed.extend(self.epics_question());
+        let row = self.row("question, table checked each time", "a whole question", timed);
+        ratios.note(Kind::QuestionAndCheck, self.sample.name, row);
         if let Some(known) = self.epics.and_then(|e| e.know(&mut self.epics_asked())) {
             let mut timed = self.checked_questions();
             timed.push(Timed::new(move || {
                 black_box(known.compute());
             }));
-            self.row("the same", "asCompute alone: no group, no calculation", timed);
+            self.row("question, table known as checked", "asCompute alone: no group, no calculation", timed);
         }
+    }
+
+    fn epics_question(&self) -> Option<Timed<'_>> {
+        let epics = self.epics?;
+        let mut asked = self.epics_asked();
+        Some(Timed::new(move || {
+            black_box(epics.question(&mut asked));
+        }))
     }
 
     fn checked_questions(&self) -> Vec<Timed<'_>> {
@@ -189,16 +203,22 @@ fn main() {
     let epics = Epics::open();
     let stub = if library::STUB { "the stub, not the library; " } else { "" };
     let beside = if epics.is_some() { "EPICS beside" } else { "EPICS's library not installed" };
-    println!("{stub}{beside}; medians of {rounds} batches, nanoseconds; ratio: library / other");
+    println!("{stub}{beside}; nanoseconds, median and best of {rounds} batches; ratios: library / EPICS");
+    let mut ratios = Ratios::default();
     for sample in &files::samples() {
         let prepared = prepare(sample, rounds, epics);
-        let rules = sample.text.matches("RULE").count();
+        let rules = sample.text.matches("RULE(").count();
         let (bytes, table) = (sample.text.len(), prepared.table.len());
         println!("\n{}: {bytes} bytes, {rules} rules, a table of {table} bytes", sample.name);
-        let head = format!("  {:38}{:>12}{:>12}{:>8}", "", "library", "paper", "ratio");
-        println!("{head}{}", if epics.is_some() { "       EPICS   ratio" } else { "" });
-        prepared.loads();
+        let column = |name: &str| format!("{name:>11}{:>9}", "best");
+        let head = format!("  {:34}{}{}", "", column("library"), column("paper"));
+        let beside = if epics.is_some() { column("EPICS") + "   ratio   best" } else { String::new() };
+        println!("{head}{beside}");
+        prepared.loads(&mut ratios);
         prepared.checks();
-        prepared.questions();
+        prepared.questions(&mut ratios);
+    }
+    if epics.is_some() {
+        println!("\n{ratios}");
     }
 }

@@ -1,4 +1,4 @@
-//! Medians of many runs, the ones to be compared taking turns.
+//! Medians and best of many batches, the ones to be compared taking turns.
 
 use std::time::Instant;
 
@@ -39,8 +39,15 @@ impl<'a> Timed<'a> {
     }
 }
 
-/// The median nanoseconds of each, over `rounds` batches.
-pub fn medians(timed: &mut [Timed], rounds: usize) -> Vec<f64> {
+/// Nanoseconds, over many batches.
+#[derive(Clone, Copy)]
+pub struct Time {
+    pub median: f64,
+    pub best: f64,
+}
+
+/// The time of each, over `rounds` batches.
+pub fn times(timed: &mut [Timed], rounds: usize) -> Vec<Time> {
     let counts: Vec<usize> = timed.iter_mut().map(Timed::count).collect();
     let mut found = vec![Vec::new(); timed.len()];
     for _ in 0..rounds {
@@ -48,10 +55,10 @@ pub fn medians(timed: &mut [Timed], rounds: usize) -> Vec<f64> {
             times.push(one.batch(*count));
         }
     }
-    found.into_iter().map(median).collect()
+    found.into_iter().map(of_batches).collect()
 }
 
-fn median(mut times: Vec<f64>) -> f64 {
-    times.sort_by(f64::total_cmp);
-    times[times.len() / 2]
+fn of_batches(mut batches: Vec<f64>) -> Time {
+    batches.sort_by(f64::total_cmp);
+    Time { median: batches[batches.len() / 2], best: batches[0] }
 }
