@@ -25,11 +25,12 @@ impl<'a> Timed<'a> {
         start.elapsed().as_nanos() as f64 / count as f64
     }
 
-    /// How many runs fill a batch. This warms up too.
+    /// How many runs fill a batch, by the best of some: an interrupted one would
+    /// say too few. This warms up too.
     fn count(&mut self) -> usize {
         let mut count = 1;
         loop {
-            let each = self.batch(count).max(1.0);
+            let each = (0..5).map(|_| self.batch(count)).fold(f64::INFINITY, f64::min).max(1.0);
             let wanted = (BATCH_NS / each) as usize + 1;
             if wanted <= count * 2 {
                 return wanted;
