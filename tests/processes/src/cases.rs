@@ -7,8 +7,21 @@ use inputs::random::Random;
 use inputs::{file, lines};
 use paper::{programs, TABLE_BYTES};
 
+/// The paper's example.
+const RULES: &[u8] =
+    b"ASG(DEFAULT) {INPA(B1:PGA) RULE(1,READ) RULE(1,WRITE,TRAPWRITE) {CALC(\"A>0.3?0:1\")}}";
+
+/// The first case is the same for each seed; the others are made.
+pub fn run(case: u64, random: &mut Random, bench: &mut Bench) -> Go {
+    if case > 0 {
+        return made(random, bench);
+    }
+    let input = lines::every();
+    bench.ask(Rules::Text(Some(RULES)), &input, &How::Pipe, programs::ask(RULES, &input).as_bytes())
+}
+
 /// A run of the asker takes many lines, so there are more of the checker.
-pub fn run(random: &mut Random, bench: &mut Bench) -> Go {
+fn made(random: &mut Random, bench: &mut Bench) -> Go {
     if random.percent(12) {
         of_lines(random, bench)
     } else {

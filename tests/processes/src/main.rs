@@ -34,7 +34,7 @@ fn folder(text: &str) -> PathBuf {
 /// Run cases until there are enough lines, or the only one.
 fn compare(bench: &mut Bench, seed: u64, count: u64, only: Option<u64>) -> Go {
     for case in only.unwrap_or(0).. {
-        let done = cases::run(&mut Random::of_case(seed, case), bench);
+        let done = cases::run(case, &mut Random::of_case(seed, case), bench);
         done.map_err(|Difference(what)| Difference(format!("seed {seed}, case {case}: {what}")))?;
         if only.is_some() || bench.lines >= count {
             break;
