@@ -2,6 +2,7 @@
 #![forbid(unsafe_code)]
 
 pub mod calculation;
+pub mod every;
 pub mod file;
 pub mod lines;
 pub mod question;

@@ -256,64 +256,6 @@ pub fn input(random: &mut Random, names: &Names, lines: usize) -> Vec<u8> {
     text
 }
 
-/// Lines that are the same in each run: each byte in each place of a line, each
-/// short text as a value, the digits and the lengths about their limits.
-pub fn every() -> Vec<u8> {
-    let mut lines: Vec<Vec<u8>> = Vec::new();
-    let places = [
-        "@ ann pc1 1",
-        "@- ann pc1 1",
-        "-@ann pc1 1",
-        "- ann pc1@1",
-        "- ann pc1 @",
-        "- ann pc1 1@",
-        "- ann pc1 1 @",
-    ];
-    let readings = [
-        "@:0.25",
-        "A@0.25",
-        "A:@",
-        "A:@1",
-        "A:1@",
-        "A:-@",
-        "A:.@",
-        "A:0@25",
-        "A:0.25@",
-        "A:0.25@B:1",
-        "A:in@",
-    ];
-    for byte in 0..=255 {
-        for template in
-            places.map(str::to_string).into_iter().chain(readings.map(|r| format!("- ann pc1 1 {r}")))
-        {
-            lines.push(template.bytes().map(|b| if b == b'@' { byte } else { b }).collect());
-        }
-    }
-    let mut values: Vec<Vec<u8>> = vec![Vec::new()];
-    for length in 1..=4 {
-        let shorter: Vec<Vec<u8>> = values.iter().filter(|v| v.len() + 1 == length).cloned().collect();
-        values.extend(shorter.iter().flat_map(|v| b"013.-+einfva".map(|b| [v, &[b][..]].concat())));
-    }
-    for digits in 13..=17 {
-        for point in 0..=digits {
-            let run = vec![b'3'; digits];
-            values.push([&run[..point], b".", &run[point..]].concat());
-            values.push([b"-", &run[..]].concat());
-        }
-    }
-    lines.extend(values.iter().map(|v| [b"- ann pc1 1 A:", &v[..]].concat()));
-    let letters: Vec<String> = ('A'..='V').map(|letter| format!("{letter}:.2")).collect();
-    lines.extend((0..=letters.len()).map(|n| format!("- ann pc1 1 {}", letters[..n].join(" ")).into_bytes()));
-    for length in 240..=270 {
-        let name = "x".repeat(length - "-  pc1 1 A:0.25".len());
-        lines.push(format!("- {name} pc1 1 A:0.25").into_bytes());
-        lines.push(format!("- ann pc1 1 A:{}", "1".repeat(length - "- ann pc1 1 A:".len())).into_bytes());
-        lines.push(vec![b'x'; length]);
-        lines.push(vec![b' '; length]);
-    }
-    lines.join(&b'\n')
-}
-
 /// A rules.acf, or none: mostly one that is accepted.
 pub fn rules(random: &mut Random) -> Option<Vec<u8>> {
     match random.below(40) {

@@ -4,7 +4,7 @@ use crate::compare::{Bench, Go, Rules};
 use crate::process::How;
 use inputs::question::Names;
 use inputs::random::Random;
-use inputs::{file, lines};
+use inputs::{every, file, lines};
 use paper::{programs, TABLE_BYTES};
 
 /// The paper's example.
@@ -16,7 +16,7 @@ pub fn run(case: u64, random: &mut Random, bench: &mut Bench) -> Go {
     if case > 0 {
         return made(random, bench);
     }
-    let input = lines::every();
+    let input = every::lines();
     bench.ask(Rules::Text(Some(RULES)), &input, &How::Pipe, programs::ask(RULES, &input).as_bytes())
 }
 
