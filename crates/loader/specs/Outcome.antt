@@ -17,12 +17,12 @@ use Rattle.grammar.specs.Reading.{Said}
 use Rattle.kept.specs.Kept.{Arrays, kind-of-number, said-at, said-from}
 use Rattle.kept.specs.Stores.{kept-in}
 use Rattle.file.specs.declared.Warning as warning
-use Rattle.file.specs.Limit.{user-groups, host-groups}
+use Rattle.file.specs.Limit.{user-groups, host-groups, most-bytes}
 use Rattle.file.specs.Contents.{says, text, place, texts, file-of}
 use Rattle.file.specs.Refusal.{contexts}
 use Rattle.file.specs.Counted.{once, clear, sum-texts, counted-roles}
 use Rattle.file.specs.declared.Refusal.{Refusal}
-use Rattle.file.specs.declared.Refusal.the-variants.{NoRoom}
+use Rattle.file.specs.declared.Refusal.the-variants.{FileTooLong, NoRoom}
 use Rattle.file.specs.Load.{refuse, accept, verdict}
 use Rattle.file.specs.Theorem.{accepted-is, unanswered}
 use Rattle.file.specs.Warning.{number, undefined, warning-of, with-place, warnings-among, warnings}
@@ -42,7 +42,7 @@ use Rattle.texts.specs.Listed.{indices}
 use Rattle.hear.specs.declared.Heard.{Heard}
 use Rattle.hear.specs.declared.Heard.the-variants as heard
 use Rattle.hear.specs.Heard.{kept, at-last}
-use Rattle.loader.specs.Heard.{Final}
+use Rattle.loader.specs.Heard.{Final, verdict-long}
 use Rattle.loader.specs.Over.{over}
 
 -- ---- an accepted file has few groups
@@ -110,7 +110,7 @@ module _ {s : List ℕ} {a : Arrays} {roles : List ℕ} {r : Heard} (f : Final s
       let v = said-is e in
       let k : kept r ≡ n = ap kept e in
       record {
-        lie = rw k at (f .lie (accepted-is s (said-from s a roles 0 n) v .short));
+        lie = rw k at (f .lie);
         has-places = rw k at (f .places);
         user-groups = few-users s a roles n v;
         host-groups = few-hosts s a roles n v;
@@ -128,6 +128,11 @@ module _ {s : List ℕ} {a : Arrays} {roles : List ℕ} {r : Heard} (f : Final s
   listed-told {n} skip numbers places e t =
       let w = warnings-kindless s a roles n in
       rw (said-is e, t .count, t .numbers, t .places, w, over (drop skip (map (λ x. number (x .warning)) (warnings (said-from s a roles 0 n)))) numbers, over (drop skip (map (λ x. x .place) (warnings (said-from s a roles 0 n)))) places)
+
+-- a text over 16,384 bytes
+pub listed-long : (skip : ℕ) (numbers places s : List ℕ) → most-bytes < length s → record { answer = Refused FileTooLong 0; numbers = numbers; places = places } ≡ listing skip numbers places s
+unfolding listing
+listed-long skip numbers places s h = rw (verdict-long s h)
 
 -- ---- a load
 
@@ -153,6 +158,10 @@ module _ {s : List ℕ} {a : Arrays} {roles : List ℕ} {r : Heard} (f : Final s
   pub load-stored : {n : ℕ} {o : Outcome} → r ≡ heard.Tokens n → o ≡ by-verdict lent (accept (said-from s a roles 0 n)) → o ≡ load lent s
   unfolding load
   load-stored e g = g ∙ sym (ap (by-verdict lent) (said-is f e))
+
+pub load-long : (lent s : List ℕ) → most-bytes < length s → record { answer = loaded.Refused FileTooLong 0; bytes = lent } ≡ load lent s
+unfolding load
+load-long lent s h = rw (verdict-long s h)
 
 -- what a write tells
 module _ {t lent c : List ℕ} {r : Written} (w : Wrote t lent c r) where

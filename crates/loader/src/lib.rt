@@ -22,6 +22,11 @@ const UAG_NAME: u8 = 1;
 
 const HAG_NAME: u8 = 3;
 
+// A text has no more tokens than bytes. To clear arrays for the longest takes as long as loading a short one.
+const SHORT: usize = 2048;
+
+const LONGEST: usize = 16384;
+
 // The refusals 5 to 10, of n tokens: the lowest number that applies, at its earliest place.
 fn judge(
     s: &[u8],
@@ -62,7 +67,7 @@ fn judge(
     Heard::Tokens(n)
 }
 
-// The refusals 1 to 10. The arrays hold the tokens of a text that has none.
+// The refusals 2 to 10. The arrays hold the tokens of a text that has none.
 fn hear(
     s: &[u8],
     kinds: &mut [u8],
@@ -72,12 +77,9 @@ fn hear(
     roles: &mut [u8],
     seen: &mut [u16],
 ) -> Heard
-    requires { ⌜ Spacious (kept-in (now kinds) (now places) (now starts) (now ends)) (now roles) × (16384 ≤ length (now seen)) ⌝ }
+    requires { ⌜ Spacious (now s) (kept-in (now kinds) (now places) (now starts) (now ends)) (now roles) (now seen) ⌝ }
     ensures { λ r. ⌜ Final (now (s .entry)) (kept-in (now (kinds .exit)) (now (places .exit)) (now (starts .exit)) (now (ends .exit))) (now (roles .exit)) r ⌝ }
 {
-    if 16384 < s.len() {
-        return Heard::Refused(Refusal::FileTooLong, 0);
-    }
     match hear::listen(s, kinds, places, starts, ends, roles) {
         Heard::Refused(k, p) => Heard::Refused(k, p),
         Heard::Tokens(n) => judge(s, places, starts, ends, roles, n, seen),
@@ -118,17 +120,45 @@ fn warnings(
     )
 }
 
-// How many warnings a text has. The numbers and places of those from the skip-th on are written, as many as there is room for.
-pub fn list_warnings(text: &[u8], skip: usize, numbers: &mut [u8], at: &mut [u16]) -> Listed
+// The warnings of a text whose tokens have room in the arrays.
+fn list_in(
+    text: &[u8],
+    kinds: &mut [u8],
+    places: &mut [u16],
+    starts: &mut [u16],
+    ends: &mut [u16],
+    roles: &mut [u8],
+    seen: &mut [u16],
+    skip: usize,
+    numbers: &mut [u8],
+    at: &mut [u16],
+) -> Listed
+    requires { ⌜ Spacious (now text) (kept-in (now kinds) (now places) (now starts) (now ends)) (now roles) (now seen) ⌝ }
     ensures { λ r. ⌜ record { answer = r; numbers = now (numbers .exit); places = now (at .exit) } ≡ listing skip (now (numbers .entry)) (now (at .entry)) (now (text .entry)) ⌝ }
 {
-    let mut kinds = [0u8; 16384];
-    let mut places = [0u16; 16384];
-    let mut starts = [0u16; 16384];
-    let mut ends = [0u16; 16384];
-    let mut roles = [0u8; 16384];
-    let mut seen = [0u16; 16384];
-    match hear(
+    match hear(text, kinds, places, starts, ends, roles, seen) {
+        Heard::Refused(k, p) => Listed::Refused {
+            refusal: k,
+            place: p,
+        },
+        Heard::Tokens(n) => {
+            let count = warnings(text, places, starts, ends, roles, n, skip, numbers, at);
+            Listed::Warnings(count)
+        }
+    }
+}
+
+fn list_short(text: &[u8], skip: usize, numbers: &mut [u8], at: &mut [u16]) -> Listed
+    requires { ⌜ length (now text) ≤ 2048 ⌝ }
+    ensures { λ r. ⌜ record { answer = r; numbers = now (numbers .exit); places = now (at .exit) } ≡ listing skip (now (numbers .entry)) (now (at .entry)) (now (text .entry)) ⌝ }
+{
+    let mut kinds = [0u8; SHORT];
+    let mut places = [0u16; SHORT];
+    let mut starts = [0u16; SHORT];
+    let mut ends = [0u16; SHORT];
+    let mut roles = [0u8; SHORT];
+    let mut seen = [0u16; SHORT];
+    list_in(
         text,
         &mut kinds,
         &mut places,
@@ -136,15 +166,49 @@ pub fn list_warnings(text: &[u8], skip: usize, numbers: &mut [u8], at: &mut [u16
         &mut ends,
         &mut roles,
         &mut seen,
-    ) {
-        Heard::Refused(k, p) => Listed::Refused {
-            refusal: k,
-            place: p,
-        },
-        Heard::Tokens(n) => {
-            let count = warnings(text, &places, &starts, &ends, &roles, n, skip, numbers, at);
-            Listed::Warnings(count)
-        }
+        skip,
+        numbers,
+        at,
+    )
+}
+
+fn list_long(text: &[u8], skip: usize, numbers: &mut [u8], at: &mut [u16]) -> Listed
+    requires { ⌜ length (now text) ≤ 16384 ⌝ }
+    ensures { λ r. ⌜ record { answer = r; numbers = now (numbers .exit); places = now (at .exit) } ≡ listing skip (now (numbers .entry)) (now (at .entry)) (now (text .entry)) ⌝ }
+{
+    let mut kinds = [0u8; LONGEST];
+    let mut places = [0u16; LONGEST];
+    let mut starts = [0u16; LONGEST];
+    let mut ends = [0u16; LONGEST];
+    let mut roles = [0u8; LONGEST];
+    let mut seen = [0u16; LONGEST];
+    list_in(
+        text,
+        &mut kinds,
+        &mut places,
+        &mut starts,
+        &mut ends,
+        &mut roles,
+        &mut seen,
+        skip,
+        numbers,
+        at,
+    )
+}
+
+// How many warnings a text has. The numbers and places of those from the skip-th on are written, as many as there is room for.
+pub fn list_warnings(text: &[u8], skip: usize, numbers: &mut [u8], at: &mut [u16]) -> Listed
+    ensures { λ r. ⌜ record { answer = r; numbers = now (numbers .exit); places = now (at .exit) } ≡ listing skip (now (numbers .entry)) (now (at .entry)) (now (text .entry)) ⌝ }
+{
+    if text.len() <= SHORT {
+        return list_short(text, skip, numbers, at);
+    }
+    if text.len() <= LONGEST {
+        return list_long(text, skip, numbers, at);
+    }
+    Listed::Refused {
+        refusal: Refusal::FileTooLong,
+        place: 0,
     }
 }
 
@@ -182,17 +246,40 @@ fn store(
     }
 }
 
-// The table of a text at the start of the lent bytes, or a refusal, which leaves them as they are.
-pub fn load(text: &[u8], lent: &mut [u8]) -> Loaded
+// The load of a text whose tokens have room in the arrays.
+fn load_in(
+    text: &[u8],
+    kinds: &mut [u8],
+    places: &mut [u16],
+    starts: &mut [u16],
+    ends: &mut [u16],
+    roles: &mut [u8],
+    seen: &mut [u16],
+    lent: &mut [u8],
+) -> Loaded
+    requires { ⌜ Spacious (now text) (kept-in (now kinds) (now places) (now starts) (now ends)) (now roles) (now seen) ⌝ }
     ensures { λ r. ⌜ record { answer = r; bytes = now (lent .exit) } ≡ load (now (lent .entry)) (now (text .entry)) ⌝ }
 {
-    let mut kinds = [0u8; 16384];
-    let mut places = [0u16; 16384];
-    let mut starts = [0u16; 16384];
-    let mut ends = [0u16; 16384];
-    let mut roles = [0u8; 16384];
-    let mut seen = [0u16; 16384];
-    match hear(
+    match hear(text, kinds, places, starts, ends, roles, seen) {
+        Heard::Refused(k, p) => Loaded::Refused {
+            refusal: k,
+            place: p,
+        },
+        Heard::Tokens(n) => store(text, places, starts, ends, roles, n, lent),
+    }
+}
+
+fn load_short(text: &[u8], lent: &mut [u8]) -> Loaded
+    requires { ⌜ length (now text) ≤ 2048 ⌝ }
+    ensures { λ r. ⌜ record { answer = r; bytes = now (lent .exit) } ≡ load (now (lent .entry)) (now (text .entry)) ⌝ }
+{
+    let mut kinds = [0u8; SHORT];
+    let mut places = [0u16; SHORT];
+    let mut starts = [0u16; SHORT];
+    let mut ends = [0u16; SHORT];
+    let mut roles = [0u8; SHORT];
+    let mut seen = [0u16; SHORT];
+    load_in(
         text,
         &mut kinds,
         &mut places,
@@ -200,11 +287,45 @@ pub fn load(text: &[u8], lent: &mut [u8]) -> Loaded
         &mut ends,
         &mut roles,
         &mut seen,
-    ) {
-        Heard::Refused(k, p) => Loaded::Refused {
-            refusal: k,
-            place: p,
-        },
-        Heard::Tokens(n) => store(text, &places, &starts, &ends, &roles, n, lent),
+        lent,
+    )
+}
+
+fn load_long(text: &[u8], lent: &mut [u8]) -> Loaded
+    requires { ⌜ length (now text) ≤ 16384 ⌝ }
+    ensures { λ r. ⌜ record { answer = r; bytes = now (lent .exit) } ≡ load (now (lent .entry)) (now (text .entry)) ⌝ }
+{
+    let mut kinds = [0u8; LONGEST];
+    let mut places = [0u16; LONGEST];
+    let mut starts = [0u16; LONGEST];
+    let mut ends = [0u16; LONGEST];
+    let mut roles = [0u8; LONGEST];
+    let mut seen = [0u16; LONGEST];
+    load_in(
+        text,
+        &mut kinds,
+        &mut places,
+        &mut starts,
+        &mut ends,
+        &mut roles,
+        &mut seen,
+        lent,
+    )
+}
+
+// The table of a text at the start of the lent bytes, or a refusal, which leaves them as they are.
+pub fn load(text: &[u8], lent: &mut [u8]) -> Loaded
+    ensures { λ r. ⌜ record { answer = r; bytes = now (lent .exit) } ≡ load (now (lent .entry)) (now (text .entry)) ⌝ }
+{
+    let long = text.len();
+    if long <= SHORT {
+        return load_short(text, lent);
+    }
+    if long <= LONGEST {
+        return load_long(text, lent);
+    }
+    Loaded::Refused {
+        refusal: Refusal::FileTooLong,
+        place: 0,
     }
 }
