@@ -25,6 +25,7 @@ use Rattle.file.specs.Meaning.{rule-in}
 use Rattle.file.specs.Says.{Text-says}
 use Rattle.file.specs.Theorem.{accepted-is}
 use Rattle.table.specs.Written.{table-of}
+use Rattle.table.specs.Accepted.{fits}
 use Rattle.load.specs.Load.{load}
 use Rattle.decision.specs.declared.Answer.the-variants.{BadLevel}
 use Rattle.decision.specs.Decision.{answered, access-in, decide}
@@ -32,7 +33,7 @@ use Rattle.edition.specs.Edition.{Says-no, Edition, rules-later, access-by-rule
 use Rattle.edition.specs.Laws.{access-never-above, access-alike}
 use Rattle.demand.specs.Calls.{Call, after-calls, is-accepted, No-accepted-load}
 use Rattle.demand.specs.ByFile.{rules-by-file, answer-by-file}
-use Rattle.demand.specs.Loaded.{Stored, stored, calls-leave, fits, decided}
+use Rattle.demand.specs.Loaded.{Stored, stored, calls-leave, decided}
 
 -- ---- an edition that says no
 

@@ -16,6 +16,7 @@ use Rattle.file.specs.Theorem.{acceptable-is}
 use Rattle.table.specs.Check.{is-table}
 use Rattle.table.specs.Written.{table-of}
 use Rattle.table.specs.Layout.{greatest-table}
+use Rattle.table.specs.Accepted.{fits}
 use Rattle.table.specs.Theorem.{is-a-table, table-length, zeros-no-table}
 use Rattle.load.specs.Load.{written, without-room, load}
 use Rattle.decision.specs.declared.Answer.{Answer}
@@ -23,7 +24,7 @@ use Rattle.decision.specs.declared.Answer.the-variants.{Answered, NotTable, Bad
 use Rattle.decision.specs.Decision.{number, access-in, trap-in, decide}
 use Rattle.demand.specs.ByFile.{answer-by-file}
 use Rattle.demand.specs.Calls.{is-accepted}
-use Rattle.demand.specs.Loaded.{stored, fits, decided}
+use Rattle.demand.specs.Loaded.{stored, decided}
 
 pub refused-grants-nothing : (b : List ℕ) (q : Question) (n : ℕ) → number (decide b q) ≡ some n → (access-in (decide b q) ≡ access.None) × (trap-in (decide b q) ≡ false)
 refused-grants-nothing b q n e = by (decide b q) e

@@ -1,42 +1,25 @@
 -- What an accepted load leaves: the table of what its text says, which answers by the rules of the text.
-use mathlib.Core.Path.{_≡_, refl, sym, ap, subst, _∙_}
+use mathlib.Core.Path.{_≡_, refl, sym, ap, _∙_}
 use mathlib.Core.Bool.{Bool, true, false, cond, false≢true}
 use mathlib.Core.List.{List, [], _∷_, _++_, map}
 use mathlib.Core.Option.{Option, none, some, Option·map, Option·getD}
-use Prim.Native.Nat.{ℕ, _≤_}
-use native.Mathlib.Omega.{arith}
-use lib.Dec.{leb, eqb}
+use Prim.Native.Nat.{ℕ}
+use lib.Dec.{leb}
 use lib.ListN.{length, drop}
-use Rattle.lists.specs.Select.{total}
-use Rattle.lists.specs.Every.{Every, nil, cons, every-both}
-use Rattle.lists.specs.Laws.{map-map}
-use Rattle.token.specs.declared.Kind.the-variants.{Inp}
-use Rattle.token.specs.Word.{link-letter}
-use Rattle.token.specs.Token.{Token, tokens}
-use Rattle.token.specs.Laws.{scanned-bytes, scanned-inputs}
-use Rattle.grammar.specs.declared.Role.the-variants.{Input}
 use Rattle.grammar.specs.Reading.{Said}
-use Rattle.grammar.specs.Reader.{kind-number}
-use Rattle.grammar.specs.Sound.{same-kind}
-use Rattle.grammar.specs.Inputs.{may-say, reads-inputs}
 use Rattle.calculation.specs.Theorem.{no-empty}
 use Rattle.rule.specs.Question.{Question}
 use Rattle.rule.specs.Rule.{Rule}
 use Rattle.rule.specs.Answering.{answering}
-use Rattle.file.specs.Contents.{Asg, File, file-of, says, text}
+use Rattle.file.specs.Contents.{Asg, File, file-of}
 use Rattle.file.specs.Meaning.{rule-in}
-use Rattle.file.specs.Limit.{access-groups, most-bytes}
-use Rattle.file.specs.Refusal.{contexts}
-use Rattle.file.specs.Says.{Acceptable}
+use Rattle.file.specs.Limit.{access-groups}
 use Rattle.file.specs.Load.{Verdict, refuse, accept, verdict}
-use Rattle.file.specs.Theorem.{accepted-is, unanswered}
 use Rattle.table.specs.Layout.{Content}
-use Rattle.token.specs.Word.{greatest-letter}
 use Rattle.table.specs.Policy.{name, rules-of}
 use Rattle.table.specs.Written.{content, records, table-of}
 use Rattle.table.specs.Fits.{Fits}
 use Rattle.table.specs.Kept.{answering-rules}
-use Rattle.table.specs.Accepted.{accepted-fits}
 use Rattle.table.specs.Theorem.{viewed, is-a-table}
 use Rattle.load.specs.Load.{written, without-room, by-verdict, load}
 use Rattle.decision.specs.Decision.{rules-in, rules-for, decide}
@@ -89,30 +72,6 @@ call-leaves b (look-up-input g letter) h = refl
 pub calls-leave : (b : List ℕ) (cs : List Call) → No-accepted-load b cs → after-calls b cs ≡ b
 calls-leave b [] h = refl
 calls-leave b (c ∷ cs) h = calls-leave (after-call b c) cs (h .1) ∙ call-leaves b c (h .0)
-
--- ---- what is accepted keeps to the limits
-
-from-tokens : {P : Token → Type 0} (xs : List Said) → Every P (map (λ x. x .token) xs) → Every (λ x. P (x .token)) xs
-from-tokens [] nil = nil
-from-tokens (x ∷ xs) (cons p c) = cons p (from-tokens xs c)
-
-pub fits : (s : List ℕ) (xs : List Said) → verdict s ≡ accept xs → Fits (file-of xs)
-fits s xs e =
-    let a = accepted-is s xs e in
-    let t = a .says .reading .tokens in
-    accepted-fits xs (unanswered (contexts xs) (a .uncaused)) (bound a) (every-both inputs (reads-inputs (a .says .spelled) xs (a .says .reading)) (from-tokens xs (subst (Every Spelled) (sym t) (scanned-inputs s (a .says .spelled) (a .says .spelling)))))
-  where
-    Spelled : Token → Type 0
-    Spelled t = t .kind ≡ Inp → link-letter (t .text) ≤ greatest-letter
-
-    bound : (a : Acceptable s xs) → total (map (λ x. length (x .token .text)) xs) ≤ most-bytes
-    bound a =
-        let b = scanned-bytes s (a .says .spelled) (a .says .spelling) in
-        let m = sym (map-map (λ (t : Token). length (t .text)) (λ (x : Said). x .token) xs) ∙ ap (map (λ (t : Token). length (t .text))) (a .says .reading .tokens) in
-        rw m (let c = a .short in omega arith)
-
-    inputs : (x : Said) → may-say (x .token .kind) (x .role) ≡ true → Spelled (x .token) → says Input x ≡ true → link-letter (text x) ≤ greatest-letter
-    inputs x m sp i = sp (same-kind (x .token .kind) Inp (subst (λ (b : Bool). lib.Dec.T b) (sym (subst (λ (b : Bool). cond b (eqb (kind-number (x .token .kind)) (kind-number Inp)) true ≡ true) i m)) tt))
 
 -- ---- the table answers by the file's rules
 

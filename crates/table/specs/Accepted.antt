@@ -1,25 +1,35 @@
 -- A file to which no cause of refusal applies keeps to the limits of a table.
-use mathlib.Core.Path.{_≡_, refl, sym}
+use mathlib.Core.Path.{_≡_, refl, sym, ap, subst, _∙_}
 use mathlib.Core.Bool.{Bool, true, false, cond, not, _&&_}
 use mathlib.Core.List.{List, [], _∷_, map}
 use mathlib.Core.Option.{Option, none, some, Option·getD}
 use Prim.Native.Nat.{ℕ, _+_, _≤_}
 use native.Mathlib.Omega.{arith}
-use lib.Dec.{leb, ltb}
+use lib.Dec.{leb, ltb, eqb}
 use lib.ListN.{length, length-map}
 use borrow.Author.Tests.{ltb-false, leb-true}
 use Rattle.lists.specs.Text.{lowered}
 use Rattle.lists.specs.Select.{joined, total, holds-of, missing}
 use Rattle.lists.specs.Every.{Every, nil, cons, every-append, every-implies, every-map, every-joined, every-both}
+use Rattle.lists.specs.Laws.{map-map}
+use Rattle.token.specs.declared.Kind.the-variants.{Inp}
 use Rattle.token.specs.Word.{link-letter}
+use Rattle.token.specs.Token.{Token}
+use Rattle.token.specs.Laws.{scanned-bytes, scanned-inputs}
 use Rattle.grammar.specs.declared.Role.{Role}
 use Rattle.grammar.specs.declared.Role.the-variants.{UagName, User, HagName, Host, AsgName, Input, Pvname, RuleWord, Level, UagNamed, HagNamed, Calculation}
 use Rattle.grammar.specs.Reading.{Said}
+use Rattle.grammar.specs.Reader.{kind-number}
+use Rattle.grammar.specs.Sound.{same-kind}
+use Rattle.grammar.specs.Inputs.{may-say, reads-inputs}
 use Rattle.calculation.specs.Reader.{tree-of}
 use Rattle.rule.specs.Answering.{greatest-level}
 use Rattle.file.specs.Limit.{Section, user-groups, host-groups, members, access-groups, inputs, rules, references, most, most-bytes, longest, longest-name, longest-calculation}
 use Rattle.file.specs.Contents.{says, text, texts, Part, parts, level-of, value-of, head-of, Link, Rule-text, rule-text, file-of}
 use Rattle.file.specs.Refusal.{Context, contexts, item, bad-calculation, letters-among, letters-given, causes, refused-by}
+use Rattle.file.specs.Says.{Acceptable}
+use Rattle.file.specs.Load.{accept, verdict}
+use Rattle.file.specs.Theorem.{accepted-is, unanswered}
 use Rattle.lists.specs.Sums.{sum, sum-nil, sum-cons, sum-total, sum-plus, sum-append, sum-joined, sum-map, length-sum, length-joined}
 use Rattle.file.specs.Counted.{sum-of, sum-select, sum-texts, sum-heads, sum-bodies, Whole, every-parts, every-texts, every-here, Clear, clear, string-roles, says-among, once, role-is, sum-roles, counted-roles}
 use Rattle.token.specs.Word.{greatest-letter}
@@ -203,3 +213,28 @@ accepted-fits xs h b letters =
 
     texts-short : (r : Role) → longest r ≡ some longest-name → {ys : List Said} → Every Short ys → Every (λ s. length s ≤ longest-name) (texts r ys)
     texts-short r l = every-texts r (short-by longest-name r l)
+
+-- ---- from a text
+
+from-tokens : {P : Token → Type 0} (xs : List Said) → Every P (map (λ x. x .token) xs) → Every (λ x. P (x .token)) xs
+from-tokens [] nil = nil
+from-tokens (x ∷ xs) (cons p c) = cons p (from-tokens xs c)
+
+-- what is accepted keeps to the limits
+pub fits : (s : List ℕ) (xs : List Said) → verdict s ≡ accept xs → Fits (file-of xs)
+fits s xs e =
+    let a = accepted-is s xs e in
+    let t = a .says .reading .tokens in
+    accepted-fits xs (unanswered (contexts xs) (a .uncaused)) (bound a) (every-both inputs (reads-inputs (a .says .spelled) xs (a .says .reading)) (from-tokens xs (subst (Every Spelled) (sym t) (scanned-inputs s (a .says .spelled) (a .says .spelling)))))
+  where
+    Spelled : Token → Type 0
+    Spelled t = t .kind ≡ Inp → link-letter (t .text) ≤ greatest-letter
+
+    bound : (a : Acceptable s xs) → total (map (λ x. length (x .token .text)) xs) ≤ most-bytes
+    bound a =
+        let b = scanned-bytes s (a .says .spelled) (a .says .spelling) in
+        let m = sym (map-map (λ (t : Token). length (t .text)) (λ (x : Said). x .token) xs) ∙ ap (map (λ (t : Token). length (t .text))) (a .says .reading .tokens) in
+        rw m (let c = a .short in omega arith)
+
+    inputs : (x : Said) → may-say (x .token .kind) (x .role) ≡ true → Spelled (x .token) → says Input x ≡ true → link-letter (text x) ≤ greatest-letter
+    inputs x m sp i = sp (same-kind (x .token .kind) Inp (subst (λ (b : Bool). lib.Dec.T b) (sym (subst (λ (b : Bool). cond b (eqb (kind-number (x .token .kind)) (kind-number Inp)) true ≡ true) i m)) tt))
