@@ -1,5 +1,5 @@
 -- From what was heard to what a load answers and leaves.
-use mathlib.Core.Path.{_≡_, refl, sym, ap, _∙_}
+use mathlib.Core.Path.{_≡_, refl, sym, ap, subst, _∙_}
 use mathlib.Core.Bool.{Bool, true, false, not, _&&_, false≢true}
 use mathlib.Core.List.{List, [], _∷_, _++_, map}
 use mathlib.Core.Option.{Option, none, some}
@@ -26,7 +26,10 @@ use Rattle.file.specs.declared.Refusal.the-variants.{FileTooLong, NoRoom}
 use Rattle.file.specs.Load.{refuse, accept, verdict}
 use Rattle.file.specs.Theorem.{accepted-is, unanswered}
 use Rattle.file.specs.Warning.{number, undefined, warning-of, with-place, warnings-among, warnings}
+use Rattle.table.specs.Layout.{greatest-table}
 use Rattle.table.specs.Written.{table-of}
+use Rattle.table.specs.Accepted.{fits}
+use Rattle.table.specs.Theorem.{table-length}
 use Rattle.texts.specs.Rolls.{Lie, tally, tally-is}
 use Rattle.texts.specs.Bare.{any-map}
 use Rattle.load.specs.declared.Listed.the-variants.{Warnings, Refused}
@@ -98,6 +101,13 @@ warnings-kindless s a roles n = ap warnings (kindless-from s a roles 0 n) ∙ am
 
 -- ---- what is answered
 
+-- the tokens that define groups, as they were collected
+is-table-of :
+    (s : List ℕ) (a : Arrays) (roles : List ℕ) (n : ℕ) {uags hags : List ℕ} → uags ≡ indices 1 roles 0 n → hags ≡ indices 3 roles 0 n
+    → table-told s (a .starts) (a .ends) roles n uags hags ≡ table-of (file-of (said-from s a roles 0 n))
+unfolding table-told
+is-table-of s a roles n u h = rw (u, h) (table-is s a roles n)
+
 module _ {s : List ℕ} {a : Arrays} {roles : List ℕ} {r : Heard} (f : Final s a roles r) where
   said-is : {n : ℕ} → r ≡ heard.Tokens n → verdict s ≡ accept (said-from s a roles 0 n)
   said-is e = f .same ∙ ap (at-last s a roles) e
@@ -115,6 +125,12 @@ module _ {s : List ℕ} {a : Arrays} {roles : List ℕ} {r : Heard} (f : Final s
         user-groups = few-users s a roles n v;
         host-groups = few-hosts s a roles n v;
       }
+
+  -- no accepted file's table is too long
+  pub table-short : {n : ℕ} → r ≡ heard.Tokens n → length (table-told s (a .starts) (a .ends) roles n (indices 1 roles 0 n) (indices 3 roles 0 n)) ≤ greatest-table
+  table-short {n} e =
+      let xs = said-from s a roles 0 n in
+      subst (λ (t : List ℕ). length t ≤ greatest-table) (sym (is-table-of s a roles n refl refl)) (table-length (file-of xs) (fits s xs (said-is e)))
 
   pub listed-refused : {k : Refusal} {p : ℕ} (skip : ℕ) (numbers places : List ℕ) → r ≡ heard.Refused k p → record { answer = Refused k p; numbers = numbers; places = places } ≡ listing skip numbers places s
   unfolding listing
@@ -191,16 +207,11 @@ module _ {t lent c : List ℕ} {r : Written} (w : Wrote t lent c r) where
           let l : c ≡ lent = w .leaves ∙ rw h in
           (leb-false (length t) (length lent) h, l, cc)
 
--- the tokens that define groups, as they were collected
 module _ (s : List ℕ) (a : Arrays) (roles : List ℕ) (n : ℕ) (lent : List ℕ) {uags hags : List ℕ} (u : uags ≡ indices 1 roles 0 n) (h : hags ≡ indices 3 roles 0 n) {c : List ℕ} {r : Written} (w : Wrote (table-told s (a .starts) (a .ends) roles n uags hags) lent c r) where
-  is-table-of : table-told s (a .starts) (a .ends) roles n uags hags ≡ table-of (file-of (said-from s a roles 0 n))
-  unfolding table-told
-  is-table-of = rw (u, h) (table-is s a roles n)
-
   pub stored-done :
       {size count : ℕ} {b d e f : List ℕ} {skip : ℕ} → r ≡ written.Done size → Told (told s (a .places) (a .starts) (a .ends) roles n) skip b d e f count
       → record { answer = loaded.Accepted size count; bytes = c } ≡ by-verdict lent (accept (said-from s a roles 0 n))
-  stored-done e t = let d = done w e in stored-all s a roles n lent is-table-of (d .0) (d .1) (d .2) (t .count)
+  stored-done e t = let d = done w e in stored-all s a roles n lent (is-table-of s a roles n u h) (d .0) (d .1) (d .2) (t .count)
 
   pub stored-undone : {size : ℕ} → r ≡ written.NoRoom size → record { answer = loaded.Refused NoRoom size; bytes = c } ≡ by-verdict lent (accept (said-from s a roles 0 n))
-  stored-undone e = let d = undone w e in stored-none s a roles n lent is-table-of (d .0) (d .1) (d .2)
+  stored-undone e = let d = undone w e in stored-none s a roles n lent (is-table-of s a roles n u h) (d .0) (d .1) (d .2)

@@ -4,6 +4,9 @@ ghost use Prim.Native.Nat.{ℕ, _≤_};
 ghost use lib.ListN.{length};
 ghost use Rattle.kept.specs.Stores.{kept-in};
 ghost use Rattle.texts.specs.Rolls.{Lie};
+ghost use Rattle.texts.specs.Listed.{indices};
+ghost use Rattle.table.specs.Layout.{greatest-table};
+ghost use Rattle.writer.specs.Table.{table-told};
 ghost use Rattle.loader.specs.Cause.{Judged};
 ghost use Rattle.kept.specs.Kept.{said-from};
 ghost use Rattle.file.specs.Load.{accept};
@@ -223,6 +226,7 @@ fn store(
     lent: &mut [u8],
 ) -> Loaded
     requires { ⌜ Ready (now s) (now places) (now starts) (now ends) (now roles) n ⌝ }
+    requires { ⌜ length (table-told (now s) (now starts) (now ends) (now roles) n (indices 1 (now roles) 0 n) (indices 3 (now roles) 0 n)) ≤ greatest-table ⌝ }
     ensures { λ r. ⌜ ((kinds : List ℕ) → record { answer = r; bytes = now (lent .exit) } ≡ by-verdict (now (lent .entry)) (accept (said-from (now (s .entry)) (kept-in kinds (now (places .entry)) (now (starts .entry)) (now (ends .entry))) (now (roles .entry)) 0 n))) ⌝ }
 {
     let mut uags = [0u16; 64];

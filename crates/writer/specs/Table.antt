@@ -120,11 +120,27 @@ no-room {t} {b} {x} {k} p h =
     let no = lt-leb (length t) (length b) less in
     record { answered = rw no (ap NoRoom (m .1)); leaves = rw no (m .0) }
 
-pub room : {t b c x : List ℕ} {k r : ℕ} → Put [] x 0 t k → k ≤ length (x ++ b) → Put (x ++ b) c 0 t r → Wrote t b c (Done k)
-room {t} {b} {c} {x} {k} {r} p h q =
+-- there is room for t in what is lent, and nothing is changed there yet
+pub record Roomy (t lent now : List ℕ) : Type 0 where
+  pub fits : length t ≤ length lent
+  pub as-lent : now ≡ lent
+
+-- t was measured
+pub by-measure : {t b x l : List ℕ} {k : ℕ} → Put [] x 0 t k → k ≤ length (x ++ b) → l ≡ x ++ b → Roomy t b l
+by-measure {t} {b} {x} {l} p h e =
     let m = measured b p in
-    let fits : length t ≤ length b = omega (arith, ap length (m .0), m .1) in
-    let yes = le-leb (length t) (length b) fits in
+    record { fits = omega (arith, ap length (m .0), m .1); as-lent = e ∙ m .0 }
+
+-- n is as long as any
+pub by-length : {t b l : List ℕ} {n : ℕ} → length t ≤ n → n ≤ length b → l ≡ b → Roomy t b l
+by-length f h e = record { fits = omega arith; as-lent = e }
+
+pub room-length : {t b c l : List ℕ} {r : ℕ} → Roomy t b l → Put l c 0 t r → length c ≡ length b
+room-length w p = put-length p ∙ ap length (w .as-lent)
+
+pub room : {t b c l : List ℕ} {r : ℕ} → Roomy t b l → Put l c 0 t r → Wrote t b c (Done r)
+room {t} {b} {c} {l} {r} w p =
+    let yes = le-leb (length t) (length b) (w .fits) in
     let z : 0 + length t ≡ length t = omega arith in
-    let put : Put b c 0 t r = rw (m .0) at q in
-    record { answered = rw yes (ap Done (m .1)); leaves = rw yes (put .bytes ∙ sets-eq t b 0 (omega arith) ∙ ap (λ (k : ℕ). t ++ drop k b) z) }
+    let put : Put b c 0 t r = rw (w .as-lent) at p in
+    record { answered = rw yes (ap Done (put .end ∙ z)); leaves = rw yes (put .bytes ∙ sets-eq t b 0 (omega (arith, w .fits)) ∙ ap (λ (k : ℕ). t ++ drop k b) z) }

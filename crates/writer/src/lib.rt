@@ -8,6 +8,7 @@ ghost use mathlib.Core.Bool.{false, cond};
 ghost use Rattle.rule.specs.declared.Access.the-variants.{None};
 ghost use Rattle.rule.specs.Rule.{rank};
 ghost use Rattle.file.specs.Contents.{texts, value-of, level-of, permission-of, log-of, rule-text};
+ghost use Rattle.table.specs.Layout.{greatest-table};
 ghost use Rattle.table.specs.Written.{flag, flags};
 ghost use Rattle.writer.specs.Flags.{off-bits};
 ghost use Rattle.kept.specs.Kept.{Arrays, role-of-number};
@@ -53,6 +54,9 @@ const HAG_NAMED: u8 = 13;
 const CALCULATION: u8 = 15;
 
 const UNKNOWN_PREDICATE: u8 = 17;
+
+// No accepted file has a longer table: table/specs/Layout.antt.
+const GREATEST_TABLE: usize = 35108;
 
 // What is written for each token of a role: a record of a section, or a string.
 pub enum Work {
@@ -876,8 +880,8 @@ pub enum Written {
     NoRoom(usize),
 }
 
-// Nothing is written if there is no room for all of it. Without room a table is measured.
-// The caller, loader, has the tokens from the scanner and the groups from texts::collect.
+// Nothing is written if there is no room for all of it. Only where the greatest table has no room is one measured first.
+// The caller, loader, has the tokens of an accepted file from the scanner and the groups from texts::collect.
 pub fn write(
     s: &[u8],
     starts: &[u16],
@@ -889,12 +893,15 @@ pub fn write(
     lent: &mut [u8],
 ) -> Written
     requires { ⌜ Given (now s) (now starts) (now ends) (now roles) n (now uags) (now hags) ⌝ }
+    requires { ⌜ length (table-told (now s) (now starts) (now ends) (now roles) n (now uags) (now hags)) ≤ greatest-table ⌝ }
     ensures { λ r. ⌜ Wrote (table-told (now (s .entry)) (now (starts .entry)) (now (ends .entry)) (now (roles .entry)) n (now (uags .entry)) (now (hags .entry))) (now (lent .entry)) (now (lent .exit)) r ⌝ }
 {
-    let size = table(s, starts, ends, roles, n, uags, hags, &mut lent[0..0]);
-    if lent.len() < size {
-        return Written::NoRoom(size);
+    if lent.len() < GREATEST_TABLE {
+        let needed = table(s, starts, ends, roles, n, uags, hags, &mut lent[0..0]);
+        if lent.len() < needed {
+            return Written::NoRoom(needed);
+        }
     }
-    table(s, starts, ends, roles, n, uags, hags, lent);
+    let size = table(s, starts, ends, roles, n, uags, hags, lent);
     Written::Done(size)
 }

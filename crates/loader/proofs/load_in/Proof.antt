@@ -1,4 +1,4 @@
-use Rattle.loader.specs.Outcome.{ready, load-refused, load-stored}
+use Rattle.loader.specs.Outcome.{ready, table-short, load-refused, load-stored}
 use borrow.Author.Needs.{needs}
 use Rattle.loader.proofs.load_in.Statement.{statement}
 use Rattle.loader.proofs.load_in.Tie as tie
@@ -13,7 +13,7 @@ enum-known-n : tie.Need-enum-known-n
 enum-known-n c = search needs
 
 store-requires : tie.Need-store-requires
-store-requires c κs = ready (c .before .before .before .before .before .before .before .before .before .before .before .before .before .before .before .before .before .before .before .before .hear .ensures) (c .before .before .before .before .before .before .n .given .1)
+store-requires c κs = (ready (c .before .before .before .before .before .before .before .before .before .before .before .before .before .before .before .before .before .before .before .before .hear .ensures) (c .before .before .before .before .before .before .n .given .1), table-short (c .before .before .before .before .before .before .before .before .before .before .before .before .before .before .before .before .before .before .before .before .hear .ensures) (c .before .before .before .before .before .before .n .given .1))
 
 same-length : tie.Need-same-length
 same-length c = search needs
