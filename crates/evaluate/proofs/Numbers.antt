@@ -121,6 +121,24 @@ module _ (s : List ℕ) (at left n : ℕ) {b : ℕ} {d : Bool} (eb : b ≡ getD 
       }
   digits-more m TooMany e h q k = rw (run-more digit s at (tested true e) (digit-inside e)) (omega (arith, k))
 
+-- the digits are counted up to p: those from there on, behind m, are those from at on, behind n
+pub record Counting (s : List ℕ) (at left n p l m : ℕ) : Type 0 where
+  pub within : p ≤ length s
+  pub few : l ≤ 15
+  pub small : m < 10 ^ (15 - l)
+  pub whole-run : (r : Digits) → Counts s p l m r → Counts s at left n r
+
+pub counting-on :
+    (s : List ℕ) (at left n p l m : ℕ) {b q : ℕ} {d : Bool} → Counting s at left n p l m → b ≡ getD s p 0 → d ≡ digit b → d ≡ true → 1 ≤ l
+    → q ≡ m * 10 + (b - 48) → Counting s at left n (p + 1) (l - 1) q
+counting-on s at left n p l m {q = q} k eb ed e h eq =
+    record {
+      within = omega (arith, digit-inside s p l m eb ed e);
+      few = omega (arith, k .few);
+      small = digit-room s p l m eb ed e h (k .few) (k .small) eq;
+      whole-run = λ r g. k .whole-run r (digits-more s p l m eb ed q r e h eq g);
+    }
+
 pub counted : (s : List ℕ) (at left n : ℕ) {r : Digits} {m p l : ℕ} → Counts s at left n r → r ≡ Are m p l → Counted s at left n m p l
 counted s at left n k e = subst (Counts s at left n) e k
 

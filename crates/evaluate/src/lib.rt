@@ -228,16 +228,18 @@ fn digits_at(s: &[u8], at: usize, left: usize, n: u64) -> Digits
     requires { ⌜ (at ≤ length (now s)) × (left ≤ 15) × (n < 10 ^ (15 - left)) ⌝ }
     ensures { λ r. ⌜ Counts (now (s .entry)) at left n r ⌝ }
 {
-    let b = peek(s, at);
-    if is_digit(b) {
-        if left == 0 {
-            Digits::TooMany
-        } else {
-            digits_at(s, at + 1, left - 1, pushed(n, b))
+    let mut p = at;
+    let mut l = left;
+    let mut m = n;
+    while is_digit(peek(s, p)) {
+        if l == 0 {
+            return Digits::TooMany;
         }
-    } else {
-        Digits::Are(n, at, left)
+        m = pushed(m, peek(s, p));
+        l -= 1;
+        p += 1;
     }
+    Digits::Are(m, p, l)
 }
 
 // The digits behind a point; a second point is no number's.
