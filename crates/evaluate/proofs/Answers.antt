@@ -7,13 +7,16 @@ use Prim.Native.Nat.{ℕ, zero, suc, _+_, _≤_, _<_}
 use mathlib.Core.Logic.{⊎-elim}
 use native.Mathlib.Nat.{eq-or-lt-of-le}
 use native.Mathlib.Omega.{arith}
-use lib.ListN.{length, getD, set, length-set, length-map, List·getD-map}
-use lib.Seq.{ext-getD, getD-set-same, getD-set-other}
+use native.Mathlib.Numerals.{add-one}
+use types.Run.{OneOf, miss}
+use denote.Enum.Declared.{tagOf}
+use lib.ListN.{length, getD, set, drop, length-set, length-map, drop-of-length-le, List·getD-map}
+use lib.Seq.{ext-getD, drop-cons, getD-set-same, getD-set-other}
 use lib.Ieee.{Float, nan}
 use Rattle.lists.specs.Select.{all, holds-of, missing}
 use Rattle.calculation.specs.declared.Reading.{Reading}
 use Rattle.calculation.specs.declared.Reading.the-variants as readings
-use Rattle.calculation.specs.Symbol.{Symbol, symbols, then}
+use Rattle.calculation.specs.Symbol.{Symbol, symbols, start}
 use Rattle.calculation.specs.Expression.{Tree, number-tree, letter-tree, minus, negation, binary, choice}
 use Rattle.calculation.specs.Value.{heard, good, reading, value, letters, near-one, holds}
 use Rattle.calculation.specs.Reader.{wanted, have, reduce, run, read-spelled, tree-of}
@@ -21,15 +24,17 @@ use Rattle.rule.specs.Rule.{true-tree}
 use Rattle.evaluate.specs.declared.Heard.{Heard}
 use Rattle.evaluate.specs.declared.Parsed.{Parsed}
 use Rattle.evaluate.specs.declared.Parsed.the-variants as parsed
-use Rattle.evaluate.specs.declared.Sign.{Sign}
+use Rattle.evaluate.specs.declared.Class.{Class}
+use Rattle.evaluate.specs.declared.Class.the-variants as class
 use Rattle.evaluate.specs.declared.Worth.{Worth}
 use Rattle.evaluate.specs.declared.Worth.the-variants as worths
-use Rattle.evaluate.specs.Scan.{syms, symbol-of, Then}
+use Rattle.evaluate.specs.Scan.{syms, started}
 use Rattle.evaluate.specs.Follow.{from, ends-of, amount, Is-end, Follows}
-use Rattle.evaluate.specs.Answer.{worth, given-letter, letter-of, letters-in, symbols-given, true-heard, near-worth}
+use Rattle.evaluate.specs.Answer.{worth, given-letter, letter-begun, byte-letters, true-heard, near-worth}
 use Rattle.evaluate.proofs.Numbers.{clash}
 use Rattle.evaluate.proofs.Steps.{comes-is, fails-is}
-use Rattle.evaluate.proofs.Letters.{given-then, given-not, letters-same, given-tree}
+use Rattle.evaluate.proofs.Class as class-type
+use Rattle.evaluate.proofs.Letters.{spelling-none, all-append, bytes-same, given-tree}
 
 -- ---- a whole text
 
@@ -69,34 +74,62 @@ allowed-no rs (some t) e q = let z : _≡_ {A = ℕ} 0 1 = cc in absurd (omega a
 
 -- ---- letters
 
-module _ (given : List Bool) (s : List ℕ) (at : ℕ) (x : Sign) {p : ℕ} (y : Then s at (symbol-of x) p) {b : Bool} (eb : b ≡ all (given-letter given) (letter-of (symbol-of x))) where
-  pub letters-on : {r : Bool} → b ≡ true → r ≡ symbols-given given (syms s p) → r ≡ symbols-given given (syms s at)
-  letters-on e h = rw (y .reads) (h ∙ sym (given-then given (symbol-of x) (syms s p) (sym eb ∙ e)))
+abbrev no-letters : List ℕ
+no-letters = 0 ∷ 1 ∷ 3 ∷ []
 
-  pub letters-off : b ≡ false → false ≡ symbols-given given (syms s at)
-  letters-off e = rw (y .reads) (sym (given-not given (symbol-of x) (syms s p) (sym eb ∙ e)))
+module _ (given : List Bool) (b : ℕ) (r : Class) (er : (y : List ℕ) → start b y ≡ started r b y) where
+  begun-by : (q : Class) → r ≡ q → letter-begun (start b []) ≡ letter-begun (started q b [])
+  begun-by q e = ap letter-begun (er [] ∙ ap (λ (y : Class). started y b []) e)
 
-pub letters-end : (given : List Bool) (o : Option (List Symbol)) → o ≡ some [] → true ≡ symbols-given given o
-unfolding letters-in
-letters-end given o e = rw e
+  pub letter-given : {i : ℕ} {t : Bool} → r ≡ class.Letter i → t ≡ getD given i false → t ≡ all (given-letter given) (letter-begun (start b []))
+  letter-given {i} e f = rw (begun-by (class.Letter i) e, f) (sym (and-true (getD given i false)))
+    where
+      and-true : (b : Bool) → (b && true) ≡ b
+      and-true true = refl
+      and-true false = refl
 
-pub letters-wrong : (given : List Bool) (o : Option (List Symbol)) → o ≡ none → false ≡ symbols-given given o
-letters-wrong given o e = rw e
+  pub no-letter-given : OneOf no-letters (tagOf class-type.the-type r) → true ≡ all (given-letter given) (letter-begun (start b []))
+  no-letter-given = go r refl
+    where
+      go : (q : Class) → r ≡ q → OneOf no-letters (tagOf class-type.the-type q) → true ≡ all (given-letter given) (letter-begun (start b []))
+      go class.Blank e h = rw (begun-by class.Blank e)
+      go class.Figure e h = rw (begun-by class.Figure e)
+      go (class.Letter i) e h = absurd (miss no-letters 2 tt h)
+      go class.Other e h = rw (begun-by class.Other e, spelling-none b [])
 
-module _ (given : List Bool) (s : List ℕ) {b : Bool} (eb : b ≡ symbols-given given (syms s 0)) where
+-- ---- bytes one by one
+
+module _ (given : List Bool) (s : List ℕ) (at : ℕ) where
+  from-at : at < length s → all (given-letter given) (byte-letters (drop at s))
+      ≡ all (given-letter given) (letter-begun (start (getD s at 0) [])) && all (given-letter given) (byte-letters (drop (at + 1) s))
+  unfolding byte-letters
+  from-at h = rw (add-one at, drop-cons s at 0 h) (all-append (given-letter given) (letter-begun (start (getD s at 0) [])) (byte-letters (drop (suc at) s)))
+
+  module _ (h : at < length s) {b t : Bool} (e : b ≡ all (given-letter given) (byte-letters (drop at s))) (et : t ≡ all (given-letter given) (letter-begun (start (getD s at 0) []))) where
+    pub letters-on : t ≡ true → b ≡ all (given-letter given) (byte-letters (drop (at + 1) s))
+    letters-on q = e ∙ (from-at h ∙ rw (← et, q))
+
+    pub letters-off : t ≡ false → false ≡ b
+    letters-off q = sym (e ∙ (from-at h ∙ rw (← et, q)))
+
+pub letters-end : (given : List Bool) (s : List ℕ) (at : ℕ) {b : Bool} → length s ≤ at → b ≡ all (given-letter given) (byte-letters (drop at s)) → true ≡ b
+unfolding byte-letters
+letters-end given s at h e = sym (e ∙ rw (drop-of-length-le s h))
+
+module _ (given : List Bool) (s : List ℕ) {b : Bool} (eb : b ≡ all (given-letter given) (byte-letters s)) where
   pub with-yes : {r : Bool} → b ≡ true → r ≡ not (missing (tree-of s)) → r ≡ holds-of (tree-of s) (λ t. all (given-letter given) (letters t))
   with-yes {r} e h = go (tree-of s) refl h
     where
       go : (o : Option Tree) → tree-of s ≡ o → r ≡ not (missing o) → r ≡ holds-of o (λ t. all (given-letter given) (letters t))
       go none q h = h
-      go (some t) q h = h ∙ (sym e ∙ (eb ∙ letters-same s t q given))
+      go (some t) q h = h ∙ (sym e ∙ (eb ∙ bytes-same s t q given))
 
   pub with-no : b ≡ false → false ≡ holds-of (tree-of s) (λ t. all (given-letter given) (letters t))
   with-no e = go (tree-of s) refl
     where
       go : (o : Option Tree) → tree-of s ≡ o → false ≡ holds-of o (λ t. all (given-letter given) (letters t))
       go none q = refl
-      go (some t) q = sym e ∙ (eb ∙ letters-same s t q given)
+      go (some t) q = sym e ∙ (eb ∙ bytes-same s t q given)
 
 -- ---- values
 
@@ -120,7 +153,7 @@ worth-heard rs vs (some t) e h = h ∙ (rw e (ap worths.Is (amount-heard rs t)))
 
 -- ---- truth
 
-module _ (s : List ℕ) (h : Heard) {b : Bool} (eb : b ≡ symbols-given (h .good) (syms s 0)) where
+module _ (s : List ℕ) (h : Heard) {b : Bool} (eb : b ≡ all (given-letter (h .good)) (byte-letters s)) where
   heard-is : true-heard h (tree-of s) ≡ b && holds-of (tree-of s) (λ t. near-one (amount (h .values) t))
   heard-is = given-tree s (h .good) (λ t. near-one (amount (h .values) t)) ∙ rw (← eb)
 

@@ -6,7 +6,7 @@ use Prim.Native.Nat.{ℕ}
 use lib.ListN.{getD}
 use Rattle.lists.specs.Select.{all, holds-of}
 use Rattle.calculation.specs.declared.Reading.{Reading}
-use Rattle.calculation.specs.Symbol.{Symbol, number, letter, operator, not-sign, question, colon, open-paren, close-paren}
+use Rattle.calculation.specs.Symbol.{Symbol, number, letter, operator, not-sign, question, colon, open-paren, close-paren, Start, blank, figure, wrong, sign, start}
 use Rattle.calculation.specs.Expression.{Tree}
 use Rattle.calculation.specs.Value.{value, letters, near-one}
 use Rattle.evaluate.specs.declared.Heard.{Heard}
@@ -37,6 +37,18 @@ letter-of close-paren = []
 unfoldable pub letters-in : List Symbol → List ℕ
 letters-in [] = []
 letters-in (x ∷ ss) = letter-of x ++ letters-in ss
+
+-- the letter that a text begins with, if it does
+abbrev pub letter-begun : Start → List ℕ
+letter-begun blank = []
+letter-begun figure = []
+letter-begun wrong = []
+letter-begun (sign x m) = letter-of x
+
+-- the letters among the bytes of a text, each byte by itself
+unfoldable pub byte-letters : List ℕ → List ℕ
+byte-letters [] = []
+byte-letters (b ∷ s) = letter-begun (start b []) ++ byte-letters s
 
 -- there are symbols, and their letters are given
 abbrev pub symbols-given : List Bool → Option (List Symbol) → Bool

@@ -10,9 +10,9 @@ ghost use Rattle.calculation.specs.Expression.{Tree, level};
 ghost use Rattle.calculation.specs.Value.{truth, is-true, apply, heard, good, letters, finite, near-one};
 ghost use Rattle.calculation.specs.Reader.{wanted, have, tree-of};
 ghost use Rattle.rule.specs.Rule.{true-tree};
-ghost use Rattle.evaluate.specs.Scan.{syms, symbol-of, spelling, single, started, Class-ok, spelled-as, Sign-ok, Spelled-ok, Pair-ok, Counts, Fraction, Numbered, Then, Finds};
+ghost use Rattle.evaluate.specs.Scan.{symbol-of, spelling, single, started, Class-ok, spelled-as, Sign-ok, Spelled-ok, Pair-ok, Counts, Fraction, Numbered, Then, Finds};
 ghost use Rattle.evaluate.specs.Follow.{amount, Begins, Joins, Colon-at, Close-at, Follows, Goes-on, Is-end, in-if, in-else};
-ghost use Rattle.evaluate.specs.Answer.{worth, given-letter, letter-of, symbols-given, true-heard, near-worth};
+ghost use Rattle.evaluate.specs.Answer.{worth, given-letter, letter-begun, byte-letters, true-heard, near-worth};
 use calculation::Operator;
 use calculation::Reading;
 
@@ -574,39 +574,34 @@ pub fn allowed(s: &[u8]) -> bool
     }
 }
 
-fn sign_given(x: Sign, given: &[bool; 21]) -> bool
-    requires { ⌜ Sign-ok x ⌝ }
-    ensures { λ r. ⌜ r ≡ all (given-letter (now (given .entry))) (letter-of (symbol-of x)) ⌝ }
+fn byte_given(b: u8, given: &[bool; 21]) -> bool
+    ensures { λ r. ⌜ r ≡ all (given-letter (now (given .entry))) (letter-begun (start b [])) ⌝ }
 {
-    match x {
-        Sign::Letter(i) => given[i],
+    match class_of(b) {
+        Class::Letter(i) => given[i],
         _ => true,
     }
 }
 
-// Whether each letter from a place on is among those given.
-fn letters_given(s: &[u8], given: &[bool; 21], at: usize) -> bool
-    requires { ⌜ at ≤ length (now s) ⌝ }
-    ensures { λ r. ⌜ r ≡ symbols-given (now (given .entry)) (syms (now (s .entry)) at) ⌝ }
+// Whether each letter is among those given. A byte is enough to see a letter, so no symbols are read.
+fn letters_given(s: &[u8], given: &[bool; 21]) -> bool
+    ensures { λ r. ⌜ r ≡ all (given-letter (now (given .entry))) (byte-letters (now (s .entry))) ⌝ }
 {
-    match next_at(s, at) {
-        Next::Is(x, p) => {
-            if sign_given(x, given) {
-                letters_given(s, given, p)
-            } else {
-                false
-            }
+    let mut at = 0;
+    while at < s.len() {
+        if !byte_given(s[at], given) {
+            return false;
         }
-        Next::End => true,
-        Next::Wrong => false,
+        at += 1;
     }
+    true
 }
 
 // Whether a text is a calculation whose letters are all among those given.
 pub fn allowed_with(s: &[u8], given: [bool; 21]) -> bool
     ensures { λ r. ⌜ r ≡ holds-of (tree-of (now (s .entry))) (λ t. all (λ i. getD given i false) (letters t)) ⌝ }
 {
-    if letters_given(s, &given, 0) {
+    if letters_given(s, &given) {
         allowed(s)
     } else {
         false
@@ -685,7 +680,7 @@ pub fn holds_heard(s: &[u8], h: Heard) -> bool
 {
     let good = h.good;
     let vs = h.values;
-    if letters_given(s, &good, 0) {
+    if letters_given(s, &good) {
         near(worth_of(s, &vs))
     } else {
         false
