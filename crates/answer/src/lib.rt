@@ -4,7 +4,7 @@ use decision::Found;
 use rule::Access;
 ghost use mathlib.Core.Path.{_≡_};
 ghost use mathlib.Core.Bool.{true};
-ghost use mathlib.Core.List.{map};
+ghost use mathlib.Core.List.{List, map};
 ghost use Prim.Native.Nat.{_+_, _<_};
 ghost use lib.ListN.{length};
 ghost use lib.Dec.{eqb};
@@ -24,7 +24,7 @@ ghost use Rattle.decision.specs.LookUp.{look-up, part-in};
 ghost use Rattle.answer.specs.Stored.{section, Stored, word-of, Word, Ordered, name-place, Finds};
 ghost use Rattle.answer.specs.Sides.{groups, asked, references-word, references-run, Refers};
 ghost use Rattle.answer.specs.Verdicts.{with-trap, flagged, given, better, by-rules};
-ghost use Rattle.answer.specs.Questions.{question};
+ghost use Rattle.answer.specs.Questions.{question, Heard-as};
 ghost use Rattle.answer.specs.Deciding.{Names-input};
 
 // The sections that hold records.
@@ -325,16 +325,16 @@ fn better_of(a: Verdict, b: Verdict) -> Verdict
     if rank_of(x) < rank_of(y) { b } else { a }
 }
 
-fn calculation_true(table: &[u8], rule: usize, rs: [Reading; 21]) -> bool
-    requires { ⌜ Stored (now table) rules rule ⌝ }
-    ensures { λ r. ⌜ r ≡ calculation-holds rs (rule-of (view (now (table .entry))) (row (view (now (table .entry))) rules rule) .calculation) ⌝ }
+fn calculation_true(table: &[u8], rule: usize, values: &[f64; 21], goods: &[bool; 21]) -> bool
+    requires { ⌜ Stored (now table) rules rule × (length (now values) ≡ 21) ⌝ }
+    ensures { λ r. ⌜ ((rs : List Reading) → Heard-as (now (values .entry)) (now (goods .entry)) rs → r ≡ calculation-holds rs (rule-of (view (now (table .entry))) (row (view (now (table .entry))) rules rule) .calculation)) ⌝ }
 {
     let at = field(table, Kind::Rules, rule, 5);
     let n = field(table, Kind::Rules, rule, 6);
     if at + n == 0 {
         return true;
     }
-    evaluate::holds(name_of(table, Kind::Rules, rule), rs)
+    evaluate::holds_given(name_of(table, Kind::Rules, rule), values, goods)
 }
 
 fn passes_rule(
@@ -343,10 +343,11 @@ fn passes_rule(
     user: &[u8],
     host: &[u8],
     level: usize,
-    rs: [Reading; 21],
+    values: &[f64; 21],
+    goods: &[bool; 21],
 ) -> bool
-    requires { ⌜ Stored (now table) rules rule ⌝ }
-    ensures { λ r. ⌜ r ≡ passes (question (now (user .entry)) (now (host .entry)) level rs) (rule-of (view (now (table .entry))) (row (view (now (table .entry))) rules rule)) ⌝ }
+    requires { ⌜ Stored (now table) rules rule × (length (now values) ≡ 21) ⌝ }
+    ensures { λ r. ⌜ ((rs : List Reading) → Heard-as (now (values .entry)) (now (goods .entry)) rs → r ≡ passes (question (now (user .entry)) (now (host .entry)) level rs) (rule-of (view (now (table .entry))) (row (view (now (table .entry))) rules rule))) ⌝ }
 {
     let flags = field(table, Kind::Rules, rule, 0);
     if is_set(flags / 16) {
@@ -361,7 +362,7 @@ fn passes_rule(
     if !belongs_to(table, Side::Hosts, rule, host) {
         return false;
     }
-    calculation_true(table, rule, rs)
+    calculation_true(table, rule, values, goods)
 }
 
 fn given_by(
@@ -370,12 +371,13 @@ fn given_by(
     user: &[u8],
     host: &[u8],
     level: usize,
-    rs: [Reading; 21],
+    values: &[f64; 21],
+    goods: &[bool; 21],
 ) -> Verdict
-    requires { ⌜ Stored (now table) rules rule ⌝ }
-    ensures { λ r. ⌜ r ≡ given (question (now (user .entry)) (now (host .entry)) level rs) (rule-of (view (now (table .entry))) (row (view (now (table .entry))) rules rule)) ⌝ }
+    requires { ⌜ Stored (now table) rules rule × (length (now values) ≡ 21) ⌝ }
+    ensures { λ r. ⌜ ((rs : List Reading) → Heard-as (now (values .entry)) (now (goods .entry)) rs → r ≡ given (question (now (user .entry)) (now (host .entry)) level rs) (rule-of (view (now (table .entry))) (row (view (now (table .entry))) rules rule))) ⌝ }
 {
-    if passes_rule(table, rule, user, host, level, rs) {
+    if passes_rule(table, rule, user, host, level, values, goods) {
         verdict_of(field(table, Kind::Rules, rule, 0))
     } else {
         gives(Access::None, false)
@@ -389,17 +391,21 @@ fn verdict_on(
     user: &[u8],
     host: &[u8],
     level: usize,
-    rs: [Reading; 21],
+    values: &[f64; 21],
+    goods: &[bool; 21],
 ) -> Verdict
-    requires { ⌜ Stored (now table) access-groups group ⌝ }
-    ensures { λ r. ⌜ r ≡ by-rules (question (now (user .entry)) (now (host .entry)) level rs) (rules-of (view (now (table .entry))) (row (view (now (table .entry))) access-groups group)) ⌝ }
+    requires { ⌜ Stored (now table) access-groups group × (length (now values) ≡ 21) ⌝ }
+    ensures { λ r. ⌜ ((rs : List Reading) → Heard-as (now (values .entry)) (now (goods .entry)) rs → r ≡ by-rules (question (now (user .entry)) (now (host .entry)) level rs) (rules-of (view (now (table .entry))) (row (view (now (table .entry))) access-groups group))) ⌝ }
 {
     let start = field(table, Kind::AccessGroups, group, 4);
     let n = field(table, Kind::AccessGroups, group, 5);
     let mut sofar = gives(Access::None, false);
     let mut i = 0;
     while i < n {
-        sofar = better_of(sofar, given_by(table, start + i, user, host, level, rs));
+        sofar = better_of(
+            sofar,
+            given_by(table, start + i, user, host, level, values, goods),
+        );
         i += 1;
     }
     sofar
@@ -428,7 +434,10 @@ pub fn decide_checked(
             trap: false,
         },
         Place::At(i) => {
-            let v = verdict_on(table, i, user, host, wide(level), rs);
+            let h = evaluate::hear(rs);
+            let values = h.values;
+            let goods = h.good;
+            let v = verdict_on(table, i, user, host, wide(level), &values, &goods);
             let access = v.access;
             Answer::Answered {
                 access,

@@ -21,7 +21,6 @@ use Rattle.calculation.specs.Expression.{Tree, number-tree, letter-tree, minus,
 use Rattle.calculation.specs.Value.{heard, good, reading, value, letters, near-one, holds}
 use Rattle.calculation.specs.Reader.{wanted, have, reduce, run, read-spelled, tree-of}
 use Rattle.rule.specs.Rule.{true-tree}
-use Rattle.evaluate.specs.declared.Heard.{Heard}
 use Rattle.evaluate.specs.declared.Parsed.{Parsed}
 use Rattle.evaluate.specs.declared.Parsed.the-variants as parsed
 use Rattle.evaluate.specs.declared.Class.{Class}
@@ -30,7 +29,7 @@ use Rattle.evaluate.specs.declared.Worth.{Worth}
 use Rattle.evaluate.specs.declared.Worth.the-variants as worths
 use Rattle.evaluate.specs.Scan.{syms, started}
 use Rattle.evaluate.specs.Follow.{from, ends-of, amount, Is-end, Follows}
-use Rattle.evaluate.specs.Answer.{worth, given-letter, letter-begun, byte-letters, true-heard, near-worth}
+use Rattle.evaluate.specs.Answer.{worth, given-letter, letter-begun, byte-letters, true-given, near-worth}
 use Rattle.evaluate.proofs.Numbers.{clash}
 use Rattle.evaluate.proofs.Steps.{comes-is, fails-is}
 use Rattle.evaluate.proofs.Class as class-type
@@ -153,22 +152,22 @@ worth-heard rs vs (some t) e h = h ∙ (rw e (ap worths.Is (amount-heard rs t)))
 
 -- ---- truth
 
-module _ (s : List ℕ) (h : Heard) {b : Bool} (eb : b ≡ all (given-letter (h .good)) (byte-letters s)) where
-  heard-is : true-heard h (tree-of s) ≡ b && holds-of (tree-of s) (λ t. near-one (amount (h .values) t))
-  heard-is = given-tree s (h .good) (λ t. near-one (amount (h .values) t)) ∙ rw (← eb)
+module _ (s : List ℕ) (values : List Float) (goods : List Bool) {b : Bool} (eb : b ≡ all (given-letter goods) (byte-letters s)) where
+  given-is : true-given values goods (tree-of s) ≡ b && holds-of (tree-of s) (λ t. near-one (amount values t))
+  given-is = given-tree s goods (λ t. near-one (amount values t)) ∙ rw (← eb)
 
-  pub heard-yes : {w : Worth} {r : Bool} → b ≡ true → w ≡ worth (map readings.Value (h .values)) (tree-of s) → r ≡ near-worth w → r ≡ true-heard h (tree-of s)
-  heard-yes {w} {r} e ew er =
-      let x : near-worth w ≡ holds-of (tree-of s) (λ t. near-one (amount (h .values) t)) = rw ew (go (tree-of s)) in
-      let y : true-heard h (tree-of s) ≡ holds-of (tree-of s) (λ t. near-one (amount (h .values) t)) = heard-is ∙ rw e in
+  pub given-yes : {w : Worth} {r : Bool} → b ≡ true → w ≡ worth (map readings.Value values) (tree-of s) → r ≡ near-worth w → r ≡ true-given values goods (tree-of s)
+  given-yes {w} {r} e ew er =
+      let x : near-worth w ≡ holds-of (tree-of s) (λ t. near-one (amount values t)) = rw ew (go (tree-of s)) in
+      let y : true-given values goods (tree-of s) ≡ holds-of (tree-of s) (λ t. near-one (amount values t)) = given-is ∙ rw e in
       er ∙ (x ∙ sym y)
     where
-      go : (o : Option Tree) → near-worth (worth (map readings.Value (h .values)) o) ≡ holds-of o (λ t. near-one (amount (h .values) t))
+      go : (o : Option Tree) → near-worth (worth (map readings.Value values) o) ≡ holds-of o (λ t. near-one (amount values t))
       go none = refl
       go (some t) = refl
 
-  pub heard-no : b ≡ false → false ≡ true-heard h (tree-of s)
-  heard-no e = sym (heard-is ∙ rw e)
+  pub given-no : b ≡ false → false ≡ true-given values goods (tree-of s)
+  given-no e = sym (given-is ∙ rw e)
 
 good-letter : (rs : List Reading) (i : ℕ) → given-letter (map good rs) i ≡ good (reading rs i)
 good-letter rs i = List·getD-map good rs i readings.NeverHeard
@@ -177,9 +176,9 @@ all-good : (rs : List Reading) (ls : List ℕ) → all (given-letter (map good r
 all-good rs [] = refl
 all-good rs (i ∷ ls) = rw (good-letter rs i, all-good rs ls)
 
-pub holds-is : (rs : List Reading) (h : Heard) (o : Option Tree) {r : Bool} → h .values ≡ map heard rs → h .good ≡ map good rs → r ≡ true-heard h o → r ≡ true-tree rs o
-holds-is rs h none ev eg e = e
-holds-is rs h (some t) ev eg e = e ∙ rw (ev, eg, all-good rs (letters t), amount-heard rs t)
+pub holds-is : (rs : List Reading) (values : List Float) (goods : List Bool) (o : Option Tree) {r : Bool} → values ≡ map heard rs → goods ≡ map good rs → r ≡ true-given values goods o → r ≡ true-tree rs o
+holds-is rs values goods none ev eg e = e
+holds-is rs values goods (some t) ev eg e = e ∙ rw (ev, eg, all-good rs (letters t), amount-heard rs t)
 
 -- ---- readings heard one by one
 

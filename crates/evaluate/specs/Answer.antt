@@ -4,6 +4,7 @@ use mathlib.Core.List.{List, [], _∷_, _++_}
 use mathlib.Core.Option.{Option, none, some}
 use Prim.Native.Nat.{ℕ}
 use lib.ListN.{getD}
+use lib.Ieee.{Float}
 use Rattle.lists.specs.Select.{all, holds-of}
 use Rattle.calculation.specs.declared.Reading.{Reading}
 use Rattle.calculation.specs.Symbol.{Symbol, number, letter, operator, not-sign, question, colon, open-paren, close-paren, Start, blank, figure, wrong, sign, start}
@@ -54,9 +55,13 @@ byte-letters (b ∷ s) = letter-begun (start b []) ++ byte-letters s
 abbrev pub symbols-given : List Bool → Option (List Symbol) → Bool
 symbols-given given o = holds-of o (λ ss. all (given-letter given) (letters-in ss))
 
+-- a calculation is true of the letters' values and of which are good
+abbrev pub true-given : List Float → List Bool → Option Tree → Bool
+true-given values goods o = holds-of o (λ t. all (given-letter goods) (letters t) && near-one (amount values t))
+
 -- a calculation is true of readings already heard
 abbrev pub true-heard : Heard → Option Tree → Bool
-true-heard h o = holds-of o (λ t. all (given-letter (h .good)) (letters t) && near-one (amount (h .values) t))
+true-heard h o = true-given (h .values) (h .good) o
 
 abbrev pub near-worth : Worth → Bool
 near-worth worths.NoCalculation = false

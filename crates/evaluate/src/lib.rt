@@ -12,7 +12,7 @@ ghost use Rattle.calculation.specs.Reader.{wanted, have, tree-of};
 ghost use Rattle.rule.specs.Rule.{true-tree};
 ghost use Rattle.evaluate.specs.Scan.{symbol-of, spelling, single, started, Class-ok, spelled-as, Sign-ok, Spelled-ok, Pair-ok, Counts, Fraction, Numbered, Then, Finds};
 ghost use Rattle.evaluate.specs.Follow.{amount, Begins, Joins, Colon-at, Close-at, Follows, Goes-on, Is-end, in-if, in-else};
-ghost use Rattle.evaluate.specs.Answer.{worth, given-letter, letter-begun, byte-letters, true-heard, near-worth};
+ghost use Rattle.evaluate.specs.Answer.{worth, given-letter, letter-begun, byte-letters, true-given, true-heard, near-worth};
 use calculation::Operator;
 use calculation::Reading;
 
@@ -674,17 +674,25 @@ fn near(w: Worth) -> bool
     }
 }
 
+// Whether a calculation is true, from the letters' values and which of them are good.
+pub fn holds_given(s: &[u8], values: &[f64; 21], goods: &[bool; 21]) -> bool
+    requires { ⌜ length (now values) ≡ 21 ⌝ }
+    ensures { λ r. ⌜ r ≡ true-given (now (values .entry)) (now (goods .entry)) (tree-of (now (s .entry))) ⌝ }
+{
+    if letters_given(s, goods) {
+        near(worth_of(s, values))
+    } else {
+        false
+    }
+}
+
 // Whether a calculation is true of readings already heard.
 pub fn holds_heard(s: &[u8], h: Heard) -> bool
     ensures { λ r. ⌜ r ≡ true-heard h (tree-of (now (s .entry))) ⌝ }
 {
     let good = h.good;
     let vs = h.values;
-    if letters_given(s, &good) {
-        near(worth_of(s, &vs))
-    } else {
-        false
-    }
+    holds_given(s, &vs, &good)
 }
 
 pub fn holds(s: &[u8], rs: [Reading; 21]) -> bool

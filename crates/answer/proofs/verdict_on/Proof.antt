@@ -1,4 +1,4 @@
-use Rattle.answer.specs.Questions.{question}
+use Rattle.answer.specs.Questions.{question, Heard-as}
 use Rattle.answer.specs.Verdicts.{Sofar, verdict-starts, verdict-turn, verdict-ends}
 use Rattle.table.specs.Standing.{row, stands, rules-within}
 use Rattle.table.specs.Policy.{rule-of, rules-of}
@@ -6,41 +6,36 @@ use Rattle.table.specs.Check.{rules-run}
 use Rattle.table.specs.View.{view}
 use Rattle.file.specs.Limit.{access-groups, rules}
 use native.Mathlib.Omega.{arith}
-use mathlib.Core.List.{[]}
+use mathlib.Core.List.{List, []}
 use Prim.Native.Nat.{_≤_, _-_}
+use Rattle.calculation.specs.declared.Reading.{Reading}
 use borrow.Author.Needs.{needs}
 use Rattle.answer.proofs.verdict_on.Statement.{statement}
 use Rattle.answer.proofs.verdict_on.Tie as tie
-use Rattle.answer.proofs.verdict_on.Reads as reads
-use Rattle.answer.proofs.verdict_on.Lts as lts
-use Rattle.answer.proofs.better_of.Reads as better-of-reads
-use Rattle.answer.proofs.field.Reads as field-reads
-use Rattle.answer.proofs.given_by.Reads as given-by-reads
-use Rattle.answer.proofs.gives.Reads as gives-reads
 
 abbrev Inv-loop : tie.InvT-loop
-Inv-loop table group user host level rs start n sofar₀ i₀ sofar i = (i ≤ n) × Sofar (question user host level rs) (rules-of (view table) (row (view table) access-groups group)) i sofar
+Inv-loop table group user host level values goods start n sofar₀ i₀ sofar i = (i ≤ n) × ((rs : List Reading) → Heard-as values goods rs → Sofar (question user host level rs) (rules-of (view table) (row (view table) access-groups group)) i sofar)
 
 abbrev μ-loop : tie.MeasureT-loop
-μ-loop table group user host level rs start n sofar₀ i₀ sofar i = n - i
+μ-loop table group user host level values goods start n sofar₀ i₀ sofar i = n - i
 
 field-requires : tie.Need-field-requires Inv-loop μ-loop
-field-requires c κs = (c .before .before .before .pre, omega arith)
+field-requires c κs = (c .before .before .before .pre .0, omega arith)
 
 field-requires-2 : tie.Need-field-requires-2 Inv-loop μ-loop
-field-requires-2 c κs = (c .before .before .before .before .pre, omega arith)
+field-requires-2 c κs = (c .before .before .before .before .pre .0, omega arith)
 
 gives-requires : tie.Need-gives-requires Inv-loop μ-loop
 gives-requires c κs = search needs
 
 loop-holds : tie.Need-loop-holds Inv-loop μ-loop
-loop-holds c = (omega arith, rw (c .gives .ensures) (verdict-starts (question (c .before .before .before .before .before .before .args .user .now) (c .before .before .before .before .before .before .args .host .now) (c .before .before .before .before .before .before .args .level) (c .before .before .before .before .before .before .args .rs)) (rule-of (view (c .before .before .before .before .before .before .args .table .now))) (rules-run (row (view (c .before .before .before .before .before .before .args .table .now)) access-groups (c .before .before .before .before .before .before .args .group))) (view (c .before .before .before .before .before .before .args .table .now) .records rules) []))
+loop-holds c = (omega arith, λ rs h. rw (c .gives .ensures) (verdict-starts (question (c .before .before .before .before .before .before .args .user .now) (c .before .before .before .before .before .before .args .host .now) (c .before .before .before .before .before .before .args .level) rs) (rule-of (view (c .before .before .before .before .before .before .args .table .now))) (rules-run (row (view (c .before .before .before .before .before .before .args .table .now)) access-groups (c .before .before .before .before .before .before .args .group))) (view (c .before .before .before .before .before .before .args .table .now) .records rules) []))
 
 add-given-by : tie.Need-add-given-by Inv-loop μ-loop
 add-given-by c = omega (arith, c .before .before .before .before .field .ensures .small, c .before .before .before .field2 .ensures .small)
 
 given-by-requires : tie.Need-given-by-requires Inv-loop μ-loop
-given-by-requires c κs = record { table = c .before .before .before .before .before .before .before .before .pre .table; inside = omega (arith, (rules-within (view (c .before .before .before .before .before .before .before .before .args .table .now)) (stands (c .before .before .before .before .before .before .before .before .args .table .now) (c .before .before .before .before .before .before .before .before .pre .table) .1) (c .before .before .before .before .before .before .before .before .args .group) (c .before .before .before .before .before .before .before .before .pre .inside)), c .before .before .before .before .field .ensures .is, c .before .before .before .field2 .ensures .is) }
+given-by-requires c κs = (record { table = c .before .before .before .before .before .before .before .before .pre .0 .table; inside = omega (arith, (rules-within (view (c .before .before .before .before .before .before .before .before .args .table .now)) (stands (c .before .before .before .before .before .before .before .before .args .table .now) (c .before .before .before .before .before .before .before .before .pre .0 .table) .1) (c .before .before .before .before .before .before .before .before .args .group) (c .before .before .before .before .before .before .before .before .pre .0 .inside)), c .before .before .before .before .field .ensures .is, c .before .before .before .field2 .ensures .is) }, c .before .before .before .before .before .before .before .before .pre .1)
 
 better-of-requires : tie.Need-better-of-requires Inv-loop μ-loop
 better-of-requires c κs = search needs
@@ -52,10 +47,10 @@ loop-less : tie.Need-loop-less Inv-loop μ-loop
 loop-less c = search needs
 
 loop-again : tie.Need-loop-again Inv-loop μ-loop
-loop-again c = (omega arith, rw (c .better-of .ensures) (verdict-turn (question (c .before .before .before .before .before .before .before .before .before .before .args .user .now) (c .before .before .before .before .before .before .before .before .before .before .args .host .now) (c .before .before .before .before .before .before .before .before .before .before .args .level) (c .before .before .before .before .before .before .before .before .before .before .args .rs)) (rule-of (view (c .before .before .before .before .before .before .before .before .before .before .args .table .now))) (rules-run (row (view (c .before .before .before .before .before .before .before .before .before .before .args .table .now)) access-groups (c .before .before .before .before .before .before .before .before .before .before .args .group))) (view (c .before .before .before .before .before .before .before .before .before .before .args .table .now) .records rules) [] (c .before .before .before .loop .i) (c .before .before .before .before .before .before .field .ensures .is) (c .before .before .before .before .before .field2 .ensures .is) (rules-within (view (c .before .before .before .before .before .before .before .before .before .before .args .table .now)) (stands (c .before .before .before .before .before .before .before .before .before .before .args .table .now) (c .before .before .before .before .before .before .before .before .before .before .pre .table) .1) (c .before .before .before .before .before .before .before .before .before .before .args .group) (c .before .before .before .before .before .before .before .before .before .before .pre .inside)) (omega arith) (c .before .given-by .ensures) (c .before .before .before .loop .inv .1)))
+loop-again c = (omega arith, λ rs h. rw (c .better-of .ensures) (verdict-turn (question (c .before .before .before .before .before .before .before .before .before .before .args .user .now) (c .before .before .before .before .before .before .before .before .before .before .args .host .now) (c .before .before .before .before .before .before .before .before .before .before .args .level) rs) (rule-of (view (c .before .before .before .before .before .before .before .before .before .before .args .table .now))) (rules-run (row (view (c .before .before .before .before .before .before .before .before .before .before .args .table .now)) access-groups (c .before .before .before .before .before .before .before .before .before .before .args .group))) (view (c .before .before .before .before .before .before .before .before .before .before .args .table .now) .records rules) [] (c .before .before .before .loop .i) (c .before .before .before .before .before .before .field .ensures .is) (c .before .before .before .before .before .field2 .ensures .is) (rules-within (view (c .before .before .before .before .before .before .before .before .before .before .args .table .now)) (stands (c .before .before .before .before .before .before .before .before .before .before .args .table .now) (c .before .before .before .before .before .before .before .before .before .before .pre .0 .table) .1) (c .before .before .before .before .before .before .before .before .before .before .args .group) (c .before .before .before .before .before .before .before .before .before .before .pre .0 .inside)) (omega arith) (c .before .given-by .ensures rs h) (c .before .before .before .loop .inv .1 rs h)))
 
 returns : tie.Need-returns Inv-loop μ-loop
-returns c = verdict-ends (question (c .before .before .before .before .before .before .before .before .args .user .now) (c .before .before .before .before .before .before .before .before .args .host .now) (c .before .before .before .before .before .before .before .before .args .level) (c .before .before .before .before .before .before .before .before .args .rs)) (rule-of (view (c .before .before .before .before .before .before .before .before .args .table .now))) (rules-run (row (view (c .before .before .before .before .before .before .before .before .args .table .now)) access-groups (c .before .before .before .before .before .before .before .before .args .group))) (view (c .before .before .before .before .before .before .before .before .args .table .now) .records rules) [] (c .before .loop .i) (c .before .before .before .field2 .ensures .is) (omega arith) (c .before .loop .inv .1)
+returns c = λ rs h. verdict-ends (question (c .before .before .before .before .before .before .before .before .args .user .now) (c .before .before .before .before .before .before .before .before .args .host .now) (c .before .before .before .before .before .before .before .before .args .level) rs) (rule-of (view (c .before .before .before .before .before .before .before .before .args .table .now))) (rules-run (row (view (c .before .before .before .before .before .before .before .before .args .table .now)) access-groups (c .before .before .before .before .before .before .before .before .args .group))) (view (c .before .before .before .before .before .before .before .before .args .table .now) .records rules) [] (c .before .loop .i) (c .before .before .before .field2 .ensures .is) (omega arith) (c .before .loop .inv .1 rs h)
 
 pub verdict-on-spec : {M : Type 1} → statement M
 verdict-on-spec =
