@@ -5,8 +5,8 @@ use mathlib.Core.List.{List, _∷_, map}
 use mathlib.Core.Option.{Option}
 use Prim.Native.Nat.{ℕ, zero, suc, _+_, _≤_, _<_}
 use native.Mathlib.Omega.{arith}
-use lib.Dec.{eqb, ltb}
-use borrow.Author.Tests.{lt-ltb, le-ltb}
+use lib.Dec.{eqb, leb, ltb}
+use borrow.Author.Tests.{leb-true, leb-false, lt-ltb, le-ltb}
 use lib.ListN.{length, drop, getD}
 use Rattle.lists.specs.Select.{select, prepend-if, first, first-if}
 use Rattle.lists.specs.Runs.{Run, part}
@@ -59,13 +59,6 @@ permission-high (suc (suc n)) h g = refl
 -- the first of the greater
 abbrev pub better : Verdict → Verdict → Verdict
 better v w = cond (ltb (rank (v .access)) (rank (w .access))) w v
-
-module _ (v w : Verdict) {x y : ℕ} (p : x ≡ rank (v .access)) (q : y ≡ rank (w .access)) where
-  pub better-on : x < y → w ≡ better v w
-  better-on l = rw (lt-ltb (rank (v .access)) (rank (w .access)) (omega arith))
-
-  pub better-off : y ≤ x → v ≡ better v w
-  better-off l = rw (le-ltb (rank (v .access)) (rank (w .access)) (omega arith))
 
 abbrev pub by-rules : Question → List Rule → Verdict
 by-rules q rs = record { access = access-by q rs; trap = trap-by q rs }
@@ -147,11 +140,20 @@ module _ (q : Question) where
           (trap (gives-write r) (first gives-write (select (passes q) rs)))
       go false = sym (then-nothing (by-rules q rs))
 
-  pub given-on : (r : Rule) → passes q r ≡ true → given q r ≡ gift r
-  given-on r e = rw e
+  -- a rule beside a verdict v: it can give no more, or it passes, or it fails
+  module _ (v : Verdict) (r : Rule) where
+    pub idle : leb (rank (r .permission)) (rank (v .access)) ≡ true → v ≡ better v (given q r)
+    idle e = go (passes q r)
+      where
+        go : (b : Bool) → v ≡ better v (cond b (gift r) nothing)
+        go true = rw (le-ltb (rank (v .access)) (rank (r .permission)) (leb-true (rank (r .permission)) (rank (v .access)) e)) refl
+        go false = rw (le-ltb (rank (v .access)) 0 (omega arith)) refl
 
-  pub given-off : (r : Rule) → passes q r ≡ false → given q r ≡ nothing
-  given-off r e = rw e
+    pub won : leb (rank (r .permission)) (rank (v .access)) ≡ false → passes q r ≡ true → gift r ≡ better v (given q r)
+    won e p = rw (p, lt-ltb (rank (v .access)) (rank (r .permission)) (leb-false (rank (r .permission)) (rank (v .access)) e)) refl
+
+    pub lost : passes q r ≡ false → v ≡ better v (given q r)
+    lost p = rw (p, le-ltb (rank (v .access)) 0 (omega arith)) refl
 
   -- i rules have been tried: what they give, and what is left
   pub record Sofar (rs : List Rule) (i : ℕ) (v : Verdict) : Type 0 where

@@ -7,7 +7,7 @@ ghost use mathlib.Core.Bool.{true};
 ghost use mathlib.Core.List.{List, map};
 ghost use Prim.Native.Nat.{_+_, _<_};
 ghost use lib.ListN.{length};
-ghost use lib.Dec.{eqb};
+ghost use lib.Dec.{eqb, leb};
 ghost use Rattle.lists.specs.Text.{same};
 ghost use Rattle.lists.specs.Select.{any, first};
 ghost use Rattle.lists.specs.Runs.{part};
@@ -316,13 +316,13 @@ fn verdict_of(flags: usize) -> Verdict
     }
 }
 
-// The greater of two, of equals the first.
-fn better_of(a: Verdict, b: Verdict) -> Verdict
-    ensures { λ r. ⌜ r ≡ better a b ⌝ }
+// Whether the first gives as much as the second.
+fn is_enough(a: Verdict, b: Verdict) -> bool
+    ensures { λ r. ⌜ r ≡ leb (rank (b .access)) (rank (a .access)) ⌝ }
 {
     let x = a.access;
     let y = b.access;
-    if rank_of(x) < rank_of(y) { b } else { a }
+    rank_of(y) <= rank_of(x)
 }
 
 fn calculation_true(table: &[u8], rule: usize, values: &[f64; 21], goods: &[bool; 21]) -> bool
@@ -365,7 +365,8 @@ fn passes_rule(
     calculation_true(table, rule, values, goods)
 }
 
-fn given_by(
+// What the rules so far and one more give, the greater, of equals the first. A rule that can give no more is not tried.
+fn with_rule(
     table: &[u8],
     rule: usize,
     user: &[u8],
@@ -373,18 +374,23 @@ fn given_by(
     level: usize,
     values: &[f64; 21],
     goods: &[bool; 21],
+    sofar: Verdict,
 ) -> Verdict
     requires { ⌜ Stored (now table) rules rule × (length (now values) ≡ 21) ⌝ }
-    ensures { λ r. ⌜ ((rs : List Reading) → Heard-as (now (values .entry)) (now (goods .entry)) rs → r ≡ given (question (now (user .entry)) (now (host .entry)) level rs) (rule-of (view (now (table .entry))) (row (view (now (table .entry))) rules rule))) ⌝ }
+    ensures { λ r. ⌜ ((rs : List Reading) → Heard-as (now (values .entry)) (now (goods .entry)) rs → r ≡ better sofar (given (question (now (user .entry)) (now (host .entry)) level rs) (rule-of (view (now (table .entry))) (row (view (now (table .entry))) rules rule)))) ⌝ }
 {
+    let offered = verdict_of(field(table, Kind::Rules, rule, 0));
+    if is_enough(sofar, offered) {
+        return sofar;
+    }
     if passes_rule(table, rule, user, host, level, values, goods) {
-        verdict_of(field(table, Kind::Rules, rule, 0))
+        offered
     } else {
-        gives(Access::None, false)
+        sofar
     }
 }
 
-// What the rules of an access group give: each is tried once.
+// What the rules of an access group give: each is tried at most once.
 fn verdict_on(
     table: &[u8],
     group: usize,
@@ -402,10 +408,7 @@ fn verdict_on(
     let mut sofar = gives(Access::None, false);
     let mut i = 0;
     while i < n {
-        sofar = better_of(
-            sofar,
-            given_by(table, start + i, user, host, level, values, goods),
-        );
+        sofar = with_rule(table, start + i, user, host, level, values, goods, sofar);
         i += 1;
     }
     sofar

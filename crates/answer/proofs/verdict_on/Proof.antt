@@ -1,3 +1,4 @@
+use mathlib.Core.Path.{refl}
 use Rattle.answer.specs.Questions.{question, Heard-as}
 use Rattle.answer.specs.Verdicts.{Sofar, verdict-starts, verdict-turn, verdict-ends}
 use Rattle.table.specs.Standing.{row, stands, rules-within}
@@ -31,14 +32,11 @@ gives-requires c κs = search needs
 loop-holds : tie.Need-loop-holds Inv-loop μ-loop
 loop-holds c = (omega arith, λ rs h. rw (c .gives .ensures) (verdict-starts (question (c .before .before .before .before .before .before .args .user .now) (c .before .before .before .before .before .before .args .host .now) (c .before .before .before .before .before .before .args .level) rs) (rule-of (view (c .before .before .before .before .before .before .args .table .now))) (rules-run (row (view (c .before .before .before .before .before .before .args .table .now)) access-groups (c .before .before .before .before .before .before .args .group))) (view (c .before .before .before .before .before .before .args .table .now) .records rules) []))
 
-add-given-by : tie.Need-add-given-by Inv-loop μ-loop
-add-given-by c = omega (arith, c .before .before .before .before .field .ensures .small, c .before .before .before .field2 .ensures .small)
+add-with-rule : tie.Need-add-with-rule Inv-loop μ-loop
+add-with-rule c = omega (arith, c .before .before .before .before .field .ensures .small, c .before .before .before .field2 .ensures .small)
 
-given-by-requires : tie.Need-given-by-requires Inv-loop μ-loop
-given-by-requires c κs = (record { table = c .before .before .before .before .before .before .before .before .pre .0 .table; inside = omega (arith, (rules-within (view (c .before .before .before .before .before .before .before .before .args .table .now)) (stands (c .before .before .before .before .before .before .before .before .args .table .now) (c .before .before .before .before .before .before .before .before .pre .0 .table) .1) (c .before .before .before .before .before .before .before .before .args .group) (c .before .before .before .before .before .before .before .before .pre .0 .inside)), c .before .before .before .before .field .ensures .is, c .before .before .before .field2 .ensures .is) }, c .before .before .before .before .before .before .before .before .pre .1)
-
-better-of-requires : tie.Need-better-of-requires Inv-loop μ-loop
-better-of-requires c κs = search needs
+with-rule-requires : tie.Need-with-rule-requires Inv-loop μ-loop
+with-rule-requires c κs = (record { table = c .before .before .before .before .before .before .before .before .pre .0 .table; inside = omega (arith, (rules-within (view (c .before .before .before .before .before .before .before .before .args .table .now)) (stands (c .before .before .before .before .before .before .before .before .args .table .now) (c .before .before .before .before .before .before .before .before .pre .0 .table) .1) (c .before .before .before .before .before .before .before .before .args .group) (c .before .before .before .before .before .before .before .before .pre .0 .inside)), c .before .before .before .before .field .ensures .is, c .before .before .before .field2 .ensures .is) }, c .before .before .before .before .before .before .before .before .pre .1)
 
 add-i : tie.Need-add-i Inv-loop μ-loop
 add-i c = search needs
@@ -47,7 +45,7 @@ loop-less : tie.Need-loop-less Inv-loop μ-loop
 loop-less c = search needs
 
 loop-again : tie.Need-loop-again Inv-loop μ-loop
-loop-again c = (omega arith, λ rs h. rw (c .better-of .ensures) (verdict-turn (question (c .before .before .before .before .before .before .before .before .before .before .args .user .now) (c .before .before .before .before .before .before .before .before .before .before .args .host .now) (c .before .before .before .before .before .before .before .before .before .before .args .level) rs) (rule-of (view (c .before .before .before .before .before .before .before .before .before .before .args .table .now))) (rules-run (row (view (c .before .before .before .before .before .before .before .before .before .before .args .table .now)) access-groups (c .before .before .before .before .before .before .before .before .before .before .args .group))) (view (c .before .before .before .before .before .before .before .before .before .before .args .table .now) .records rules) [] (c .before .before .before .loop .i) (c .before .before .before .before .before .before .field .ensures .is) (c .before .before .before .before .before .field2 .ensures .is) (rules-within (view (c .before .before .before .before .before .before .before .before .before .before .args .table .now)) (stands (c .before .before .before .before .before .before .before .before .before .before .args .table .now) (c .before .before .before .before .before .before .before .before .before .before .pre .0 .table) .1) (c .before .before .before .before .before .before .before .before .before .before .args .group) (c .before .before .before .before .before .before .before .before .before .before .pre .0 .inside)) (omega arith) (c .before .given-by .ensures rs h) (c .before .before .before .loop .inv .1 rs h)))
+loop-again c = (omega arith, λ rs h. rw (c .with-rule .ensures rs h) (verdict-turn (question (c .before .before .before .before .before .before .before .before .before .args .user .now) (c .before .before .before .before .before .before .before .before .before .args .host .now) (c .before .before .before .before .before .before .before .before .before .args .level) rs) (rule-of (view (c .before .before .before .before .before .before .before .before .before .args .table .now))) (rules-run (row (view (c .before .before .before .before .before .before .before .before .before .args .table .now)) access-groups (c .before .before .before .before .before .before .before .before .before .args .group))) (view (c .before .before .before .before .before .before .before .before .before .args .table .now) .records rules) [] (c .before .before .loop .i) (c .before .before .before .before .before .field .ensures .is) (c .before .before .before .before .field2 .ensures .is) (rules-within (view (c .before .before .before .before .before .before .before .before .before .args .table .now)) (stands (c .before .before .before .before .before .before .before .before .before .args .table .now) (c .before .before .before .before .before .before .before .before .before .pre .0 .table) .1) (c .before .before .before .before .before .before .before .before .before .args .group) (c .before .before .before .before .before .before .before .before .before .pre .0 .inside)) (omega arith) refl (c .before .before .loop .inv .1 rs h)))
 
 returns : tie.Need-returns Inv-loop μ-loop
 returns c = λ rs h. verdict-ends (question (c .before .before .before .before .before .before .before .before .args .user .now) (c .before .before .before .before .before .before .before .before .args .host .now) (c .before .before .before .before .before .before .before .before .args .level) rs) (rule-of (view (c .before .before .before .before .before .before .before .before .args .table .now))) (rules-run (row (view (c .before .before .before .before .before .before .before .before .args .table .now)) access-groups (c .before .before .before .before .before .before .before .before .args .group))) (view (c .before .before .before .before .before .before .before .before .args .table .now) .records rules) [] (c .before .loop .i) (c .before .before .before .field2 .ensures .is) (omega arith) (c .before .loop .inv .1 rs h)
@@ -62,9 +60,8 @@ verdict-on-spec =
     field-requires-2
     gives-requires
     loop-holds
-    add-given-by
-    given-by-requires
-    better-of-requires
+    add-with-rule
+    with-rule-requires
     add-i
     loop-less
     loop-again
