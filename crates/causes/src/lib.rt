@@ -239,25 +239,6 @@ fn letters_from(
     given
 }
 
-// The letters that have an INP in the group around the token behind the i-th.
-fn next_letters(
-    s: &[u8],
-    starts: &[u16],
-    ends: &[u16],
-    roles: &[u8],
-    n: usize,
-    i: usize,
-    given: [bool; 21],
-) -> [bool; 21]
-    requires { ⌜ Lie (now s) (now starts) (now ends) (now roles) n × (i < n) × Gives given (around (now s) (arrays (now starts) (now ends)) (now roles) n i) ⌝ }
-    ensures { λ r. ⌜ Gives r (around (now (s .entry)) (arrays (now (starts .entry)) (now (ends .entry))) (now (roles .entry)) n (i + 1)) ⌝ }
-{
-    if roles[i] == ASG_NAME {
-        return letters_from(s, starts, ends, roles, n, i + 1);
-    }
-    given
-}
-
 fn bad_calculation_at(
     s: &[u8],
     starts: &[u16],
@@ -288,8 +269,10 @@ pub fn bad_calculation(s: &[u8], starts: &[u16], ends: &[u16], roles: &[u8], n: 
         if bad_calculation_at(s, starts, ends, roles, n, i, given) {
             return i;
         }
-        let next = next_letters(s, starts, ends, roles, n, i, given);
-        given = next;
+        if roles[i] == ASG_NAME {
+            let next = letters_from(s, starts, ends, roles, n, i + 1);
+            given = next;
+        }
         i += 1;
     }
     i
