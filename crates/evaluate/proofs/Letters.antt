@@ -10,7 +10,7 @@ use lib.Dec.{eqb}
 use lib.ListN.{length, take, drop}
 use lib.Ieee.{Float}
 use Rattle.lists.specs.Text.{same, among, within}
-use Rattle.lists.specs.Select.{all, first, first-if, run, after, skip-if, holds-of}
+use Rattle.lists.specs.Select.{all, first, run, after, skip-if, holds-of}
 use Rattle.lists.specs.Both.{both}
 use Rattle.calculation.specs.Symbol.{Symbol, number, letter, Spelling, spellings, Start, blank, figure, wrong, sign, sign-of, start, then, then-number, numeral, numeral-byte, symbols-in}
 use Rattle.calculation.specs.Expression.{Tree, number-tree, letter-tree, minus, negation, binary, choice, Expression, plain, conditional, Joined, tighter, join, prefixed, Operand, negated, denied, a-number, a-letter, parenthesised, Says}
@@ -20,6 +20,7 @@ use Rattle.calculation.specs.Theorem.{says-sound}
 use Rattle.evaluate.specs.Scan.{syms, spelling}
 use Rattle.evaluate.specs.Answer.{given-letter, letter-of, letters-in, letter-begun, byte-letters, symbols-given}
 use Rattle.evaluate.proofs.Numbers.{clash}
+use Rattle.evaluate.proofs.Bytes.{first-all}
 
 -- ---- the bytes'
 
@@ -40,14 +41,6 @@ signs-only x = nothing (letter-of (x .symbol)) && all no-letter (drop 1 (x .spel
 
 all-signs : all signs-only spellings ≡ true
 all-signs = refl
-
-first-all : {A : Type 0} (q p : A → Bool) (xs : List A) {x : A} → all q xs ≡ true → first p xs ≡ some x → (q x ≡ true) × (p x ≡ true)
-first-all q p [] h e = let z : _≡_ {A = ℕ} 0 1 = cc in absurd (omega arith)
-first-all {A} q p (y ∷ ys) {x} h e = let k = both (q y) (all q ys) h in go (p y) refl (k .0) (first-all q p ys (k .1)) e
-  where
-    go : (t : Bool) → p y ≡ t → q y ≡ true → (first p ys ≡ some x → (q x ≡ true) × (p x ≡ true)) → first-if t y (first p ys) ≡ some x → (q x ≡ true) × (p x ≡ true)
-    go true g k f e = let z : y ≡ x = cc in subst (λ (w : A). (q w ≡ true) × (p w ≡ true)) z (k, g)
-    go false g k f e = f e
 
 letter-none : (b : ℕ) (s : List ℕ) → no-letter b ≡ true → byte-letters (b ∷ s) ≡ byte-letters s
 unfolding byte-letters

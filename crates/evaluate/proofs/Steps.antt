@@ -7,13 +7,12 @@ use mathlib.Core.Logic.{_⊎_, inl, inr, ⊎-elim}
 use Prim.Native.Nat.{ℕ, zero, suc, _+_, _-_, _*_, _≤_, _<_}
 use native.Mathlib.Omega.{arith}
 use native.Mathlib.Numerals.{add-one}
-use borrow.Author.Tests.{le-leb, lt-leb}
+use borrow.Author.Tests.{le-leb, lt-leb, eqb-true}
 use lib.ListN.{length, getD, drop, drop-of-length-le, List·getD-map}
 use lib.Seq.{drop-cons}
 use lib.Ieee.{Float, nan, neg}
 use types.Run.{OneOf, miss}
 use denote.Enum.Declared.{tagOf}
-use Rattle.calculation.proofs.Operator as operator-type
 use Rattle.evaluate.proofs.Sign as sign-type
 use Rattle.calculation.specs.declared.Operator.{Operator}
 use Rattle.calculation.specs.declared.Operator.the-variants as op
@@ -28,12 +27,19 @@ use Rattle.calculation.specs.Complete.{first-ends, top}
 use Rattle.evaluate.specs.declared.Sign.{Sign}
 use Rattle.evaluate.specs.declared.Sign.the-variants as code
 use Rattle.evaluate.specs.declared.Next.{Next}
-use Rattle.evaluate.specs.declared.Next.the-variants.{Is, End, Wrong}
+use Rattle.evaluate.specs.declared.Next.the-variants.{Is, Wrong}
 use Rattle.evaluate.specs.declared.Parsed.{Parsed}
 use Rattle.evaluate.specs.declared.Parsed.the-variants as parsed
-use Rattle.evaluate.specs.Scan.{syms, symbol-of, Sign-ok, Then, Finds}
-use Rattle.evaluate.specs.Follow.{from, ends-of, amount, Comes, Follows, Goes-on, in-if, in-else}
+use Rattle.evaluate.specs.Scan.{syms, symbol-of, spelling, Then, Signs, Skips}
+use Rattle.evaluate.specs.declared.First.{First}
+use Rattle.evaluate.specs.declared.First.the-variants as first
+use Rattle.evaluate.specs.declared.Joint.{Joint}
+use Rattle.evaluate.specs.declared.Joint.the-variants as joint
+use Rattle.evaluate.specs.declared.Place.the-variants as place
+use Rattle.evaluate.specs.Follow.{from, ends-of, amount, Begins, Joins, Colon-at, Close-at, Is-end, Comes, Follows, Goes-on, in-if, in-else}
 use Rattle.evaluate.proofs.Numbers.{clash}
+use Rattle.evaluate.proofs.Bytes.{led, sign-led}
+use Rattle.evaluate.proofs.Scans.{Signed, amiss, spelled, Stands, finished, numbered, lettered, signed, at-end, is-byte, stands, then-from}
 
 -- ---- one symbol
 
@@ -86,71 +92,22 @@ takes b t k (some []) h = rw (le-leb 0 (tightness b) h, reduce)
 takes b t k (some (x ∷ r)) h = rw (le-leb (ends x) (tightness b) h, reduce)
 
 -- the numbers of some signs, as the code tells them apart
-abbrev but-minus : List ℕ
-but-minus = 0 ∷ 1 ∷ 2 ∷ 3 ∷ 4 ∷ 5 ∷ 6 ∷ 7 ∷ 8 ∷ 10 ∷ 11 ∷ []
-
-abbrev no-operand : List ℕ
-no-operand = 4 ∷ 5 ∷ 7 ∷ []
-
 abbrev no-join : List ℕ
-no-join = 0 ∷ 1 ∷ 3 ∷ 5 ∷ 6 ∷ 7 ∷ []
-
-abbrev but-colon : List ℕ
-but-colon = 0 ∷ 1 ∷ 2 ∷ 3 ∷ 4 ∷ 6 ∷ 7 ∷ []
-
-abbrev but-close : List ℕ
-but-close = 0 ∷ 1 ∷ 2 ∷ 3 ∷ 4 ∷ 5 ∷ 6 ∷ []
+no-join = 1 ∷ 3 ∷ 4 ∷ 5 ∷ []
 
 -- ---- what stands next, for the one who wants an operand
 
-pub finds-is : (s : List ℕ) (at : ℕ) (n : Next) {x : Sign} {p : ℕ} → Finds s at n → n ≡ Is x p → Then s at (symbol-of x) p × Sign-ok x
-finds-is s at n k e = subst (Finds s at) e k
+pub signs-is : (s : List ℕ) (at : ℕ) (n : Next) {x : Sign} {p : ℕ} → Signs s at n → n ≡ Is x p → Then s at (symbol-of x) p
+signs-is s at n k e = subst (Signs s at) e k
 
-pub finds-end : (s : List ℕ) (at : ℕ) (n : Next) → Finds s at n → n ≡ End → syms s at ≡ some []
-finds-end s at n k e = subst (Finds s at) e k
-
-pub finds-wrong : (s : List ℕ) (at : ℕ) (n : Next) → Finds s at n → n ≡ Wrong → syms s at ≡ none
-finds-wrong s at n k e = subst (Finds s at) e k
+pub signs-wrong : (s : List ℕ) (at : ℕ) (n : Next) → Signs s at n → n ≡ Wrong → spelling (getD s at 0) (drop (at + 1) s) ≡ wrong
+signs-wrong s at n k e = subst (Signs s at) e k
 
 one-step : (s : List ℕ) (at : ℕ) (st : State) {x : Symbol} {p : ℕ} → Then s at x p → from st (syms s at) ≡ from (step st x) (syms s p)
 one-step s at st {x} {p} k = rw (k .reads) (from-then st x (syms s p))
 
-no-step : (s : List ℕ) (at : ℕ) (st : State) {x : Symbol} {p : ℕ} → Then s at x p → step st x ≡ stuck → from st (syms s at) ≡ none
-no-step s at st {x} {p} k e = one-step s at st k ∙ rw e (no-way (syms s p))
-
-pub no-prefix :
-    (o : Operator) → OneOf but-minus (tagOf operator-type.the-type o)
-    → (s : List ℕ) (at : ℕ) {p : ℕ} → Then s at (operator o) p → (k : Stack) → from (wanted k) (syms s at) ≡ none
-no-prefix o h s at y k = no-step s at (wanted k) y (go o h)
-  where
-    go : (o : Operator) → OneOf but-minus (tagOf operator-type.the-type o) → prefix o k ≡ stuck
-    go op.Or h = refl
-    go op.And h = refl
-    go op.Less h = refl
-    go op.AtMost h = refl
-    go op.More h = refl
-    go op.AtLeast h = refl
-    go op.Equal h = refl
-    go op.Differs h = refl
-    go op.Plus h = refl
-    go op.Minus h = absurd (miss but-minus 9 tt h)
-    go op.Times h = refl
-    go op.Over h = refl
-
-pub no-first :
-    (x : Sign) → OneOf no-operand (tagOf sign-type.the-type x)
-    → (s : List ℕ) (at : ℕ) {p : ℕ} → Then s at (symbol-of x) p → (k : Stack) → from (wanted k) (syms s at) ≡ none
-no-first x h s at y k = no-step s at (wanted k) y (go x h)
-  where
-    go : (x : Sign) → OneOf no-operand (tagOf sign-type.the-type x) → first-of (symbol-of x) k ≡ stuck
-    go (code.Number v) h = absurd (miss no-operand 0 tt h)
-    go (code.Letter i) h = absurd (miss no-operand 1 tt h)
-    go (code.Operator o) h = absurd (miss no-operand 2 tt h)
-    go code.Not h = absurd (miss no-operand 3 tt h)
-    go code.Question h = refl
-    go code.Colon h = refl
-    go code.Open h = absurd (miss no-operand 6 tt h)
-    go code.Close h = refl
+no-step : (s : List ℕ) (at : ℕ) (st : State) (x : Symbol) (o : Option (List Symbol)) → syms s at ≡ then x o → step st x ≡ stuck → from st (syms s at) ≡ none
+no-step s at st x o q e = rw q (from-then st x o ∙ rw e (no-way o))
 
 pub wanted-end : (o : Option (List Symbol)) → o ≡ some [] → (k : Stack) → from (wanted k) o ≡ none
 unfolding run
@@ -170,11 +127,9 @@ pub no-joint :
 no-joint x h s at l y = let e = ends-at s at y in let z = go x h in omega arith
   where
     go : (x : Sign) → OneOf no-join (tagOf sign-type.the-type x) → ends (symbol-of x) ≤ 0
-    go (code.Number v) h = omega arith
-    go (code.Letter i) h = omega arith
-    go (code.Operator o) h = absurd (miss no-join 2 tt h)
+    go (code.Operator o) h = absurd (miss no-join 0 tt h)
     go code.Not h = omega arith
-    go code.Question h = absurd (miss no-join 4 tt h)
+    go code.Question h = absurd (miss no-join 2 tt h)
     go code.Colon h = omega arith
     go code.Open h = omega arith
     go code.Close h = omega arith
@@ -186,71 +141,146 @@ ends-none o l e = rw e (omega arith)
 pub ends-end : (o : Option (List Symbol)) (l : ℕ) → o ≡ some [] → ends-of o ≤ l
 ends-end o l e = rw e (omega arith)
 
--- the lowest frame waits for one symbol alone
+-- ---- at a place that is not blank
+
 module _ (s : List ℕ) (at : ℕ) where
-  ends-is : {x : Symbol} {p : ℕ} → Then s at x p → (syms s at ≡ none) ⊎ (ends x ≤ ends-of (syms s at))
-  ends-is {x} {p} k = go (syms s p) refl
+  -- no sign is spelled there
+  pub no-sign : (l : ℕ) → Stands s at → spelling (getD s at 0) (drop (at + 1) s) ≡ wrong → ends-of (syms s at) ≤ l
+  no-sign l (finished h e) w = ends-end (syms s at) l e
+  no-sign l (numbered v o e) w = let z : ends-of (syms s at) ≤ 0 = rw e (ends-then (number v) o) in omega arith
+  no-sign l (lettered i o e) w = let z : ends-of (syms s at) ≤ 0 = rw e (ends-then (letter i) o) in omega arith
+  no-sign l (signed (amiss e)) w = ends-none (syms s at) l e
+  no-sign l (signed (spelled x m o g e)) w = let z : _≡_ {A = ℕ} 0 1 = cc in absurd (omega arith)
+
+  -- no operand begins there
+  pub no-operand :
+      Signed s at → (getD s at 0 ≡ 45 → ⊥) → (getD s at 0 ≡ 40 → ⊥) → (getD s at 0 ≡ 33 → ⊥) → (k : Stack) → from (wanted k) (syms s at) ≡ none
+  no-operand (amiss e) a b c k = from-none (syms s at) e (wanted k)
+  no-operand (spelled x m o g e) a b c k = no-step s at (wanted k) x o e (go x (sign-led (getD s at 0) (drop (at + 1) s) g))
     where
-      go : (o : Option (List Symbol)) → syms s p ≡ o → (syms s at ≡ none) ⊎ (ends x ≤ ends-of (syms s at))
-      go none e = inl (k .reads ∙ rw e)
-      go (some ss) e = inr (rw (k .reads, e) (omega arith))
+      minus-only : (o : Operator) → led (operator o) (getD s at 0) ≡ true → prefix o k ≡ stuck
+      minus-only op.Or h = refl
+      minus-only op.And h = refl
+      minus-only op.Less h = refl
+      minus-only op.AtMost h = refl
+      minus-only op.More h = refl
+      minus-only op.AtLeast h = refl
+      minus-only op.Equal h = refl
+      minus-only op.Differs h = refl
+      minus-only op.Plus h = refl
+      minus-only op.Minus h = absurd (a (eqb-true (getD s at 0) 45 h))
+      minus-only op.Times h = refl
+      minus-only op.Over h = refl
 
-  halts : {x : Symbol} {p : ℕ} (t : Tree) (k : Stack) → Then s at x p → ends-of (syms s at) ≤ 0 → (ends x ≤ 0 → step (have t k) x ≡ stuck) → from (have t k) (syms s at) ≡ none
-  halts {x} t k y h g = ⊎-elim (λ e. from-none (syms s at) e (have t k)) (λ (e : ends x ≤ ends-of (syms s at)). no-step s at (have t k) y (g (omega arith))) (ends-is y)
+      go : (x : Symbol) → led x (getD s at 0) ≡ true → first-of x k ≡ stuck
+      go (number v) h = clash (sym h)
+      go (letter i) h = clash (sym h)
+      go (operator o) h = minus-only o h
+      go not-sign h = absurd (c (eqb-true (getD s at 0) 33 h))
+      go question h = refl
+      go colon h = refl
+      go open-paren h = absurd (b (eqb-true (getD s at 0) 40 h))
+      go close-paren h = refl
 
-  pub no-colon :
-      (x : Sign) → OneOf but-colon (tagOf sign-type.the-type x) → {p : ℕ} → Then s at (symbol-of x) p
-      → (t c : Tree) (k : Stack) → ends-of (syms s at) ≤ 0 → from (have t (if-of c ∷ k)) (syms s at) ≡ none
-  unfolding reduce
-  no-colon x h y t c k e = halts t (if-of c ∷ k) y e (go x h)
-    where
-      go : (x : Sign) → OneOf but-colon (tagOf sign-type.the-type x) → ends (symbol-of x) ≤ 0 → step (have t (if-of c ∷ k)) (symbol-of x) ≡ stuck
-      go (code.Number v) h l = refl
-      go (code.Letter i) h l = refl
-      go (code.Operator o) h l = absurd (omega arith)
-      go code.Not h l = refl
-      go code.Question h l = absurd (omega arith)
-      go code.Colon h l = absurd (miss but-colon 5 tt h)
-      go code.Open h l = refl
-      go code.Close h l = refl
+  pub no-prefix : (o : Option (List Symbol)) → syms s at ≡ then (operator op.Differs) o → (k : Stack) → from (wanted k) (syms s at) ≡ none
+  no-prefix o e k = no-step s at (wanted k) (operator op.Differs) o e refl
 
-  pub no-close :
-      (x : Sign) → OneOf but-close (tagOf sign-type.the-type x) → {p : ℕ} → Then s at (symbol-of x) p
-      → (t : Tree) (k : Stack) → ends-of (syms s at) ≤ 0 → from (have t (paren ∷ k)) (syms s at) ≡ none
-  unfolding reduce
-  no-close x h y t k e = halts t (paren ∷ k) y e (go x h)
-    where
-      go : (x : Sign) → OneOf but-close (tagOf sign-type.the-type x) → ends (symbol-of x) ≤ 0 → step (have t (paren ∷ k)) (symbol-of x) ≡ stuck
-      go (code.Number v) h l = refl
-      go (code.Letter i) h l = refl
-      go (code.Operator o) h l = absurd (omega arith)
-      go code.Not h l = refl
-      go code.Question h l = absurd (omega arith)
-      go code.Colon h l = refl
-      go code.Open h l = refl
-      go code.Close h l = absurd (miss but-close 7 tt h)
+  ends-is : (x : Symbol) (o : Option (List Symbol)) → syms s at ≡ then x o → (syms s at ≡ none) ⊎ (ends x ≤ ends-of (syms s at))
+  ends-is x none e = inl e
+  ends-is x (some ss) e = inr (rw e (omega arith))
 
-  pub no-end : (x : Sign) {p : ℕ} → Then s at (symbol-of x) p → (t : Tree) → ends-of (syms s at) ≤ 0 → from (have t []) (syms s at) ≡ none
-  unfolding reduce
-  no-end x y t e = halts t [] y e (go x)
-    where
-      go : (x : Sign) → ends (symbol-of x) ≤ 0 → step (have t []) (symbol-of x) ≡ stuck
-      go (code.Number v) l = refl
-      go (code.Letter i) l = refl
-      go (code.Operator o) l = absurd (omega arith)
-      go code.Not l = refl
-      go code.Question l = absurd (omega arith)
-      go code.Colon l = refl
-      go code.Open l = refl
-      go code.Close l = refl
+  halts :
+      (x : Symbol) (o : Option (List Symbol)) (t : Tree) (k : Stack) → syms s at ≡ then x o → ends-of (syms s at) ≤ 0
+      → (ends x ≤ 0 → step (have t k) x ≡ stuck) → from (have t k) (syms s at) ≡ none
+  halts x o t k q h g =
+      ⊎-elim (λ e. from-none (syms s at) e (have t k)) (λ (e : ends x ≤ ends-of (syms s at)). no-step s at (have t k) x o q (g (omega arith))) (ends-is x o q)
 
-  pub end-if : syms s at ≡ some [] → (t c : Tree) (k : Stack) → from (have t (if-of c ∷ k)) (syms s at) ≡ none
+  -- the lowest frame waits for one symbol alone
+  waits :
+      (t : Tree) (k : Stack) → Stands s at → ends-of (syms s at) ≤ 0 → (length s ≤ at → run (have t k) [] ≡ none)
+      → ((v : Float) → step (have t k) (number v) ≡ stuck) → ((i : ℕ) → step (have t k) (letter i) ≡ stuck)
+      → ((x : Symbol) → led x (getD s at 0) ≡ true → ends x ≤ 0 → step (have t k) x ≡ stuck) → from (have t k) (syms s at) ≡ none
+  waits t k (finished h e) l z a b c = rw e (z h)
+  waits t k (numbered v o e) l z a b c = halts (number v) o t k e l (λ h. a v)
+  waits t k (lettered i o e) l z a b c = halts (letter i) o t k e l (λ h. b i)
+  waits t k (signed (amiss e)) l z a b c = from-none (syms s at) e (have t k)
+  waits t k (signed (spelled x m o g e)) l z a b c = halts x o t k e l (c x (sign-led (getD s at 0) (drop (at + 1) s) g))
+
+  pub no-colon : Stands s at → (getD s at 0 ≡ 58 → ⊥) → (t c : Tree) (k : Stack) → ends-of (syms s at) ≤ 0 → from (have t (if-of c ∷ k)) (syms s at) ≡ none
   unfolding reduce run
-  end-if e t c k = rw e
+  no-colon d n t c k l = waits t (if-of c ∷ k) d l (λ h. refl) (λ v. refl) (λ i. refl) go
+    where
+      go : (x : Symbol) → led x (getD s at 0) ≡ true → ends x ≤ 0 → step (have t (if-of c ∷ k)) x ≡ stuck
+      go (number v) h l = refl
+      go (letter i) h l = refl
+      go (operator o) h l = absurd (omega arith)
+      go not-sign h l = refl
+      go question h l = absurd (omega arith)
+      go colon h l = absurd (n (eqb-true (getD s at 0) 58 h))
+      go open-paren h l = refl
+      go close-paren h l = refl
 
-  pub end-paren : syms s at ≡ some [] → (t : Tree) (k : Stack) → from (have t (paren ∷ k)) (syms s at) ≡ none
+  pub no-close : Stands s at → (getD s at 0 ≡ 41 → ⊥) → (t : Tree) (k : Stack) → ends-of (syms s at) ≤ 0 → from (have t (paren ∷ k)) (syms s at) ≡ none
   unfolding reduce run
-  end-paren e t k = rw e
+  no-close d n t k l = waits t (paren ∷ k) d l (λ h. refl) (λ v. refl) (λ i. refl) go
+    where
+      go : (x : Symbol) → led x (getD s at 0) ≡ true → ends x ≤ 0 → step (have t (paren ∷ k)) x ≡ stuck
+      go (number v) h l = refl
+      go (letter i) h l = refl
+      go (operator o) h l = absurd (omega arith)
+      go not-sign h l = refl
+      go question h l = absurd (omega arith)
+      go colon h l = refl
+      go open-paren h l = refl
+      go close-paren h l = absurd (n (eqb-true (getD s at 0) 41 h))
+
+  pub no-end : Stands s at → at < length s → (t : Tree) → ends-of (syms s at) ≤ 0 → from (have t []) (syms s at) ≡ none
+  unfolding reduce run
+  no-end d h t l = waits t [] d l (λ g. absurd (omega arith)) (λ v. refl) (λ i. refl) go
+    where
+      go : (x : Symbol) → led x (getD s at 0) ≡ true → ends x ≤ 0 → step (have t []) x ≡ stuck
+      go (number v) h l = refl
+      go (letter i) h l = refl
+      go (operator o) h l = absurd (omega arith)
+      go not-sign h l = refl
+      go question h l = absurd (omega arith)
+      go colon h l = refl
+      go open-paren h l = refl
+      go close-paren h l = refl
+
+-- ---- past blanks
+
+module _ (s : List ℕ) (at : ℕ) {p : ℕ} (z : Skips s at p) where
+  pub begins-from : (r : First) → Begins s p r → Begins s at r
+  begins-from (first.Number v n) k = then-from s at z k
+  begins-from (first.Letter i n) k = (then-from s at z (k .0), k .1)
+  begins-from (first.Minus n) k = then-from s at z k
+  begins-from (first.Not n) k = then-from s at z k
+  begins-from (first.Open n) k = then-from s at z k
+  begins-from first.Nothing k = λ st. rw (z .reads) (k st)
+
+  pub joins-from : (l : ℕ) (r : Joint) → Joins s p l r → Joins s at l r
+  joins-from l (joint.By o n) k = (then-from s at z (k .0), k .1)
+  joins-from l (joint.Choice n) k = (then-from s at z (k .0), k .1)
+  joins-from l joint.End k = rw (z .reads) k
+
+  pub colon-here : getD s p 0 ≡ 58 → p < length s → Colon-at s at (place.At (p + 1))
+  colon-here e h = then-from s at z (is-byte s p h 58 e refl)
+
+  pub colon-missing : (getD s p 0 ≡ 58 → ⊥) → Colon-at s at place.Missing
+  colon-missing n t c k l = rw (z .reads) (no-colon s p (stands s p (z .bare)) n t c k (rw (z .reads) at l))
+
+  pub close-here : getD s p 0 ≡ 41 → p < length s → Close-at s at (place.At (p + 1))
+  close-here e h = then-from s at z (is-byte s p h 41 e refl)
+
+  pub close-missing : (getD s p 0 ≡ 41 → ⊥) → Close-at s at place.Missing
+  close-missing n t k l = rw (z .reads) (no-close s p (stands s p (z .bare)) n t k (rw (z .reads) at l))
+
+  pub end-here : length s ≤ p → Is-end s at true
+  end-here h = z .reads ∙ at-end s p h
+
+  pub end-missing : p < length s → Is-end s at false
+  end-missing h t l = rw (z .reads) (no-end s p (stands s p (z .bare)) h t (rw (z .reads) at l))
 
 letter-heard : (vs : List Float) (i : ℕ) → i < length vs → getD vs i nan ≡ heard (reading (map readings.Value vs) i)
 letter-heard [] i h = absurd (omega arith)

@@ -1,6 +1,6 @@
 -- What the code finds at a place of a text, against the text's symbols.
 use mathlib.Core.Path.{_≡_}
-use mathlib.Core.Bool.{true}
+use mathlib.Core.Bool.{true, false}
 use mathlib.Core.List.{List, [], _∷_}
 use mathlib.Core.Option.{Option, none, some}
 use Prim.Native.Nat.{ℕ, _+_, _-_, _^_, _≤_, _<_}
@@ -20,15 +20,13 @@ use Rattle.evaluate.specs.declared.Digits.the-variants.{Are, TooMany}
 use Rattle.evaluate.specs.declared.Figure.{Figure}
 use Rattle.evaluate.specs.declared.Figure.the-variants as fig
 use Rattle.evaluate.specs.declared.Next.{Next}
-use Rattle.evaluate.specs.declared.Next.the-variants.{Is, End, Wrong}
+use Rattle.evaluate.specs.declared.Next.the-variants.{Is, Wrong}
 
 -- the symbols from a place on
 unfoldable pub syms : List ℕ → ℕ → Option (List Symbol)
 syms s at = symbols (drop at s)
 
 abbrev pub symbol-of : Sign → Symbol
-symbol-of (code.Number v) = number v
-symbol-of (code.Letter i) = letter i
 symbol-of (code.Operator o) = operator o
 symbol-of code.Not = not-sign
 symbol-of code.Question = question
@@ -61,24 +59,9 @@ abbrev pub spelled-as : Spelled → ℕ → Start → Start
 spelled-as (As x) m other = sign (symbol-of x) m
 spelled-as Nothing m other = other
 
--- a letter is one of the 21
-abbrev pub Sign-ok : Sign → Type 0
-Sign-ok (code.Number v) = Unit {0}
-Sign-ok (code.Letter i) = i < 21
-Sign-ok (code.Operator o) = Unit {0}
-Sign-ok code.Not = Unit {0}
-Sign-ok code.Question = Unit {0}
-Sign-ok code.Colon = Unit {0}
-Sign-ok code.Open = Unit {0}
-Sign-ok code.Close = Unit {0}
-
-abbrev pub Spelled-ok : Spelled → Type 0
-Spelled-ok (As x) = Sign-ok x
-Spelled-ok Nothing = Unit {0}
-
 -- a spelling of two bytes has a second
 abbrev pub Pair-ok : ℕ → Spelled → Type 0
-Pair-ok d (As x) = Sign-ok x × (0 < d)
+Pair-ok d (As x) = 0 < d
 Pair-ok d Nothing = Unit {0}
 
 -- the digits from a place on make up m behind those of n, and end at p; l more were allowed
@@ -115,7 +98,14 @@ pub record Then (s : List ℕ) (at : ℕ) (x : Symbol) (n : ℕ) : Type 0 where
   pub within : n ≤ length s
   pub reads : syms s at ≡ then x (syms s n)
 
-abbrev pub Finds : List ℕ → ℕ → Next → Type 0
-Finds s at (Is x n) = Then s at (symbol-of x) n × Sign-ok x
-Finds s at End = syms s at ≡ some []
-Finds s at Wrong = syms s at ≡ none
+-- a sign at a place, or that none is spelled there
+abbrev pub Signs : List ℕ → ℕ → Next → Type 0
+Signs s at (Is x n) = Then s at (symbol-of x) n
+Signs s at Wrong = spelling (getD s at 0) (drop (at + 1) s) ≡ wrong
+
+-- only blanks stand between at and p
+pub record Skips (s : List ℕ) (at p : ℕ) : Type 0 where
+  pub later : at ≤ p
+  pub within : p ≤ length s
+  pub reads : syms s at ≡ syms s p
+  pub bare : among " \t" (getD s p 0) ≡ false

@@ -3,14 +3,14 @@ ghost use mathlib.Core.Bool.{true, false, not, cond};
 ghost use mathlib.Core.List.{List, [], _∷_, map};
 ghost use Prim.Native.Nat.{ℕ, _+_, _-_, _*_, _^_, _≤_, _<_};
 ghost use lib.ListN.{length, getD, drop};
-ghost use Rattle.lists.specs.Text.{digit, whole};
+ghost use Rattle.lists.specs.Text.{among, digit, whole};
 ghost use Rattle.lists.specs.Select.{all, missing, holds-of};
 ghost use Rattle.calculation.specs.Symbol.{decimal, wrong, start, numeral-byte};
 ghost use Rattle.calculation.specs.Expression.{Tree, level};
 ghost use Rattle.calculation.specs.Value.{truth, is-true, apply, heard, good, letters, finite, near-one};
 ghost use Rattle.calculation.specs.Reader.{wanted, have, tree-of};
 ghost use Rattle.rule.specs.Rule.{true-tree};
-ghost use Rattle.evaluate.specs.Scan.{symbol-of, spelling, single, started, Class-ok, spelled-as, Sign-ok, Spelled-ok, Pair-ok, Counts, Fraction, Numbered, Then, Finds};
+ghost use Rattle.evaluate.specs.Scan.{symbol-of, spelling, single, started, Class-ok, spelled-as, Pair-ok, Counts, Fraction, Numbered, Then, Signs, Skips};
 ghost use Rattle.evaluate.specs.Follow.{amount, Begins, Joins, Colon-at, Close-at, Follows, Goes-on, Is-end, in-if, in-else};
 ghost use Rattle.evaluate.specs.Answer.{worth, given-letter, letter-begun, byte-letters, true-given, true-heard, near-worth};
 use calculation::Operator;
@@ -24,10 +24,8 @@ pub enum Class {
     Other,
 }
 
-// A symbol of a calculation.
+// A symbol of a calculation that is neither a number nor a letter.
 pub enum Sign {
-    Number(f64),
-    Letter(usize),
     Operator(Operator),
     Not,
     Question,
@@ -54,10 +52,9 @@ pub enum Figure {
     Wrong,
 }
 
-// The next symbol, and the place behind it.
+// A sign, and the place behind it.
 pub enum Next {
     Is(Sign, usize),
-    End,
     Wrong,
 }
 
@@ -136,7 +133,7 @@ fn pair_of(b: u8, d: u8) -> Spelled
 
 // The signs of one byte.
 fn single_of(b: u8) -> Spelled
-    ensures { λ r. ⌜ (spelled-as r 0 wrong ≡ single b) × Spelled-ok r ⌝ }
+    ensures { λ r. ⌜ spelled-as r 0 wrong ≡ single b ⌝ }
 {
     match b {
         b'<' => Spelled::As(Sign::Operator(Operator::Less)),
@@ -158,8 +155,8 @@ fn single_of(b: u8) -> Spelled
 
 // The sign at a place, the longest first.
 fn sign_at(s: &[u8], at: usize) -> Next
-    requires { ⌜ (at < length (now s)) × (start (getD (now s) at 0) (drop (at + 1) (now s)) ≡ spelling (getD (now s) at 0) (drop (at + 1) (now s))) ⌝ }
-    ensures { λ r. ⌜ Finds (now (s .entry)) at r ⌝ }
+    requires { ⌜ at ≤ length (now s) ⌝ }
+    ensures { λ r. ⌜ Signs (now (s .entry)) at r ⌝ }
 {
     let b = peek(s, at);
     match pair_of(b, peek(s, at + 1)) {
@@ -278,22 +275,25 @@ pub fn number_at(s: &[u8], at: usize) -> Figure
     }
 }
 
-fn next_at(s: &[u8], at: usize) -> Next
-    requires { ⌜ at ≤ length (now s) ⌝ }
-    ensures { λ r. ⌜ Finds (now (s .entry)) at r ⌝ }
+fn is_blank(b: u8) -> bool
+    ensures { λ r. ⌜ r ≡ among " \t" b ⌝ }
 {
-    if at == s.len() {
-        return Next::End;
+    match b {
+        9 | 32 => true,
+        _ => false,
     }
-    match class_of(s[at]) {
-        Class::Blank => next_at(s, at + 1),
-        Class::Figure => match number_at(s, at) {
-            Figure::Is(v, p) => Next::Is(Sign::Number(v), p),
-            Figure::Wrong => Next::Wrong,
-        },
-        Class::Letter(i) => Next::Is(Sign::Letter(i), at + 1),
-        Class::Other => sign_at(s, at),
+}
+
+// The first place from here on that is not blank. What stands there is seen by its bytes, without making a symbol of it.
+fn skip_blanks(s: &[u8], at: usize) -> usize
+    requires { ⌜ at ≤ length (now s) ⌝ }
+    ensures { λ r. ⌜ Skips (now (s .entry)) at r ⌝ }
+{
+    let mut p = at;
+    while is_blank(peek(s, p)) {
+        p += 1;
     }
+    p
 }
 
 fn level_of(o: Operator) -> usize
@@ -315,18 +315,21 @@ fn level_of(o: Operator) -> usize
     }
 }
 
-fn first_sign(x: Sign, p: usize) -> First
-    ensures { λ r. ⌜ ((s : List ℕ) (at : ℕ) → Then s at (symbol-of x) p → Sign-ok x → Begins s at r) ⌝ }
+// An operand's first sign; != is none.
+fn first_other(s: &[u8], at: usize) -> First
+    requires { ⌜ (at < length (now s)) × (start (getD (now s) at 0) (drop (at + 1) (now s)) ≡ spelling (getD (now s) at 0) (drop (at + 1) (now s))) ⌝ }
+    ensures { λ r. ⌜ Begins (now (s .entry)) at r ⌝ }
 {
-    match x {
-        Sign::Number(v) => First::Number(v, p),
-        Sign::Letter(i) => First::Letter(i, p),
-        Sign::Operator(o) => match o {
-            Operator::Minus => First::Minus(p),
-            _ => First::Nothing,
-        },
-        Sign::Not => First::Not(p),
-        Sign::Open => First::Open(p),
+    match s[at] {
+        b'-' => First::Minus(at + 1),
+        b'(' => First::Open(at + 1),
+        b'!' => {
+            if peek(s, at + 1) == b'=' {
+                First::Nothing
+            } else {
+                First::Not(at + 1)
+            }
+        }
         _ => First::Nothing,
     }
 }
@@ -335,10 +338,18 @@ fn first_at(s: &[u8], at: usize) -> First
     requires { ⌜ at ≤ length (now s) ⌝ }
     ensures { λ r. ⌜ Begins (now (s .entry)) at r ⌝ }
 {
-    match next_at(s, at) {
-        Next::Is(x, p) => first_sign(x, p),
-        Next::End => First::Nothing,
-        Next::Wrong => First::Nothing,
+    let p = skip_blanks(s, at);
+    if p == s.len() {
+        return First::Nothing;
+    }
+    match class_of(s[p]) {
+        Class::Blank => First::Nothing,
+        Class::Figure => match number_at(s, p) {
+            Figure::Is(v, n) => First::Number(v, n),
+            Figure::Wrong => First::Nothing,
+        },
+        Class::Letter(i) => First::Letter(i, p + 1),
+        Class::Other => first_other(s, p),
     }
 }
 
@@ -363,9 +374,9 @@ fn joint_at(s: &[u8], at: usize, l: usize) -> Joint
     requires { ⌜ at ≤ length (now s) ⌝ }
     ensures { λ r. ⌜ Joins (now (s .entry)) at l r ⌝ }
 {
-    match next_at(s, at) {
-        Next::Is(x, p) => joint_sign(x, p, l),
-        Next::End => Joint::End,
+    let p = skip_blanks(s, at);
+    match sign_at(s, p) {
+        Next::Is(x, n) => joint_sign(x, n, l),
         Next::Wrong => Joint::End,
     }
 }
@@ -374,13 +385,11 @@ fn colon_at(s: &[u8], at: usize) -> Place
     requires { ⌜ at ≤ length (now s) ⌝ }
     ensures { λ r. ⌜ Colon-at (now (s .entry)) at r ⌝ }
 {
-    match next_at(s, at) {
-        Next::Is(x, p) => match x {
-            Sign::Colon => Place::At(p),
-            _ => Place::Missing,
-        },
-        Next::End => Place::Missing,
-        Next::Wrong => Place::Missing,
+    let p = skip_blanks(s, at);
+    if peek(s, p) == b':' {
+        Place::At(p + 1)
+    } else {
+        Place::Missing
     }
 }
 
@@ -388,13 +397,11 @@ fn close_at(s: &[u8], at: usize) -> Place
     requires { ⌜ at ≤ length (now s) ⌝ }
     ensures { λ r. ⌜ Close-at (now (s .entry)) at r ⌝ }
 {
-    match next_at(s, at) {
-        Next::Is(x, p) => match x {
-            Sign::Close => Place::At(p),
-            _ => Place::Missing,
-        },
-        Next::End => Place::Missing,
-        Next::Wrong => Place::Missing,
+    let p = skip_blanks(s, at);
+    if peek(s, p) == b')' {
+        Place::At(p + 1)
+    } else {
+        Place::Missing
     }
 }
 
@@ -402,11 +409,8 @@ fn is_end(s: &[u8], at: usize) -> bool
     requires { ⌜ at ≤ length (now s) ⌝ }
     ensures { λ r. ⌜ Is-end (now (s .entry)) at r ⌝ }
 {
-    match next_at(s, at) {
-        Next::Is(_, _) => false,
-        Next::End => true,
-        Next::Wrong => false,
-    }
+    let p = skip_blanks(s, at);
+    if p == s.len() { true } else { false }
 }
 
 fn truth_of(b: bool) -> f64

@@ -1,51 +1,24 @@
-use mathlib.Core.List.{_∷_}
-use Rattle.calculation.specs.Reader.{have, paren, if-of}
-use Rattle.evaluate.proofs.Steps.{finds-is, finds-end, finds-wrong, from-none, no-colon, end-if}
-use Rattle.evaluate.specs.Scan.{symbol-of, Sign-ok, Then}
-use Rattle.evaluate.specs.declared.Sign.{Sign}
-use Prim.Native.Nat.{_<_}
-use mathlib.Core.Path.{subst}
+use Rattle.evaluate.proofs.Steps.{colon-here, colon-missing}
+use Rattle.evaluate.proofs.Scans.{nonzero-inside}
+use native.Mathlib.Omega.{arith}
 use borrow.Author.Needs.{needs}
 use Rattle.evaluate.proofs.colon_at.Statement.{statement}
 use Rattle.evaluate.proofs.colon_at.Tie as tie
 
-next-at-requires : tie.Need-next-at-requires
-next-at-requires c κs = (c .before) .pre
+skip-blanks-requires : tie.Need-skip-blanks-requires
+skip-blanks-requires c κs = search needs
 
-enum-known-x : tie.Need-enum-known-x
-enum-known-x c = search needs
+peek-requires : tie.Need-peek-requires
+peek-requires c κs = search needs
 
-enum-told : tie.Need-enum-told
-enum-told c = search needs
-
-enum-told-2 : tie.Need-enum-told-2
-enum-told-2 c = search needs
-
-enum-told-3 : tie.Need-enum-told-3
-enum-told-3 c = search needs
+add-t7 : tie.Need-add-t7
+add-t7 c = search needs
 
 returns : tie.Need-returns
-returns c = let a = (c .before .before .before .before .before .before .before) in let z = finds-is (a .args .s .now) (a .args .at) (c .before .before .before .before .before .next-at .result) (c .before .before .before .before .before .next-at .ensures) (c .before .before .before .x .given .1) in subst (λ (y : Sign). Then (a .args .s .now) (a .args .at) (symbol-of y) (c .before .before .before .x .given .0 .1 .0)) (c .enum-told .given .1) (z .0)
+returns c = let a = c .before .before .before .before .args in colon-here (a .s .now) (a .at) (c .before .before .skip-blanks .ensures) (omega (arith, c .before .peek .ensures, c .if1 .taken)) (nonzero-inside (a .s .now) (c .before .before .skip-blanks .result) (c .before .peek .ensures) (omega (arith, c .if1 .taken)))
 
 returns-2 : tie.Need-returns-2
-returns-2 c = let a = (c .before .before .before .before .before .before) in let z = finds-is (a .args .s .now) (a .args .at) (c .before .before .before .before .next-at .result) (c .before .before .before .before .next-at .ensures) (c .before .before .x .given .1) in no-colon (a .args .s .now) (a .args .at) (c .before .before .x .given .0 .0) (c .match2 .keys2) (z .0)
-
-returns-3 : tie.Need-returns-3
-returns-3 c = let a = (c .before .before .before .before) in let w = finds-end (a .args .s .now) (a .args .at) (c .before .before .next-at .result) (c .before .before .next-at .ensures) (c .enum-told2 .given .1) in λ t d k e. end-if (a .args .s .now) (a .args .at) w t d k
-
-returns-4 : tie.Need-returns-4
-returns-4 c = let a = (c .before .before .before .before) in let w = finds-wrong (a .args .s .now) (a .args .at) (c .before .before .next-at .result) (c .before .before .next-at .ensures) (c .enum-told3 .given .1) in λ t d k e. from-none _ w (have t (if-of d ∷ k))
+returns-2 c = let a = c .before .before .before .before .args in colon-missing (a .s .now) (a .at) (c .before .before .skip-blanks .ensures) (λ e. omega (arith, c .before .peek .ensures, c .if1 .left))
 
 pub colon-at-spec : {M : Type 1} → statement M
-colon-at-spec =
-    tie.close
-    (tie.spec
-    next-at-requires
-    enum-known-x
-    enum-told
-    enum-told-2
-    enum-told-3
-    returns
-    returns-2
-    returns-3
-    returns-4)
+colon-at-spec = tie.close (tie.spec skip-blanks-requires peek-requires add-t7 returns returns-2)

@@ -1,10 +1,15 @@
-use Rattle.evaluate.proofs.Steps.{finds-is, finds-end, finds-wrong, ends-end, ends-none}
+use Rattle.evaluate.proofs.Steps.{signs-is, signs-wrong, no-sign, joins-from}
+use Rattle.evaluate.proofs.Scans.{stands}
+use Rattle.evaluate.specs.declared.Joint.the-variants.{End}
 use borrow.Author.Needs.{needs}
 use Rattle.evaluate.proofs.joint_at.Statement.{statement}
 use Rattle.evaluate.proofs.joint_at.Tie as tie
 
-next-at-requires : tie.Need-next-at-requires
-next-at-requires c κs = (c .before) .pre
+skip-blanks-requires : tie.Need-skip-blanks-requires
+skip-blanks-requires c κs = search needs
+
+sign-at-requires : tie.Need-sign-at-requires
+sign-at-requires c κs = c .skip-blanks .ensures .within
 
 enum-known-x : tie.Need-enum-known-x
 enum-known-x c = search needs
@@ -15,27 +20,20 @@ joint-sign-requires c κs = search needs
 enum-told : tie.Need-enum-told
 enum-told c = search needs
 
-enum-told-2 : tie.Need-enum-told-2
-enum-told-2 c = search needs
-
 returns : tie.Need-returns
-returns c = let a = (c .before .before .before .before .before .before) in let z = finds-is (a .args .s .now) (a .args .at) (c .before .before .before .before .next-at .result) (c .before .before .before .before .next-at .ensures) (c .before .before .x .given .1) in c .joint-sign .ensures (a .args .s .now) (a .args .at) (z .0)
+returns c = let a = c .before .before .before .before .before .before .before .args in let p = c .before .before .before .before .before .skip-blanks .result in joins-from (a .s .now) (a .at) (c .before .before .before .before .before .skip-blanks .ensures) (a .l) (c .joint-sign .result) (c .joint-sign .ensures (a .s .now) p (signs-is (a .s .now) p (c .before .before .before .before .sign-at .result) (c .before .before .before .before .sign-at .ensures) (c .before .before .x .given .1)))
 
 returns-2 : tie.Need-returns-2
-returns-2 c = let a = (c .before .before .before .before) in ends-end _ (a .args .l) (finds-end (a .args .s .now) (a .args .at) (c .before .before .next-at .result) (c .before .before .next-at .ensures) (c .enum-told .given .1))
-
-returns-3 : tie.Need-returns-3
-returns-3 c = let a = (c .before .before .before .before) in ends-none _ (a .args .l) (finds-wrong (a .args .s .now) (a .args .at) (c .before .before .next-at .result) (c .before .before .next-at .ensures) (c .enum-told2 .given .1))
+returns-2 c = let a = c .before .before .before .before .before .args in let p = c .before .before .before .skip-blanks .result in joins-from (a .s .now) (a .at) (c .before .before .before .skip-blanks .ensures) (a .l) End (no-sign (a .s .now) p (a .l) (stands (a .s .now) p (c .before .before .before .skip-blanks .ensures .bare)) (signs-wrong (a .s .now) p (c .before .before .sign-at .result) (c .before .before .sign-at .ensures) (c .enum-told .given .1)))
 
 pub joint-at-spec : {M : Type 1} → statement M
 joint-at-spec =
     tie.close
     (tie.spec
-    next-at-requires
+    skip-blanks-requires
+    sign-at-requires
     enum-known-x
     joint-sign-requires
     enum-told
-    enum-told-2
     returns
-    returns-2
-    returns-3)
+    returns-2)

@@ -1,6 +1,6 @@
 use native.Mathlib.Omega.{arith}
 use Rattle.evaluate.proofs.Steps.{ends-at, no-joint}
-use Rattle.evaluate.specs.Scan.{symbol-of, Sign-ok, Then}
+use Rattle.evaluate.specs.Scan.{symbol-of, Then}
 use Rattle.evaluate.specs.declared.Sign.{Sign}
 use Prim.Native.Nat.{_<_}
 use mathlib.Core.Path.{subst}

@@ -14,27 +14,27 @@ add-match c = search needs
 
 returns : tie.Need-returns
 unfolding spelling
-returns c = let e : c .before .args .b ≡ 124 = omega (arith, c .match .keys1) in let f : c .before .args .d ≡ 124 = omega (arith, c .match .keys1) in (rw (e, f) refl, (tt, omega arith))
+returns c = let e : c .before .args .b ≡ 124 = omega (arith, c .match .keys1) in let f : c .before .args .d ≡ 124 = omega (arith, c .match .keys1) in (rw (e, f) refl, omega arith)
 
 returns-2 : tie.Need-returns-2
 unfolding spelling
-returns-2 c = let e : c .before .args .b ≡ 38 = omega (arith, c .match .keys2) in let f : c .before .args .d ≡ 38 = omega (arith, c .match .keys2) in (rw (e, f) refl, (tt, omega arith))
+returns-2 c = let e : c .before .args .b ≡ 38 = omega (arith, c .match .keys2) in let f : c .before .args .d ≡ 38 = omega (arith, c .match .keys2) in (rw (e, f) refl, omega arith)
 
 returns-3 : tie.Need-returns-3
 unfolding spelling
-returns-3 c = let e : c .before .args .b ≡ 60 = omega (arith, c .match .keys3) in let f : c .before .args .d ≡ 61 = omega (arith, c .match .keys3) in (rw (e, f) refl, (tt, omega arith))
+returns-3 c = let e : c .before .args .b ≡ 60 = omega (arith, c .match .keys3) in let f : c .before .args .d ≡ 61 = omega (arith, c .match .keys3) in (rw (e, f) refl, omega arith)
 
 returns-4 : tie.Need-returns-4
 unfolding spelling
-returns-4 c = let e : c .before .args .b ≡ 62 = omega (arith, c .match .keys4) in let f : c .before .args .d ≡ 61 = omega (arith, c .match .keys4) in (rw (e, f) refl, (tt, omega arith))
+returns-4 c = let e : c .before .args .b ≡ 62 = omega (arith, c .match .keys4) in let f : c .before .args .d ≡ 61 = omega (arith, c .match .keys4) in (rw (e, f) refl, omega arith)
 
 returns-5 : tie.Need-returns-5
 unfolding spelling
-returns-5 c = let e : c .before .args .b ≡ 61 = omega (arith, c .match .keys5) in let f : c .before .args .d ≡ 61 = omega (arith, c .match .keys5) in (rw (e, f) refl, (tt, omega arith))
+returns-5 c = let e : c .before .args .b ≡ 61 = omega (arith, c .match .keys5) in let f : c .before .args .d ≡ 61 = omega (arith, c .match .keys5) in (rw (e, f) refl, omega arith)
 
 returns-6 : tie.Need-returns-6
 unfolding spelling
-returns-6 c = let e : c .before .args .b ≡ 33 = omega (arith, c .match .keys6) in let f : c .before .args .d ≡ 61 = omega (arith, c .match .keys6) in (rw (e, f) refl, (tt, omega arith))
+returns-6 c = let e : c .before .args .b ≡ 33 = omega (arith, c .match .keys6) in let f : c .before .args .d ≡ 61 = omega (arith, c .match .keys6) in (rw (e, f) refl, omega arith)
 
 returns-7 : tie.Need-returns-7
 returns-7 c = (no-pair (c .before .args .b) (c .before .args .d) (c .match .rest .0 .0 .0 .0 .0 .1) (c .match .rest .0 .0 .0 .0 .1) (c .match .rest .0 .0 .0 .1) (c .match .rest .0 .0 .1) (c .match .rest .0 .1) (c .match .rest .1), tt)
