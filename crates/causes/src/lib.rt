@@ -1,6 +1,6 @@
 ghost use mathlib.Core.Path.{_≡_};
 ghost use mathlib.Core.Bool.{true};
-ghost use mathlib.Core.List.{[]};
+ghost use mathlib.Core.List.{[], map};
 ghost use Prim.Native.Nat.{_+_, _<_};
 ghost use lib.ListN.{length, set};
 ghost use Rattle.lists.specs.Select.{missing};
@@ -9,6 +9,7 @@ ghost use Rattle.file.specs.Contents.{level-of, permission-of, log-of};
 ghost use Rattle.file.specs.Refusal.{too-long, too-many, bad-level, unknown-word, bad-calculation};
 ghost use Rattle.texts.specs.Rolls.{Lie, arrays, tokens};
 ghost use Rattle.texts.specs.Seek.{seek, context-at};
+ghost use Rattle.causes.specs.Tabled.{every-role};
 ghost use Rattle.causes.specs.Limits.{limit};
 ghost use Rattle.causes.specs.Counts.{section};
 ghost use Rattle.causes.specs.Inputs.{Gives, ahead, around};
@@ -51,20 +52,30 @@ const LIMITS: [usize; 18] = [
     ANY, // an unknown predicate
 ];
 
-fn limit_of(role: u8) -> usize
+// A table is handed down, so that it is laid out once and not at each token.
+fn limit_of(limits: &[usize; 18], role: u8) -> usize
+    requires { ⌜ now limits ≡ map limit every-role ⌝ }
     ensures { λ r. ⌜ r ≡ limit (role-of-number role) ⌝ }
 {
     if role < 18 {
-        return LIMITS[role as usize];
+        return limits[role as usize];
     }
     ANY
 }
 
-fn long_at(s: &[u8], starts: &[u16], ends: &[u16], roles: &[u8], n: usize, i: usize) -> bool
-    requires { ⌜ Lie (now s) (now starts) (now ends) (now roles) n × (i < n) ⌝ }
+fn long_at(
+    limits: &[usize; 18],
+    s: &[u8],
+    starts: &[u16],
+    ends: &[u16],
+    roles: &[u8],
+    n: usize,
+    i: usize,
+) -> bool
+    requires { ⌜ Lie (now s) (now starts) (now ends) (now roles) n × (i < n) × (now limits ≡ map limit every-role) ⌝ }
     ensures { λ r. ⌜ r ≡ too-long (context-at (now (s .entry)) (arrays (now (starts .entry)) (now (ends .entry))) (now (roles .entry)) n i) ⌝ }
 {
-    limit_of(roles[i]) < texts::long(s, starts, ends, i)
+    limit_of(limits, roles[i]) < texts::long(s, starts, ends, i)
 }
 
 // The first token whose text is longer than its role allows, or n.
@@ -73,9 +84,10 @@ pub fn too_long(s: &[u8], starts: &[u16], ends: &[u16], roles: &[u8], n: usize) 
     requires { ⌜ Lie (now s) (now starts) (now ends) (now roles) n ⌝ }
     ensures { λ r. ⌜ r ≡ seek too-long [] (tokens (now (s .entry)) (arrays (now (starts .entry)) (now (ends .entry))) (now (roles .entry)) 0 n) ⌝ }
 {
+    let limits = LIMITS;
     let mut i = 0;
     while i < n {
-        if long_at(s, starts, ends, roles, n, i) {
+        if long_at(&limits, s, starts, ends, roles, n, i) {
             return i;
         }
         i += 1;
@@ -89,11 +101,12 @@ const SECTIONS: [usize; 18] = [0, 1, 3, 2, 3, 4, 5, 0, 6, 0, 0, 0, 7, 7, 0, 0, 0
 // How many items a section may have: none, UAG, HAG, members, ASG, inputs, rules, groups that rules name.
 const MOST: [usize; 8] = [ANY, 64, 64, 1024, 64, 512, 256, 1024];
 
-fn section_of(role: u8) -> usize
+fn section_of(sections: &[usize; 18], role: u8) -> usize
+    requires { ⌜ now sections ≡ map section every-role ⌝ }
     ensures { λ r. ⌜ r ≡ section (role-of-number role) ⌝ }
 {
     if role < 18 {
-        return SECTIONS[role as usize];
+        return sections[role as usize];
     }
     0
 }
@@ -104,11 +117,13 @@ pub fn too_many(s: &[u8], starts: &[u16], ends: &[u16], roles: &[u8], n: usize) 
     requires { ⌜ Lie (now s) (now starts) (now ends) (now roles) n ⌝ }
     ensures { λ r. ⌜ r ≡ seek too-many [] (tokens (now (s .entry)) (arrays (now (starts .entry)) (now (ends .entry))) (now (roles .entry)) 0 n) ⌝ }
 {
+    let most = MOST;
+    let sections = SECTIONS;
     let mut counts = [0usize; 8];
     let mut i = 0;
     while i < n {
-        let k = section_of(roles[i]);
-        if MOST[k] <= counts[k] {
+        let k = section_of(&sections, roles[i]);
+        if most[k] <= counts[k] {
             return i;
         }
         counts[k] += 1;

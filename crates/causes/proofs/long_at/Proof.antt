@@ -1,26 +1,18 @@
-use Rattle.causes.specs.Limits.{over}
 use Rattle.texts.specs.Lies.{lies-at}
+use Rattle.causes.specs.Limits.{over}
 use borrow.Author.Needs.{needs}
 use Rattle.causes.proofs.long_at.Statement.{statement}
 use Rattle.causes.proofs.long_at.Tie as tie
-use Rattle.causes.proofs.long_at.Reads as reads
-use Rattle.causes.proofs.long_at.Lts as lts
-use Rattle.causes.proofs.limit_of.Reads as limit-of-reads
-use Rattle.texts.proofs.long.Reads as long-reads
 
--- src/lib.rt:31:14
 shared-slice-read-limit-of : tie.Need-shared-slice-read-limit-of
 shared-slice-read-limit-of c = search needs
 
--- src/lib.rt:31:5
 limit-of-requires : tie.Need-limit-of-requires
-limit-of-requires c κs = search needs
+limit-of-requires c κs = c .before .before .before .before .before .pre .2
 
--- src/lib.rt:31:26
 long-requires : tie.Need-long-requires
 long-requires c κs = lies-at (c .before .before .before .before .before .before .pre .1) (c .before .before .before .before .before .before .pre .0)
 
--- src/lib.rt:27:1
 returns : tie.Need-returns
 returns c = rw (c .before .limit-of .ensures, c .long .ensures) (over (c .before .before .before .before .before .before .before .args .s .now) (c .before .before .before .before .before .before .before .args .starts .now) (c .before .before .before .before .before .before .before .args .ends .now) (c .before .before .before .before .before .before .before .args .roles .now) (c .before .before .before .before .before .before .before .args .i) (c .before .before .before .before .before .before .before .pre .0 .short))
 

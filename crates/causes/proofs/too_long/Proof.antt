@@ -1,46 +1,36 @@
-use Rattle.causes.specs.Sought.{Sought, sought-first, sought-here, sought-on, sought-none}
-use Rattle.texts.specs.Rolls.{arrays}
-use Rattle.file.specs.Refusal.{too-long}
+use mathlib.Core.Path.{sym, refl, _∙_}
 use Prim.Native.Nat.{_-_}
-use mathlib.Core.Path.{sym, _∙_}
+use Rattle.file.specs.Refusal.{too-long}
+use Rattle.texts.specs.Rolls.{arrays}
+use Rattle.causes.specs.Sought.{Sought, sought-first, sought-here, sought-on, sought-none}
 use borrow.Author.Needs.{needs}
 use Rattle.causes.proofs.too_long.Statement.{statement}
 use Rattle.causes.proofs.too_long.Tie as tie
-use Rattle.causes.proofs.too_long.Reads as reads
-use Rattle.causes.proofs.too_long.Lts as lts
-use Rattle.causes.proofs.long_at.Reads as long-at-reads
 
 abbrev Inv-loop : tie.InvT-loop
-Inv-loop s starts ends roles n i₀ i = Sought s (arrays starts ends) roles too-long n i
+Inv-loop s starts ends roles n limits i₀ i = Sought s (arrays starts ends) roles too-long n i
 
 abbrev μ-loop : tie.MeasureT-loop
-μ-loop s starts ends roles n i₀ i = n - i
+μ-loop s starts ends roles n limits i₀ i = n - i
 
--- src/lib.rt:40:5
 loop-holds : tie.Need-loop-holds Inv-loop μ-loop
 loop-holds c = sought-first _ _ _ _ _
 
--- src/lib.rt:41:12
 long-at-requires : tie.Need-long-at-requires Inv-loop μ-loop
-long-at-requires c κs = search needs
+long-at-requires c κs = (c .before .before .before .before .before .before .before .pre, c .before .loop-test .taken, refl)
 
--- src/lib.rt:42:13
 returns : tie.Need-returns Inv-loop μ-loop
-returns c = sought-here (c .before .before .loop-test .taken) (sym (c .before .long-at .ensures) ∙ c .if1 .taken) (c .before .before .before .loop .inv)
+returns c = sought-here (c .before .before .before .loop-test .taken) (sym (c .before .long-at .ensures) ∙ c .if1 .taken) (c .before .before .before .before .loop .inv)
 
--- src/lib.rt:44:9
 add-i : tie.Need-add-i Inv-loop μ-loop
 add-i c = search needs
 
--- src/lib.rt:40:5
 loop-less : tie.Need-loop-less Inv-loop μ-loop
 loop-less c = search needs
 
--- src/lib.rt:40:5
 loop-again : tie.Need-loop-again Inv-loop μ-loop
-loop-again c = sought-on (c .before .before .loop-test .taken) (sym (c .before .long-at .ensures) ∙ c .if1 .left) (c .before .before .before .loop .inv)
+loop-again c = sought-on (c .before .before .before .loop-test .taken) (sym (c .before .long-at .ensures) ∙ c .if1 .left) (c .before .before .before .before .loop .inv)
 
--- src/lib.rt:35:1
 returns-2 : tie.Need-returns-2 Inv-loop μ-loop
 returns-2 c = sought-none (c .loop-test .left) (c .before .loop .inv)
 

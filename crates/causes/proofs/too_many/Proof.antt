@@ -1,85 +1,67 @@
-use Rattle.causes.specs.Counts.{Counting, counting-first, number-small, count-bound, many-here, count-on}
-use Rattle.causes.specs.Sought.{sought-none}
-use Rattle.texts.specs.Rolls.{arrays}
-use Rattle.file.specs.Limit.{item-of}
-use Rattle.kept.specs.Kept.{role-of-number}
-use lib.ListN.{getD}
-use Prim.Native.Nat.{_-_}
+use mathlib.Core.Path.{refl}
 use native.Mathlib.Omega.{arith}
+use Prim.Native.Nat.{_-_}
+use lib.ListN.{getD}
+use Rattle.kept.specs.Kept.{role-of-number}
+use Rattle.file.specs.Limit.{item-of}
+use Rattle.texts.specs.Rolls.{arrays}
+use Rattle.causes.specs.Sought.{sought-none}
+use Rattle.causes.specs.Counts.{Counting, counting-first, number-small, count-bound, many-here, count-on}
 use borrow.Author.Needs.{needs}
 use Rattle.causes.proofs.too_many.Statement.{statement}
 use Rattle.causes.proofs.too_many.Tie as tie
-use Rattle.causes.proofs.too_many.Reads as reads
-use Rattle.causes.proofs.too_many.Lts as lts
-use Rattle.causes.proofs.section_of.Reads as section-of-reads
 
 abbrev Inv-loop : tie.InvT-loop
-Inv-loop s starts ends roles n counts₀ i₀ counts i = Counting s (arrays starts ends) roles n counts i
+Inv-loop s starts ends roles n most sections counts₀ i₀ counts i = Counting s (arrays starts ends) roles n counts i
 
 abbrev μ-loop : tie.MeasureT-loop
-μ-loop s starts ends roles n counts₀ i₀ counts i = n - i
+μ-loop s starts ends roles n most sections counts₀ i₀ counts i = n - i
 
--- src/lib.rt:98:5
 loop-holds : tie.Need-loop-holds Inv-loop μ-loop
 loop-holds c = counting-first _ _ _ _
 
--- src/lib.rt:99:28
 shared-slice-read-section-of : tie.Need-shared-slice-read-section-of Inv-loop μ-loop
 shared-slice-read-section-of c = search needs
 
--- src/lib.rt:99:13
 section-of-requires : tie.Need-section-of-requires Inv-loop μ-loop
-section-of-requires c κs = search needs
+section-of-requires c κs = refl
 
--- src/lib.rt:100:12
 mul-if1 : tie.Need-mul-if1 Inv-loop μ-loop
-mul-if1 c = omega (arith, c .section-of .ensures, number-small (item-of (role-of-number (getD (c .before .before .before .before .before .before .before .before .args .roles .now) (c .before .before .before .loop .i) 0))))
+mul-if1 c = omega (arith, c .section-of .ensures, number-small (item-of (role-of-number (getD (c .before .before .before .before .before .before .before .before .before .args .roles .now) (c .before .before .before .before .loop .i) 0))))
 
--- src/lib.rt:100:12
 array-read-if1 : tie.Need-array-read-if1 Inv-loop μ-loop
-array-read-if1 c = omega (arith, c .section-of .ensures, number-small (item-of (role-of-number (getD (c .before .before .before .before .before .before .before .before .args .roles .now) (c .before .before .before .loop .i) 0))))
+array-read-if1 c = omega (arith, c .section-of .ensures, number-small (item-of (role-of-number (getD (c .before .before .before .before .before .before .before .before .before .args .roles .now) (c .before .before .before .before .loop .i) 0))))
 
--- src/lib.rt:100:23
 mul-if1-2 : tie.Need-mul-if1-2 Inv-loop μ-loop
-mul-if1-2 c = omega (arith, c .section-of .ensures, number-small (item-of (role-of-number (getD (c .before .before .before .before .before .before .before .before .args .roles .now) (c .before .before .before .loop .i) 0))))
+mul-if1-2 c = omega (arith, c .section-of .ensures, number-small (item-of (role-of-number (getD (c .before .before .before .before .before .before .before .before .before .args .roles .now) (c .before .before .before .before .loop .i) 0))))
 
--- src/lib.rt:100:23
 array-read-if1-2 : tie.Need-array-read-if1-2 Inv-loop μ-loop
-array-read-if1-2 c = omega (arith, c .section-of .ensures, number-small (item-of (role-of-number (getD (c .before .before .before .before .before .before .before .before .args .roles .now) (c .before .before .before .loop .i) 0))))
+array-read-if1-2 c = omega (arith, c .section-of .ensures, number-small (item-of (role-of-number (getD (c .before .before .before .before .before .before .before .before .before .args .roles .now) (c .before .before .before .before .loop .i) 0))))
 
--- src/lib.rt:101:13
 returns : tie.Need-returns Inv-loop μ-loop
-returns c = many-here _ _ _ (c .before .before .before .before .loop .inv) (c .before .before .before .before .before .before .before .before .before .pre .few) (c .before .before .before .loop-test .taken) (c .before .section-of .ensures) (c .if1 .taken)
+returns c = many-here _ _ _ (c .before .before .before .before .before .loop .inv) (c .before .before .before .before .before .before .before .before .before .before .pre .few) (c .before .before .before .before .loop-test .taken) (c .before .section-of .ensures) (c .if1 .taken)
 
--- src/lib.rt:103:9
 mul-counts : tie.Need-mul-counts Inv-loop μ-loop
-mul-counts c = omega (arith, c .before .section-of .ensures, number-small (item-of (role-of-number (getD (c .before .before .before .before .before .before .before .before .before .args .roles .now) (c .before .before .before .before .loop .i) 0))))
+mul-counts c = omega (arith, c .before .section-of .ensures, number-small (item-of (role-of-number (getD (c .before .before .before .before .before .before .before .before .before .before .args .roles .now) (c .before .before .before .before .before .loop .i) 0))))
 
--- src/lib.rt:103:9
 array-read-counts : tie.Need-array-read-counts Inv-loop μ-loop
-array-read-counts c = omega (arith, c .before .section-of .ensures, number-small (item-of (role-of-number (getD (c .before .before .before .before .before .before .before .before .before .args .roles .now) (c .before .before .before .before .loop .i) 0))))
+array-read-counts c = omega (arith, c .before .section-of .ensures, number-small (item-of (role-of-number (getD (c .before .before .before .before .before .before .before .before .before .before .args .roles .now) (c .before .before .before .before .before .loop .i) 0))))
 
--- src/lib.rt:103:9
 add-counts : tie.Need-add-counts Inv-loop μ-loop
-add-counts c = omega (arith, count-bound _ _ _ (c .before .before .before .before .loop .inv) (c .before .section-of .result) (omega (arith, c .before .section-of .ensures, number-small (item-of (role-of-number (getD (c .before .before .before .before .before .before .before .before .before .args .roles .now) (c .before .before .before .before .loop .i) 0))))), c .before .before .before .before .before .before .before .before .before .pre .few)
+add-counts c = omega (arith, count-bound _ _ _ (c .before .before .before .before .before .loop .inv) (c .before .section-of .result) (omega (arith, c .before .section-of .ensures, number-small (item-of (role-of-number (getD (c .before .before .before .before .before .before .before .before .before .before .args .roles .now) (c .before .before .before .before .before .loop .i) 0))))), c .before .before .before .before .before .before .before .before .before .before .pre .few)
 
--- src/lib.rt:103:9
 array-write-counts : tie.Need-array-write-counts Inv-loop μ-loop
-array-write-counts c = omega (arith, c .before .section-of .ensures, number-small (item-of (role-of-number (getD (c .before .before .before .before .before .before .before .before .before .args .roles .now) (c .before .before .before .before .loop .i) 0))))
+array-write-counts c = omega (arith, c .before .section-of .ensures, number-small (item-of (role-of-number (getD (c .before .before .before .before .before .before .before .before .before .before .args .roles .now) (c .before .before .before .before .before .loop .i) 0))))
 
--- src/lib.rt:104:9
 add-i : tie.Need-add-i Inv-loop μ-loop
 add-i c = search needs
 
--- src/lib.rt:98:5
 loop-less : tie.Need-loop-less Inv-loop μ-loop
 loop-less c = search needs
 
--- src/lib.rt:98:5
 loop-again : tie.Need-loop-again Inv-loop μ-loop
-loop-again c = count-on _ _ _ (c .before .before .before .before .loop .inv) (c .before .before .before .before .before .before .before .before .before .pre .few) (c .before .before .before .loop-test .taken) (c .before .section-of .ensures) (c .if1 .left)
+loop-again c = count-on _ _ _ (c .before .before .before .before .before .loop .inv) (c .before .before .before .before .before .before .before .before .before .before .pre .few) (c .before .before .before .before .loop-test .taken) (c .before .section-of .ensures) (c .if1 .left)
 
--- src/lib.rt:92:1
 returns-2 : tie.Need-returns-2 Inv-loop μ-loop
 returns-2 c = sought-none (c .loop-test .left) (c .before .loop .inv .sought)
 
