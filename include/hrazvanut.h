@@ -3,7 +3,7 @@
  * Every function below is total but the one whose name ends in _checked: any bytes, any lengths, any numbers get an answer, in
  * bounds and in bounded time. A pointer must be good for the length beside it; with a length of 0 it may be any pointer but NULL.
  * Bytes that are lent as const are only read. Nothing is kept between calls: no heap, no static storage, so any thread may call,
- * as long as nobody writes a table while another call reads it. A load needs some 170 KiB of stack.
+ * as long as nobody writes a table while another call reads it. A load needs less than 180 KiB of stack.
  *
  * Documents: 01 is the paper that says what is made; docs/USING.md tells each refusal and warning with its cure.
  */

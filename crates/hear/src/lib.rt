@@ -39,7 +39,7 @@ fn understand(kinds: &[u8], places: &[u16], n: usize, long: usize, roles: &mut [
 }
 
 // The refusals 2 to 4. The tokens of the text are kept in the arrays.
-// The caller, loader, has looked at the text's length and has arrays for the longest.
+// The caller, loader, has looked at the text's length and has arrays as long as the text.
 pub fn listen(
     s: &[u8],
     kinds: &mut [u8],
