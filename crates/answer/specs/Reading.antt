@@ -6,9 +6,9 @@ use Prim.Native.Nat.{ℕ, _+_, _*_, _-_, _≤_, _<_}
 use native.Mathlib.Omega.{arith}
 use lib.ListN.{length, take, drop}
 use Rattle.lists.specs.Runs.{Run}
-use Rattle.file.specs.Limit.{Section}
+use Rattle.file.specs.Limit.{Section, order}
 use Rattle.table.specs.Layout.{width, header-bytes}
-use Rattle.table.specs.View.{view, order, strings-order, header-word, count-of}
+use Rattle.table.specs.View.{view, strings-order, header-word, count-of}
 use Rattle.table.specs.Check.{is-table, name-run}
 use Rattle.table.specs.Policy.{name}
 use Rattle.table.specs.Fields.{word-at, has-header, view-count, field-place, field-inside, field-at, strings-inside, strings-count, string-at}

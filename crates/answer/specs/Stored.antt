@@ -6,9 +6,9 @@ use mathlib.Core.Option.{Option, none, some}
 use Prim.Native.Nat.{ℕ, _+_, _<_}
 use native.Mathlib.Omega.{arith}
 use lib.ListN.{length, getD}
-use Rattle.file.specs.Limit.{Section, user-groups, host-groups, members, access-groups, inputs, rules, references}
+use Rattle.file.specs.Limit.{Section, user-groups, host-groups, members, access-groups, inputs, rules, references, order}
 use Rattle.table.specs.Layout.{width}
-use Rattle.table.specs.View.{view, order}
+use Rattle.table.specs.View.{view}
 use Rattle.table.specs.Check.{is-table, run-at, name-run}
 use Rattle.table.specs.Standing.{row}
 use Rattle.answer.specs.declared.Kind.{Kind}

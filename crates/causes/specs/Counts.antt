@@ -8,20 +8,20 @@ use native.Mathlib.Omega.{arith}
 use lib.Dec.{eqb, leb}
 use lib.ListN.{length, getD, set, replicate, length-set, getD-replicate}
 use lib.Seq.{getD-set-same, getD-set-other}
-use borrow.Author.Tests.{ne-eqb, eqb-true, eqb-false, le-leb, lt-leb}
+use borrow.Author.Tests.{eq-eqb, ne-eqb, eqb-true, eqb-false, le-leb, lt-leb}
 use Rattle.lists.specs.Select.{holds-of, select, prepend-if}
 use Rattle.grammar.specs.declared.Role.{Role}
 use Rattle.grammar.specs.Reading.{Said}
 use Rattle.kept.specs.Kept.{Arrays, role-of-number, said-at}
-use Rattle.file.specs.Limit.{Section, user-groups, host-groups, members, access-groups, inputs, rules, references, most, most-bytes, item-of}
-use Rattle.file.specs.Refusal.{section-number, item, too-many}
+use Rattle.file.specs.Limit.{Section, user-groups, host-groups, members, access-groups, inputs, rules, references, order, most, most-bytes, item-of}
+use Rattle.file.specs.Refusal.{item, too-many}
 use Rattle.texts.specs.Seek.{earlier, earlier-none, earlier-step, context-at}
 use Rattle.causes.specs.Sought.{Sought, found, sought-first, sought-here, sought-on}
 
--- the number of a section, 0 for none, and how many items it may have; no file has most-bytes tokens before another
+-- the number of a section, 0 for none, 1 for the first, and how many items it may have; no file has most-bytes tokens before another
 abbrev pub number-of : Option Section → ℕ
 number-of none = 0
-number-of (some t) = section-number t
+number-of (some t) = suc (order t)
 
 abbrev pub most-of : Option Section → ℕ
 most-of none = most-bytes
@@ -45,19 +45,18 @@ counted-bound k (x ∷ xs) = go (eqb (section (x .role)) k) (counted-bound k xs)
     go true h = omega arith
     go false h = omega arith
 
--- sections have numbers from 1 to 7
-some-number : (t : Section) → (0 < section-number t) × (section-number t < 8)
-some-number user-groups = (omega arith, omega arith)
-some-number host-groups = (omega arith, omega arith)
-some-number members = (omega arith, omega arith)
-some-number access-groups = (omega arith, omega arith)
-some-number inputs = (omega arith, omega arith)
-some-number rules = (omega arith, omega arith)
-some-number references = (omega arith, omega arith)
+seven : (t : Section) → order t < 7
+seven user-groups = omega arith
+seven host-groups = omega arith
+seven members = omega arith
+seven access-groups = omega arith
+seven inputs = omega arith
+seven rules = omega arith
+seven references = omega arith
 
 pub number-small : (o : Option Section) → number-of o < 8
 number-small none = omega arith
-number-small (some t) = some-number t .1
+number-small (some t) = let z = seven t in omega arith
 
 -- the limits of the sections by their numbers
 abbrev pub limits : List ℕ
@@ -73,16 +72,23 @@ most-tabled (some inputs) = refl
 most-tabled (some rules) = refl
 most-tabled (some references) = refl
 
-same-item : (t : Section) (o : Option Section) → holds-of o (λ u. eqb (section-number u) (section-number t)) ≡ eqb (number-of o) (section-number t)
-same-item t none = sym (ne-eqb 0 (section-number t) (λ h. omega (arith, some-number t .0)))
-same-item t (some u) = refl
+eqb-suc : (a b : ℕ) → eqb a b ≡ eqb (suc a) (suc b)
+eqb-suc a b = go (eqb a b) refl
+  where
+    go : (t : Bool) → eqb a b ≡ t → t ≡ eqb (suc a) (suc b)
+    go true e = sym (eq-eqb (suc a) (suc b) (ap suc (eqb-true a b e)))
+    go false e = sym (ne-eqb (suc a) (suc b) (λ h. eqb-false a b e (omega arith)))
 
-counted-is : (t : Section) (xs : List Said) → length (select (item t) xs) ≡ counted (section-number t) xs
+same-item : (t : Section) (o : Option Section) → holds-of o (λ u. eqb (order u) (order t)) ≡ eqb (number-of o) (number-of (some t))
+same-item t none = sym (ne-eqb 0 (number-of (some t)) (λ h. omega arith))
+same-item t (some u) = eqb-suc (order u) (order t)
+
+counted-is : (t : Section) (xs : List Said) → length (select (item t) xs) ≡ counted (number-of (some t)) xs
 unfolding counted
 counted-is t [] = refl
-counted-is t (x ∷ xs) = rw (same-item t (item-of (x .role))) (go (eqb (section (x .role)) (section-number t)) (counted-is t xs))
+counted-is t (x ∷ xs) = rw (same-item t (item-of (x .role))) (go (eqb (section (x .role)) (number-of (some t))) (counted-is t xs))
   where
-    go : (b : Bool) → length (select (item t) xs) ≡ counted (section-number t) xs → length (prepend-if b x (select (item t) xs)) ≡ cond b 1 0 + counted (section-number t) xs
+    go : (b : Bool) → length (select (item t) xs) ≡ counted (number-of (some t)) xs → length (prepend-if b x (select (item t) xs)) ≡ cond b 1 0 + counted (number-of (some t)) xs
     go true e = omega (arith, e)
     go false e = omega (arith, e)
 

@@ -16,9 +16,9 @@ use Rattle.grammar.specs.declared.Role.{Role}
 use Rattle.grammar.specs.declared.Role.the-variants.{Mute, UagName, User, HagName, Host, AsgName, Input, Pvname, RuleWord, Level, Permission, LogOption, UagNamed, HagNamed, CalcWord, Calculation, UnknownItem, UnknownPredicate}
 use Rattle.grammar.specs.Role.{role-number}
 use Rattle.grammar.specs.Reading.{Said}
-use Rattle.file.specs.Limit.{Section, user-groups, host-groups, members, access-groups, inputs, rules, references, most, item-of}
+use Rattle.file.specs.Limit.{Section, user-groups, host-groups, members, access-groups, inputs, rules, references, most, item-of, order}
 use Rattle.file.specs.Contents.{says, text, texts, until, Part, parts}
-use Rattle.file.specs.Refusal.{section-number, Context, contexts-after, contexts, too-long, item, too-many, given-again, bad-level, unknown-word, bad-calculation, Cause, causes, or-else, refused-by}
+use Rattle.file.specs.Refusal.{Context, contexts-after, contexts, too-long, item, too-many, given-again, bad-level, unknown-word, bad-calculation, Cause, causes, or-else, refused-by}
 
 -- the sum over those that pass a test
 abbrev pub sum-of : (Said → Bool) → (Said → ℕ) → List Said → ℕ
@@ -135,9 +135,9 @@ injective : {K : Type 0} (code : K → ℕ) (all : List K) (d : K) → ((k : K) 
 injective code all d back a b e = sym (back a) ∙ (ap (λ n. getD all n d) (eqb-true (code a) (code b) e) ∙ back b)
 
 abbrev all-sections : List Section
-all-sections = user-groups ∷ user-groups ∷ host-groups ∷ members ∷ access-groups ∷ inputs ∷ rules ∷ references ∷ []
+all-sections = user-groups ∷ host-groups ∷ members ∷ access-groups ∷ inputs ∷ rules ∷ references ∷ []
 
-section-back : (s : Section) → getD all-sections (section-number s) user-groups ≡ s
+section-back : (s : Section) → getD all-sections (order s) user-groups ≡ s
 section-back user-groups = refl
 section-back host-groups = refl
 section-back members = refl
@@ -203,10 +203,10 @@ room s c = go (item-of (c .here .role))
   where
     go :
         (o : Option Section) → holds-of o (λ t. leb (most t) (length (select (item t) (c .before)))) ≡ false
-        → holds-of o (λ t. eqb (section-number t) (section-number s)) ≡ true → length (select (item s) (c .before)) < most s
+        → holds-of o (λ t. eqb (order t) (order s)) ≡ true → length (select (item s) (c .before)) < most s
     go none h e = absurd (false≢true e)
     go (some t) h e =
-        subst (λ z. length (select (item z) (c .before)) < most z) (injective section-number all-sections user-groups section-back t s e) (leb-false _ _ h)
+        subst (λ z. length (select (item z) (c .before)) < most z) (injective order all-sections user-groups section-back t s e) (leb-false _ _ h)
 
 counted-after :
     (s : Section) (b xs : List Said) → length (select (item s) b) ≤ most s → Every (λ c. too-many c ≡ false) (contexts-after b xs)

@@ -23,6 +23,16 @@ longest-calculation = 79
 pub data Section : Type 0 where
   user-groups host-groups members access-groups inputs rules references : Section
 
+-- which section it is, the first being 0
+abbrev pub order : Section → ℕ
+order user-groups = 0
+order host-groups = 1
+order members = 2
+order access-groups = 3
+order inputs = 4
+order rules = 5
+order references = 6
+
 -- 01: "64 UAG, 64 HAG, 64 ASG definitions, 1,024 members in all, 512 inputs, 256 rules, 1,024 group names inside rules"
 abbrev pub most : Section → ℕ
 most user-groups = 64

@@ -15,7 +15,7 @@ use Rattle.calculation.specs.Value.{letters}
 use Rattle.calculation.specs.Reader.{tree-of}
 use Rattle.file.specs.declared.Refusal.{Refusal}
 use Rattle.file.specs.declared.Refusal.the-variants.{FileTooLong, BadByte, TooDeep, Ungrammatical, StringTooLong, TooMany, GivenAgain, BadLevel, UnknownWord, BadCalculation, NoRoom}
-use Rattle.file.specs.Limit.{Section, user-groups, host-groups, members, access-groups, inputs, rules, references, most, item-of, longest}
+use Rattle.file.specs.Limit.{Section, order, most, item-of, longest}
 use Rattle.file.specs.Contents.{says, text, place, until, level-of, permission-of, log-of}
 
 -- 01's numbers
@@ -50,18 +50,9 @@ contexts = contexts-after []
 abbrev pub too-long : Context → Bool
 too-long c = holds-of (longest (c .here .role)) (λ n. ltb n (length (text (c .here))))
 
--- the sections, numbered as in 01
-abbrev pub section-number : Section → ℕ
-section-number user-groups = 1
-section-number host-groups = 2
-section-number members = 3
-section-number access-groups = 4
-section-number inputs = 5
-section-number rules = 6
-section-number references = 7
-
+-- a token is an item of a section
 abbrev pub item : Section → Said → Bool
-item s x = holds-of (item-of (x .role)) (λ t. eqb (section-number t) (section-number s))
+item s x = holds-of (item-of (x .role)) (λ t. eqb (order t) (order s))
 
 -- 6: "table limit passed", "first item too many"
 abbrev pub too-many : Context → Bool

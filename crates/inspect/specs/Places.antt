@@ -5,9 +5,9 @@ use mathlib.Core.List.{List, [], _∷_, map}
 use Prim.Native.Nat.{ℕ, zero, suc, _+_, _*_, _<_}
 use native.Mathlib.Omega.{arith}
 use lib.ListN.{length, getD, List·getD-map}
-use Rattle.file.specs.Limit.{Section, references}
+use Rattle.file.specs.Limit.{Section, references, order}
 use Rattle.table.specs.Layout.{sections, width}
-use Rattle.table.specs.View.{order, count-of, offset-of, view}
+use Rattle.table.specs.View.{count-of, offset-of, view}
 use Rattle.table.specs.Check.{sections-stand}
 use Rattle.table.specs.Bytes.{each}
 use Rattle.table.specs.Fields.{word-at, view-count, field-inside, field-at}

@@ -15,9 +15,9 @@ use Rattle.lists.specs.Laws.{part-runs, joined-append}
 use Rattle.lists.specs.Every.{Every, nil, cons, every, every-append, every-map, every-implies}
 use Rattle.lists.specs.WordLaws.{Word, Row, words-back, spelled-rows-length, spelled-rows-back}
 use Rattle.lists.specs.RunLaws.{Within, runs-within, length-joined-map}
-use Rattle.file.specs.Limit.{Section, user-groups, host-groups, members, access-groups, inputs, rules, references, most, most-bytes}
+use Rattle.file.specs.Limit.{Section, user-groups, host-groups, members, access-groups, inputs, rules, references, most, most-bytes, order}
 use Rattle.table.specs.Layout.{Content, sections, width, form, header-bytes, blocks, entries, header, layout}
-use Rattle.table.specs.View.{form-of, total-of, order, count-of, extent, strings-extent, extents, view}
+use Rattle.table.specs.View.{form-of, total-of, count-of, extent, strings-extent, extents, view}
 use Rattle.table.specs.Check.{in-turn, sections-stand, well-formed, is-table}
 
 -- what the bytes of a table can hold

@@ -12,9 +12,9 @@ use borrow.Author.Tests.{leb-true, eqb-true}
 use Rattle.lists.specs.Both.{both}
 use Rattle.lists.specs.Runs.{Run, part}
 use Rattle.lists.specs.Words.{words, records-of}
-use Rattle.file.specs.Limit.{Section}
+use Rattle.file.specs.Limit.{Section, order}
 use Rattle.table.specs.Layout.{width, form, header-bytes}
-use Rattle.table.specs.View.{header-word, order, strings-order, count-of, offset-of, extent, strings-extent, extents, form-of, total-of, view}
+use Rattle.table.specs.View.{header-word, strings-order, count-of, offset-of, extent, strings-extent, extents, form-of, total-of, view}
 use Rattle.table.specs.Check.{in-turn, sections-stand}
 use Rattle.table.specs.Bytes.{each}
 

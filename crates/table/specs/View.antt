@@ -4,7 +4,7 @@ use Prim.Native.Nat.{ℕ, _+_, _*_}
 use lib.ListN.{take, getD}
 use Rattle.lists.specs.Runs.{Run, part}
 use Rattle.lists.specs.Words.{words, records-of}
-use Rattle.file.specs.Limit.{Section, user-groups, host-groups, members, access-groups, inputs, rules, references}
+use Rattle.file.specs.Limit.{Section, user-groups, host-groups, members, access-groups, inputs, rules, references, order}
 use Rattle.table.specs.Layout.{Content, sections, width, header-bytes}
 
 abbrev pub header-word : List ℕ → ℕ → ℕ
@@ -15,16 +15,6 @@ form-of b = header-word b 0
 
 abbrev pub total-of : List ℕ → ℕ
 total-of b = header-word b 1
-
--- which section it is, the first being 0
-abbrev pub order : Section → ℕ
-order user-groups = 0
-order host-groups = 1
-order members = 2
-order access-groups = 3
-order inputs = 4
-order rules = 5
-order references = 6
 
 abbrev pub strings-order : ℕ
 strings-order = 7
