@@ -22,7 +22,9 @@ use Rattle.load.specs.Load.{written, without-room, load}
 use Rattle.decision.specs.declared.Answer.{Answer}
 use Rattle.decision.specs.declared.Answer.the-variants.{Answered, NotTable, BadLevel}
 use Rattle.decision.specs.Decision.{number, access-in, trap-in, decide}
-use Rattle.demand.specs.ByFile.{answer-by-file}
+use Rattle.decision.specs.LookUp.{look-up}
+use Rattle.demand.specs.ByFile.{answer-by-file, input-by-file, name-found}
+use Rattle.demand.specs.Inputs.{looked-up}
 use Rattle.demand.specs.Calls.{is-accepted}
 use Rattle.demand.specs.Loaded.{stored, decided}
 
@@ -57,3 +59,8 @@ leaves-table lent s e =
 
 pub answers-by-file : (s : List ℕ) (xs : List Said) → Acceptable s xs → (rest : List ℕ) (q : Question) → decide (table-of (file-of xs) ++ rest) q ≡ answer-by-file (file-of xs) q
 answers-by-file s xs a rest q = decided (file-of xs) (fits s xs (acceptable-is s xs a)) rest q
+
+pub inputs-by-file :
+    (s : List ℕ) (xs : List Said) → Acceptable s xs → (rest g : List ℕ) (letter : ℕ)
+    → name-found (look-up (table-of (file-of xs) ++ rest) g letter) (table-of (file-of xs) ++ rest) ≡ input-by-file (file-of xs) g letter
+inputs-by-file s xs a rest g letter = looked-up (file-of xs) (fits s xs (acceptable-is s xs a)) rest g letter

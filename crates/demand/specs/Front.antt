@@ -27,13 +27,14 @@ use Rattle.table.specs.Check.{is-table}
 use Rattle.table.specs.Written.{table-of}
 use Rattle.table.specs.Layout.{greatest-table}
 use Rattle.load.specs.Load.{written, without-room, load}
+use Rattle.decision.specs.LookUp.{look-up}
 use Rattle.decision.specs.Decision.{number, access-in, trap-in, decide}
 use Rattle.edition.specs.Edition.{Edition, access-later, Says-no}
-use Rattle.demand.specs.ByFile.{answer-by-file}
+use Rattle.demand.specs.ByFile.{answer-by-file, input-by-file, name-found}
 use Rattle.demand.specs.Calls.{Call, after-calls, is-accepted, No-accepted-load}
 use Rattle.demand.specs.Loaded.{refused-leaves}
 use Rattle.demand.specs.Doors.{never-above, exactly-equal}
-use Rattle.demand.specs.Exact.{refused-grants-nothing, zeros-grant-nothing, laid-down, not-laid-down, stands, answers-by-file}
+use Rattle.demand.specs.Exact.{refused-grants-nothing, zeros-grant-nothing, laid-down, not-laid-down, stands, answers-by-file, inputs-by-file}
 use Rattle.demand.specs.Cases.{Proved-cases, proved-cases}
 
 -- DEMAND 1. Total: no file, table, name, level or reading makes it index outside, trap or run on. A refusal carries a number, a load's
@@ -63,6 +64,10 @@ pub record Exact : Type 0 where
   pub no-room : (lent s : List ℕ) (xs : List Said) → Acceptable s xs → length lent < length (table-of (file-of xs)) → load lent s ≡ without-room lent xs
   pub table-stands : (s : List ℕ) (xs : List Said) → Acceptable s xs → (rest : List ℕ) → (is-table (table-of (file-of xs) ++ rest) ≡ true) × (length (table-of (file-of xs)) ≤ greatest-table)
   pub answers : (s : List ℕ) (xs : List Said) → Acceptable s xs → (rest : List ℕ) (q : Question) → decide (table-of (file-of xs) ++ rest) q ≡ answer-by-file (file-of xs) q
+  -- and the look-up finds the name that the file gives an input
+  pub inputs :
+      (s : List ℕ) (xs : List Said) → Acceptable s xs → (rest g : List ℕ) (letter : ℕ)
+      → name-found (look-up (table-of (file-of xs) ++ rest) g letter) (table-of (file-of xs) ++ rest) ≡ input-by-file (file-of xs) g letter
 
 pub demand-2 : Exact
 demand-2 =
@@ -75,6 +80,7 @@ demand-2 =
       no-room = not-laid-down;
       table-stands = stands;
       answers = answers-by-file;
+      inputs = inputs-by-file;
     }
 
 -- DEMAND 3. What we don't know never opens a door: from the text of a file to the access at every question, against every later edition,

@@ -1,5 +1,6 @@
 pub mod Calls
 pub mod ByFile
+pub mod Inputs
 pub mod Loaded
 pub mod Doors
 pub mod Exact

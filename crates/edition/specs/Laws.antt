@@ -9,7 +9,7 @@ use native.Mathlib.Nat.{le-refl}
 use lib.Dec.{leb}
 use borrow.Author.Tests.{leb-true, leb-false}
 use Rattle.lists.specs.Text.{lowered}
-use Rattle.lists.specs.Select.{all, select, prepend-if}
+use Rattle.lists.specs.Select.{all, nonempty, select, prepend-if}
 use Rattle.lists.specs.Both.{both}
 use Rattle.lists.specs.Every.{Every, nil, cons}
 use Rattle.calculation.specs.declared.Reading.{Reading}
@@ -22,7 +22,7 @@ use Rattle.rule.specs.declared.Access.the-variants as access
 use Rattle.rule.specs.Question.{Question, reading-instead}
 use Rattle.rule.specs.Rule.{Rule, rank, belongs, true-tree, calculation-holds, asks, passes, greater, greatest, access-by}
 use Rattle.file.specs.Contents.{Rule-text, File}
-use Rattle.file.specs.Meaning.{some-unknown, rule-in}
+use Rattle.file.specs.Meaning.{rule-in}
 use Rattle.edition.specs.Edition.{Edition, passes-later, access-by-rules}
 
 -- ---- readings that have gone bad make no calculation true
@@ -47,9 +47,9 @@ asks-worse r q qs g e =
 module _ (e : Edition) (f : File) (q : Question) where
   -- a rule that passes, whichever readings have gone bad, has no unknown predicate and passes in the edition
   pub passes-worse : (qs : List Reading) → Gone-bad (q .readings) qs → (r : Rule-text) → passes (reading-instead q qs) (rule-in f r) ≡ true → passes-later e f q r ≡ true
-  passes-worse qs g r h = go (r .unknown) (both (not (some-unknown (r .unknown))) (asks (rule-in f r) (reading-instead q qs)) h)
+  passes-worse qs g r h = go (r .unknown) (both (not (nonempty (r .unknown))) (asks (rule-in f r) (reading-instead q qs)) h)
     where
-      go : (u : List ℕ) → (not (some-unknown u) ≡ true) × (asks (rule-in f r) (reading-instead q qs) ≡ true) → all (λ p. e p q) u && asks (rule-in f r) q ≡ true
+      go : (u : List ℕ) → (not (nonempty u) ≡ true) × (asks (rule-in f r) (reading-instead q qs) ≡ true) → all (λ p. e p q) u && asks (rule-in f r) q ≡ true
       go [] w = asks-worse (rule-in f r) q qs g (w .1)
       go (p ∷ ps) w = absurd (false≢true (w .0))
 
@@ -57,7 +57,7 @@ module _ (e : Edition) (f : File) (q : Question) where
   pub passes-alike : (r : Rule-text) → Every (λ p. e p q ≡ false) (r .unknown) → passes q (rule-in f r) ≡ passes-later e f q r
   passes-alike r n = go (r .unknown) n
     where
-      go : (u : List ℕ) → Every (λ p. e p q ≡ false) u → not (some-unknown u) && asks (rule-in f r) q ≡ all (λ p. e p q) u && asks (rule-in f r) q
+      go : (u : List ℕ) → Every (λ p. e p q ≡ false) u → not (nonempty u) && asks (rule-in f r) q ≡ all (λ p. e p q) u && asks (rule-in f r) q
       go [] nil = refl
       go (p ∷ ps) (cons h c) = rw h
 

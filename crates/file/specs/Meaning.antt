@@ -4,6 +4,7 @@ use mathlib.Core.List.{List, [], _∷_, map}
 use mathlib.Core.Option.{Option, none, some}
 use Prim.Native.Nat.{ℕ}
 use Rattle.lists.specs.Text.{lowered}
+use Rattle.lists.specs.Select.{nonempty}
 use Rattle.rule.specs.Rule.{Rule}
 use Rattle.rule.specs.Answering.{named}
 use Rattle.file.specs.Contents.{Group, Rule-text, File}
@@ -17,12 +18,8 @@ abbrev pub members-named : List Group → List ℕ → List (List ℕ)
 members-named gs s = members-in (named (λ g. g .name) s gs)
 
 -- 01: "switched off (its body has an unknown predicate)"; 001: "If the rule contains predicates that are unknown to the parser [..] then the rule will NOT match"
-abbrev pub some-unknown : List ℕ → Bool
-some-unknown [] = false
-some-unknown (p ∷ ps) = true
-
 abbrev pub switched-off : Rule-text → Bool
-switched-off r = some-unknown (r .unknown)
+switched-off r = nonempty (r .unknown)
 
 -- a rule of a file. 001: "both names are converted to lower case before comparison"
 abbrev pub rule-in : File → Rule-text → Rule

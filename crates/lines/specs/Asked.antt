@@ -10,7 +10,8 @@ use lib.ListN.{length, drop, getD, length-drop}
 use lib.Seq.{drop-cons, drop-length, length-take-le}
 use borrow.Author.Tests.{le-leb, lt-leb}
 use Rattle.lists.specs.Text.{bytes, same, digit}
-use Rattle.lines.specs.Line.{split, full, group-of, level-of, Line, refused, of-parts, asks}
+use Rattle.lists.specs.Select.{nonempty}
+use Rattle.lines.specs.Line.{split, group-of, level-of, Line, refused, of-parts, asks}
 use Rattle.lines.specs.Parts.{cut, cut-empty, cut-cons, behind, Part}
 use Rattle.lines.specs.Given.{fine, none-given, by-readings}
 use Rattle.lines.specs.declared.Place.{Place}
@@ -56,7 +57,7 @@ level-none (d ∷ e ∷ s) h = refl
 
 no-level : (g u h s : List ℕ) (ps : List (List ℕ)) → level-of s ≡ none → of-parts (g ∷ u ∷ h ∷ s ∷ ps) ≡ refused
 unfolding of-parts
-no-level g u h s ps e = rw e (go (full g && (full u && full h)))
+no-level g u h s ps e = rw e (go (nonempty g && (nonempty u && nonempty h)))
   where
     go : (t : Bool) → _≡_ {A = Line} (cond t refused refused) refused
     go true = refl

@@ -7,6 +7,7 @@ use lib.Dec.{leb}
 use lib.ListN.{length, set, replicate}
 use lib.Ieee.{Float, nan, inf, neg}
 use Rattle.lists.specs.Text.{bytes, same, one-of, among, within, digit}
+use Rattle.lists.specs.Select.{nonempty}
 use Rattle.calculation.specs.declared.Reading.{Reading}
 use Rattle.calculation.specs.declared.Reading.the-variants.{NeverHeard, Invalid, Value}
 use Rattle.calculation.specs.Symbol.{numeral}
@@ -24,11 +25,6 @@ with-first b (p ∷ ps) = (b ∷ p) ∷ ps
 unfoldable pub split : List ℕ → List (List ℕ)
 split [] = [] ∷ []
 split (b ∷ s) = cond (among " " b) ([] ∷ split s) (with-first b (split s))
-
--- 01: "none empty"
-abbrev pub full : List ℕ → Bool
-full [] = false
-full (b ∷ s) = true
 
 -- 01: "group (`-` for empty)"
 abbrev pub group-of : List ℕ → List ℕ
@@ -128,7 +124,7 @@ of-parts [] = refused
 of-parts (g ∷ []) = refused
 of-parts (g ∷ u ∷ []) = refused
 of-parts (g ∷ u ∷ h ∷ []) = refused
-of-parts (g ∷ u ∷ h ∷ d ∷ rs) = cond (full g && (full u && full h)) (of-level g u h (level-of d) rs) refused
+of-parts (g ∷ u ∷ h ∷ d ∷ rs) = cond (nonempty g && (nonempty u && nonempty h)) (of-level g u h (level-of d) rs) refused
 
 -- what a line asks
 unfoldable pub asks : List ℕ → Line

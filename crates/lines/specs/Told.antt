@@ -6,6 +6,7 @@ use mathlib.Core.Option.{Option, none, some}
 use Prim.Native.Nat.{ℕ, _+_, _-_, _≤_, _<_}
 use lib.ListN.{length, drop}
 use lib.Ieee.{Float}
+use Rattle.lists.specs.Select.{nonempty}
 use Rattle.calculation.specs.declared.Reading.{Reading}
 use Rattle.lines.specs.declared.Amount.{Amount}
 use Rattle.lines.specs.declared.Amount.the-variants as amount
@@ -19,7 +20,7 @@ use Rattle.lines.specs.declared.Level.{Level}
 use Rattle.lines.specs.declared.Level.the-variants as level
 use Rattle.lines.specs.declared.Line as code
 use Rattle.lines.specs.declared.Line.the-variants as code-line
-use Rattle.lines.specs.Line.{split, full, group-of, level-of, named, Line, refused, question, of-parts}
+use Rattle.lines.specs.Line.{split, group-of, level-of, named, Line, refused, question, of-parts}
 use Rattle.lines.specs.Parts.{cut, behind}
 use Rattle.lines.specs.Given.{filled, none-heard}
 
@@ -40,13 +41,13 @@ Says s said.Nothing = named s ≡ none
 abbrev pub lone : List (List ℕ) → Bool
 lone [] = true
 lone (p ∷ []) = true
-lone (p ∷ q ∷ ps) = not (full p)
+lone (p ∷ q ∷ ps) = not (nonempty p)
 
 -- at a place stands a part that is not empty, and behind it one that begins at n
 pub record Follow (l : List ℕ) (at n : ℕ) : Type 0 where
   pub later : at + 1 < n
   pub within : n ≤ length l
-  pub fills : full (cut at (n - 1) l) ≡ true
+  pub fills : nonempty (cut at (n - 1) l) ≡ true
   pub reads : split (drop at l) ≡ cut at (n - 1) l ∷ split (drop n l)
 
 abbrev pub Follows : List ℕ → ℕ → Place → Type 0

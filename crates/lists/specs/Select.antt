@@ -13,6 +13,11 @@ module _ {A : Type 0} where
   any p [] = false
   any p (x ∷ xs) = p x || any p xs
 
+  -- there is an element
+  abbrev pub nonempty : List A → Bool
+  nonempty [] = false
+  nonempty (x ∷ xs) = true
+
   abbrev pub prepend-if : Bool → A → List A → List A
   prepend-if true x xs = x ∷ xs
   prepend-if false x xs = xs

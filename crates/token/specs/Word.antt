@@ -5,7 +5,7 @@ use Prim.Native.Nat.{ℕ, _-_}
 use lib.Dec.{eqb}
 use lib.ListN.{length, getD, take}
 use Rattle.lists.specs.Text.{bytes, same, among, within, digit, capital, small}
-use Rattle.lists.specs.Select.{run, after}
+use Rattle.lists.specs.Select.{nonempty, run, after}
 use Rattle.token.specs.declared.Kind.{Kind}
 use Rattle.token.specs.declared.Kind.the-variants.{Uag, Hag, Asg, Rule, Calc, Inp, Int, Float, String}
 
@@ -20,10 +20,6 @@ newline = among "\n"
 abbrev pub name-byte : ℕ → Bool
 name-byte b = capital b || small b || digit b || among "_-+:.[]<>;" b
 
-abbrev some-bytes : List ℕ → Bool
-some-bytes [] = false
-some-bytes (b ∷ s) = true
-
 -- a text without the sign that it may begin with: 001's [ "+" | "-" ]?
 abbrev pub unsigned : List ℕ → List ℕ
 unsigned [] = []
@@ -31,7 +27,7 @@ unsigned (b ∷ s) = cond (among "+-" b) s (b ∷ s)
 
 -- 001's DIGIT+ and no more
 abbrev digits : List ℕ → Bool
-digits s = some-bytes (run digit s) && not (some-bytes (after digit s))
+digits s = nonempty (run digit s) && not (nonempty (after digit s))
 
 -- 001: INT ::= [ "+" | "-" ]? DIGIT+
 abbrev pub int : List ℕ → Bool
@@ -45,7 +41,7 @@ exponent (b ∷ s) = among "eE" b && digits (unsigned s)
 -- 001: "." DIGIT+ and then an exponent
 abbrev fraction : List ℕ → Bool
 fraction [] = false
-fraction (b ∷ s) = among "." b && (some-bytes (run digit s) && exponent (after digit s))
+fraction (b ∷ s) = among "." b && (nonempty (run digit s) && exponent (after digit s))
 
 -- 001: FLOAT ::= [ "+" | "-" ]? DIGIT* "." DIGIT+ [ ( "e" | "E" ) [ "+" | "-" ] DIGIT+ ]?
 abbrev pub float : List ℕ → Bool

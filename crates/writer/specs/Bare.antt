@@ -4,14 +4,13 @@ use mathlib.Core.Bool.{not}
 use mathlib.Core.List.{List, [], _∷_, _++_, map}
 use Prim.Native.Nat.{ℕ, _+_, _*_}
 use lib.ListN.{length}
-use Rattle.lists.specs.Select.{select}
+use Rattle.lists.specs.Select.{nonempty, select}
 use Rattle.lists.specs.Words.{spelled-out}
 use Rattle.grammar.specs.declared.Role.{Role}
 use Rattle.grammar.specs.declared.Role.the-variants.{UagName, User, HagName, Host, AsgName, Input, Pvname, RuleWord, Level, Permission, LogOption, UagNamed, HagNamed, Calculation, UnknownPredicate}
 use Rattle.grammar.specs.Reading.{Said}
 use Rattle.rule.specs.declared.Access.the-variants as access
 use Rattle.file.specs.Contents.{says, place, texts, until, rule-text}
-use Rattle.file.specs.Meaning.{some-unknown}
 use Rattle.table.specs.Written.{flags}
 use Rattle.texts.specs.Bare.{bare, select-bare, after-bare, until-bare, texts-bare}
 use Rattle.writer.specs.declared.Pen.{Pen}
@@ -34,12 +33,12 @@ cut-texts : (q m : Role) (xs : List Said) → texts m (cut q (map bare xs)) ≡ 
 cut-texts q m xs = ap (texts m) (cut-bare q xs) ∙ texts-bare m (cut q xs)
 
 -- whether there are unknown predicates does not depend on where
-some-bare : (xs : List Said) → some-unknown (map place (map bare xs)) ≡ some-unknown (map place xs)
+some-bare : (xs : List Said) → nonempty (map place (map bare xs)) ≡ nonempty (map place xs)
 some-bare [] = refl
 some-bare (x ∷ xs) = refl
 
-unknown-bare : (ys : List Said) → some-unknown (map place (select (says UnknownPredicate) (map bare ys))) ≡ some-unknown (map place (select (says UnknownPredicate) ys))
-unknown-bare ys = ap (λ (l : List Said). some-unknown (map place l)) (select-bare (says UnknownPredicate) (λ x. refl) ys) ∙ some-bare (select (says UnknownPredicate) ys)
+unknown-bare : (ys : List Said) → nonempty (map place (select (says UnknownPredicate) (map bare ys))) ≡ nonempty (map place (select (says UnknownPredicate) ys))
+unknown-bare ys = ap (λ (l : List Said). nonempty (map place l)) (select-bare (says UnknownPredicate) (λ x. refl) ys) ∙ some-bare (select (says UnknownPredicate) ys)
 
 flags-bare : (ys : List Said) → flags (rule-text (map bare ys)) ≡ flags (rule-text ys)
 flags-bare ys = rw (texts-bare Level ys, texts-bare Permission ys, texts-bare LogOption ys, unknown-bare ys)

@@ -9,7 +9,7 @@ use lib.Dec.{eqb}
 use borrow.Author.Tests.{ne-eqb}
 use lib.ListN.{length}
 use Rattle.lists.specs.Text.{whole, among}
-use Rattle.lists.specs.Select.{select}
+use Rattle.lists.specs.Select.{nonempty, select}
 use Rattle.token.specs.Word.{unsigned}
 use Rattle.grammar.specs.declared.Role.the-variants.{UnknownPredicate}
 use Rattle.grammar.specs.Reading.{Said}
@@ -17,7 +17,6 @@ use Rattle.rule.specs.declared.Access.{Access}
 use Rattle.rule.specs.declared.Access.the-variants as access
 use Rattle.rule.specs.Rule.{rank}
 use Rattle.file.specs.Contents.{says, text, place, texts, head-of, value-of, level-of, permission-of, log-of}
-use Rattle.file.specs.Meaning.{some-unknown}
 use Rattle.table.specs.Written.{flag}
 use Rattle.words_known.specs.declared.Level.{Level}
 use Rattle.words_known.specs.declared.Level.the-variants as level
@@ -65,10 +64,10 @@ flag-small true n = omega arith
 flag-small false n = omega arith
 
 -- the bit of a rule that is switched off, from the number of its unknown predicates
-pub off-is : (xs : List Said) → off-bits (size UnknownPredicate xs) ≡ flag (some-unknown (map place (select (says UnknownPredicate) xs))) 16
+pub off-is : (xs : List Said) → off-bits (size UnknownPredicate xs) ≡ flag (nonempty (map place (select (says UnknownPredicate) xs))) 16
 off-is xs = go (select (says UnknownPredicate) xs)
   where
-    go : (ys : List Said) → off-bits (length (map text ys)) ≡ flag (some-unknown (map place ys)) 16
+    go : (ys : List Said) → off-bits (length (map text ys)) ≡ flag (nonempty (map place ys)) 16
     go [] = refl
     go (y ∷ ys) = rw (ne-eqb (suc (length (map text ys))) 0 (λ h. omega arith))
 

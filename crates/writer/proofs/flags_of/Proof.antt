@@ -7,10 +7,9 @@ use Rattle.kept.specs.Kept.{role-of-number}
 use Prim.Native.Nat.{ℕ, _+_, _-_, _*_}
 use mathlib.Core.Path.{_≡_, refl, _∙_, sym, ap}
 use native.Mathlib.Omega.{arith}
-use Rattle.file.specs.Meaning.{some-unknown}
 use Rattle.file.specs.Contents.{says, place}
 use Rattle.grammar.specs.declared.Role.the-variants.{UnknownPredicate}
-use Rattle.lists.specs.Select.{select}
+use Rattle.lists.specs.Select.{nonempty, select}
 use mathlib.Core.List.{map}
 use borrow.Author.Needs.{needs}
 use Rattle.writer.proofs.flags_of.Statement.{statement}
@@ -48,7 +47,7 @@ off-bits-requires c κs = search needs
 
 -- src/lib.rt:302:5
 add-result-3 : tie.Need-add-result-3
-add-result-3 c = omega (arith, c .before .before .before .level-bits .ensures, level-small (texts (role-of-number 9) (tokens (c .before .before .before .before .before .before .before .before .args .s .now) (arrays (c .before .before .before .before .before .before .before .before .args .starts .now) (c .before .before .before .before .before .before .before .before .args .ends .now)) (c .before .before .before .before .before .before .before .before .args .roles .now) (c .before .before .before .before .before .before .before .before .args .from) (c .before .before .before .before .before .before .before .before .args .to))), c .before .before .permission-bits .ensures, rank-small (value-of access.None permission-of (texts (role-of-number 10) (tokens (c .before .before .before .before .before .before .before .before .args .s .now) (arrays (c .before .before .before .before .before .before .before .before .args .starts .now) (c .before .before .before .before .before .before .before .before .args .ends .now)) (c .before .before .before .before .before .before .before .before .args .roles .now) (c .before .before .before .before .before .before .before .before .args .from) (c .before .before .before .before .before .before .before .before .args .to)))), c .before .trap-bits .ensures, flag-small (value-of false log-of (texts (role-of-number 11) (tokens (c .before .before .before .before .before .before .before .before .args .s .now) (arrays (c .before .before .before .before .before .before .before .before .args .starts .now) (c .before .before .before .before .before .before .before .before .args .ends .now)) (c .before .before .before .before .before .before .before .before .args .roles .now) (c .before .before .before .before .before .before .before .before .args .from) (c .before .before .before .before .before .before .before .before .args .to)))) 8, c .off-bits .ensures ∙ ap off-bits (sym (tally-is (c .before .before .before .before .before .before .before .before .args .s .now) (arrays (c .before .before .before .before .before .before .before .before .args .starts .now) (c .before .before .before .before .before .before .before .before .args .ends .now)) (c .before .before .before .before .before .before .before .before .args .roles .now) 17 (c .before .before .before .before .before .before .before .before .args .from) (c .before .before .before .before .before .before .before .before .args .to - c .before .before .before .before .before .before .before .before .args .from) (record { some = omega arith; known = omega arith }))) ∙ off-is (tokens (c .before .before .before .before .before .before .before .before .args .s .now) (arrays (c .before .before .before .before .before .before .before .before .args .starts .now) (c .before .before .before .before .before .before .before .before .args .ends .now)) (c .before .before .before .before .before .before .before .before .args .roles .now) (c .before .before .before .before .before .before .before .before .args .from) (c .before .before .before .before .before .before .before .before .args .to)), flag-small (some-unknown (map place (select (says UnknownPredicate) (tokens (c .before .before .before .before .before .before .before .before .args .s .now) (arrays (c .before .before .before .before .before .before .before .before .args .starts .now) (c .before .before .before .before .before .before .before .before .args .ends .now)) (c .before .before .before .before .before .before .before .before .args .roles .now) (c .before .before .before .before .before .before .before .before .args .from) (c .before .before .before .before .before .before .before .before .args .to))))) 16)
+add-result-3 c = omega (arith, c .before .before .before .level-bits .ensures, level-small (texts (role-of-number 9) (tokens (c .before .before .before .before .before .before .before .before .args .s .now) (arrays (c .before .before .before .before .before .before .before .before .args .starts .now) (c .before .before .before .before .before .before .before .before .args .ends .now)) (c .before .before .before .before .before .before .before .before .args .roles .now) (c .before .before .before .before .before .before .before .before .args .from) (c .before .before .before .before .before .before .before .before .args .to))), c .before .before .permission-bits .ensures, rank-small (value-of access.None permission-of (texts (role-of-number 10) (tokens (c .before .before .before .before .before .before .before .before .args .s .now) (arrays (c .before .before .before .before .before .before .before .before .args .starts .now) (c .before .before .before .before .before .before .before .before .args .ends .now)) (c .before .before .before .before .before .before .before .before .args .roles .now) (c .before .before .before .before .before .before .before .before .args .from) (c .before .before .before .before .before .before .before .before .args .to)))), c .before .trap-bits .ensures, flag-small (value-of false log-of (texts (role-of-number 11) (tokens (c .before .before .before .before .before .before .before .before .args .s .now) (arrays (c .before .before .before .before .before .before .before .before .args .starts .now) (c .before .before .before .before .before .before .before .before .args .ends .now)) (c .before .before .before .before .before .before .before .before .args .roles .now) (c .before .before .before .before .before .before .before .before .args .from) (c .before .before .before .before .before .before .before .before .args .to)))) 8, c .off-bits .ensures ∙ ap off-bits (sym (tally-is (c .before .before .before .before .before .before .before .before .args .s .now) (arrays (c .before .before .before .before .before .before .before .before .args .starts .now) (c .before .before .before .before .before .before .before .before .args .ends .now)) (c .before .before .before .before .before .before .before .before .args .roles .now) 17 (c .before .before .before .before .before .before .before .before .args .from) (c .before .before .before .before .before .before .before .before .args .to - c .before .before .before .before .before .before .before .before .args .from) (record { some = omega arith; known = omega arith }))) ∙ off-is (tokens (c .before .before .before .before .before .before .before .before .args .s .now) (arrays (c .before .before .before .before .before .before .before .before .args .starts .now) (c .before .before .before .before .before .before .before .before .args .ends .now)) (c .before .before .before .before .before .before .before .before .args .roles .now) (c .before .before .before .before .before .before .before .before .args .from) (c .before .before .before .before .before .before .before .before .args .to)), flag-small (nonempty (map place (select (says UnknownPredicate) (tokens (c .before .before .before .before .before .before .before .before .args .s .now) (arrays (c .before .before .before .before .before .before .before .before .args .starts .now) (c .before .before .before .before .before .before .before .before .args .ends .now)) (c .before .before .before .before .before .before .before .before .args .roles .now) (c .before .before .before .before .before .before .before .before .args .from) (c .before .before .before .before .before .before .before .before .args .to))))) 16)
 
 -- src/lib.rt:295:1
 returns : tie.Need-returns
