@@ -417,6 +417,7 @@ fn verdict_on(
 // ---- the question
 
 // The answer to a question on a table that was checked before: only the answering group's rules are tried.
+// Callers have asked is_table, or have the bytes of an accepted load (demand/specs/Exact: leaves-table); others call decide.
 pub fn decide_checked(
     table: &[u8],
     group: &[u8],
@@ -480,7 +481,7 @@ fn input_of(table: &[u8], group: &[u8], letter: u8) -> Place
     }
 }
 
-// Where the name of a letter's input stands, in a table that was checked before.
+// Where the name of a letter's input stands, in a table that was checked before. Callers as of decide_checked; others call find_input.
 pub fn find_input_checked(table: &[u8], group: &[u8], letter: u8) -> Found
     requires { ⌜ is-table (now table) ≡ true ⌝ }
     ensures { λ r. ⌜ r ≡ look-up (now (table .entry)) (now (group .entry)) letter ⌝ }

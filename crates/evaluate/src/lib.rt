@@ -679,6 +679,7 @@ fn near(w: Worth) -> bool
 }
 
 // Whether a calculation is true, from the letters' values and which of them are good.
+// Callers have both arrays from hear, which makes 21 of each.
 pub fn holds_given(s: &[u8], values: &[f64; 21], goods: &[bool; 21]) -> bool
     requires { ⌜ length (now values) ≡ 21 ⌝ }
     ensures { λ r. ⌜ r ≡ true-given (now (values .entry)) (now (goods .entry)) (tree-of (now (s .entry))) ⌝ }

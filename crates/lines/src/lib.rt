@@ -352,7 +352,7 @@ fn put_trap(trap: bool, out: &mut [u8], at: usize) -> usize
     put(b" NOTRAPWRITE", out, at)
 }
 
-// What is printed for an answer, written from a place on as far as there is room, and the place behind it.
+// What is printed for an answer, written from a place on as far as there is room, and the place behind it. Callers as of put.
 pub fn answer_text(a: Answer, out: &mut [u8], at: usize) -> usize
     requires { ⌜ at ≤ length (now out) ⌝ }
     ensures { λ r. ⌜ Put (answer-text a) (now (out .entry)) at (now (out .exit)) r ⌝ }
@@ -367,7 +367,7 @@ pub fn answer_text(a: Answer, out: &mut [u8], at: usize) -> usize
     }
 }
 
-// The same for a line that is refused.
+// The same for a line that is refused. Callers as of put.
 pub fn refused_text(out: &mut [u8], at: usize) -> usize
     requires { ⌜ at ≤ length (now out) ⌝ }
     ensures { λ r. ⌜ Put refused-line (now (out .entry)) at (now (out .exit)) r ⌝ }
@@ -385,7 +385,7 @@ fn put_placed(word: &[u8], n: usize, p: usize, out: &mut [u8], at: usize) -> usi
     put_number(p, out, c)
 }
 
-// The same for a refusal of a file.
+// The same for a refusal of a file. Callers as of put.
 pub fn refusal_text(n: usize, p: usize, out: &mut [u8], at: usize) -> usize
     requires { ⌜ at ≤ length (now out) ⌝ }
     ensures { λ r. ⌜ Put (refusal-text n p) (now (out .entry)) at (now (out .exit)) r ⌝ }
@@ -393,7 +393,7 @@ pub fn refusal_text(n: usize, p: usize, out: &mut [u8], at: usize) -> usize
     put_placed(b"refusal ", n, p, out, at)
 }
 
-// The same for a warning.
+// The same for a warning. Callers as of put.
 pub fn warning_text(n: usize, p: usize, out: &mut [u8], at: usize) -> usize
     requires { ⌜ at ≤ length (now out) ⌝ }
     ensures { λ r. ⌜ Put (warning-text n p) (now (out .entry)) at (now (out .exit)) r ⌝ }

@@ -1,5 +1,4 @@
 // What the asker prints for its input, which comes in pieces.
-use decision::Answer;
 use lines::Line;
 ghost use mathlib.Core.Path.{_≡_};
 ghost use mathlib.Core.Bool.{true};
@@ -108,6 +107,7 @@ pub fn respond(
 }
 
 // Answers the line that is held at the end of the input: the last may lack its newline.
+// The caller has loaded the table, and has count from the last piece (respond).
 pub fn finish(table: &[u8], held: &[u8], count: usize, out: &mut [u8]) -> usize
     requires { ⌜ (is-table (now table) ≡ true) × (count ≤ length (now held)) ⌝ }
     ensures { λ r. ⌜ (r ≤ length (now (out .exit))) × ((h : List ℕ) → Holds (now (held .entry)) count h → Put (replies (now (table .entry)) (last-line h)) (now (out .entry)) 0 (now (out .exit)) r) ⌝ }
