@@ -1,3 +1,2 @@
-pub mod Places
-pub mod Chain
 pub mod Records
+pub mod laws

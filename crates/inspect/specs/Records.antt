@@ -1,20 +1,20 @@
 -- What is asked of each record by itself.
-use mathlib.Core.Bool.{Bool, _&&_, _||_}
+use mathlib.Core.Path.{_≡_}
+use mathlib.Core.Bool.{Bool, true, _&&_, _||_}
 use mathlib.Core.List.{List}
-use Prim.Native.Nat.{ℕ, _+_}
+use Prim.Native.Nat.{ℕ, _<_}
 use lib.Dec.{eqb, leb, ltb}
-use lib.ListN.{length}
 use Rattle.lists.specs.Select.{all}
 use Rattle.token.specs.Word.{greatest-letter}
 use Rattle.file.specs.Limit.{Section, user-groups, host-groups, members, access-groups, inputs, rules, references, longest-name}
 use Rattle.table.specs.Layout.{Content}
-use Rattle.table.specs.View.{total-of, count-of, offset-of, strings-order}
-use Rattle.table.specs.Check.{string-fits, name-run, letter-field, number-field, undefined-number, rule-stands}
+use Rattle.table.specs.View.{count-of}
+use Rattle.table.specs.Check.{string-fits, name-run, letter-field, number-field, undefined-number, sections-stand, rule-stands}
 
--- the strings start at a number, end with the table and lie within the bytes
-abbrev pub ends-stand : List ℕ → ℕ → Bool
-ends-stand b at =
-    eqb (offset-of b strings-order) at && (eqb (at + count-of b strings-order) (total-of b) && leb (total-of b) (length b))
+-- bytes whose sections stand have a rule i
+pub record Has-rule (b : List ℕ) (i : ℕ) : Type 0 where
+  pub stand : sections-stand b ≡ true
+  pub row : i < count-of b 5
 
 abbrev pub name-stands : Content → Section → List ℕ → Bool
 name-stands c s row = string-fits c longest-name (name-run s row)

@@ -1,5 +1,5 @@
-use Rattle.inspect.proofs.Recorded.{calculation-inside, calculation-bytes, calculation-is}
-use Rattle.inspect.specs.Places.{record-at}
+use Rattle.inspect.specs.laws.Records.{calculation-inside, calculation-bytes, calculation-is}
+use Rattle.fields.specs.Field.{record-at}
 use Rattle.table.specs.Fields.{has-header}
 use Rattle.calculation.specs.Reader.{tree-of}
 use Rattle.lists.specs.Select.{missing}
@@ -12,17 +12,17 @@ use borrow.Author.Needs.{needs}
 use Rattle.inspect.proofs.calculation_stands.Statement.{statement}
 use Rattle.inspect.proofs.calculation_stands.Tie as tie
 
-cell-requires : tie.Need-cell-requires
-cell-requires c κs = search needs
+field-requires : tie.Need-field-requires
+field-requires c κs = search needs
 
-cell-requires-2 : tie.Need-cell-requires-2
-cell-requires-2 c κs = search needs
+field-requires-2 : tie.Need-field-requires-2
+field-requires-2 c κs = search needs
 
 no-calculation-requires : tie.Need-no-calculation-requires
 no-calculation-requires c κs = search needs
 
 returns : tie.Need-returns
-returns c = let b = c .before .before .before .before .before .args .b .now in sym (calculation-is b (c .before .before .before .before .before .pre .stand) (record-at b 5 (c .before .before .before .before .before .args .i)) (c .before .before .before .cell .ensures .is) (c .before .before .cell2 .ensures .is) (c .before .no-calculation .ensures) refl refl ∙ rw (c .if1 .taken))
+returns c = let b = c .before .before .before .before .before .args .b .now in sym (calculation-is b (c .before .before .before .before .before .pre .stand) (record-at b 5 (c .before .before .before .before .before .args .i)) (c .before .before .before .field .ensures .is) (c .before .before .field2 .ensures .is) (c .before .no-calculation .ensures) refl refl ∙ rw (c .if1 .taken))
 
 string-fits-requires : tie.Need-string-fits-requires
 string-fits-requires c κs = search needs
@@ -43,23 +43,23 @@ part-allowed-start : tie.Need-part-allowed-start
 part-allowed-start c = search needs
 
 part-allowed-end : tie.Need-part-allowed-end
-part-allowed-end c = let b = c .before .before .before .before .before .before .before .before .args .b .now in calculation-inside b (c .before .before .before .before .before .before .before .before .pre .stand) (record-at b 5 (c .before .before .before .before .before .before .before .before .args .i)) (c .before .before .before .before .before .before .cell .ensures .is) (c .before .before .before .before .before .cell2 .ensures .is) (c .before .before .string-fits .ensures) (c .before .if2 .taken) (c .offset .ensures .is)
+part-allowed-end c = let b = c .before .before .before .before .before .before .before .before .args .b .now in calculation-inside b (c .before .before .before .before .before .before .before .before .pre .stand) (record-at b 5 (c .before .before .before .before .before .before .before .before .args .i)) (c .before .before .before .before .before .before .field .ensures .is) (c .before .before .before .before .before .field2 .ensures .is) (c .before .before .string-fits .ensures) (c .before .if2 .taken) (c .offset .ensures .is)
 
 allowed-requires : tie.Need-allowed-requires
 allowed-requires c κs = search needs
 
 returns-2 : tie.Need-returns-2
-returns-2 c = let b = c .before .before .before .before .before .before .before .before .before .before .args .b .now in sym (calculation-is b (c .before .before .before .before .before .before .before .before .before .before .pre .stand) (record-at b 5 (c .before .before .before .before .before .before .before .before .before .before .args .i)) (c .before .before .before .before .before .before .before .before .cell .ensures .is) (c .before .before .before .before .before .before .before .cell2 .ensures .is) (c .before .before .before .before .before .before .no-calculation .ensures) (c .before .before .before .before .string-fits .ensures) (c .allowed .ensures ∙ ap (λ (s : List ℕ). not (missing (tree-of s))) (calculation-bytes b (c .before .before .before .before .before .before .before .before .before .before .pre .stand) (record-at b 5 (c .before .before .before .before .before .before .before .before .before .before .args .i)) (c .before .before .before .before .before .before .before .before .cell .ensures .is) (c .before .before .before .before .before .before .before .cell2 .ensures .is) (c .before .before .before .before .string-fits .ensures) (c .before .before .before .if2 .taken) (c .before .before .offset .ensures .is))) ∙ rw (c .before .before .before .before .before .if1 .left, c .before .before .before .if2 .taken))
+returns-2 c = let b = c .before .before .before .before .before .before .before .before .before .before .args .b .now in sym (calculation-is b (c .before .before .before .before .before .before .before .before .before .before .pre .stand) (record-at b 5 (c .before .before .before .before .before .before .before .before .before .before .args .i)) (c .before .before .before .before .before .before .before .before .field .ensures .is) (c .before .before .before .before .before .before .before .field2 .ensures .is) (c .before .before .before .before .before .before .no-calculation .ensures) (c .before .before .before .before .string-fits .ensures) (c .allowed .ensures ∙ ap (λ (s : List ℕ). not (missing (tree-of s))) (calculation-bytes b (c .before .before .before .before .before .before .before .before .before .before .pre .stand) (record-at b 5 (c .before .before .before .before .before .before .before .before .before .before .args .i)) (c .before .before .before .before .before .before .before .before .field .ensures .is) (c .before .before .before .before .before .before .before .field2 .ensures .is) (c .before .before .before .before .string-fits .ensures) (c .before .before .before .if2 .taken) (c .before .before .offset .ensures .is))) ∙ rw (c .before .before .before .before .before .if1 .left, c .before .before .before .if2 .taken))
 
 returns-3 : tie.Need-returns-3
-returns-3 c = let b = c .before .before .before .before .before .before .before .args .b .now in sym (calculation-is b (c .before .before .before .before .before .before .before .pre .stand) (record-at b 5 (c .before .before .before .before .before .before .before .args .i)) (c .before .before .before .before .before .cell .ensures .is) (c .before .before .before .before .cell2 .ensures .is) (c .before .before .before .no-calculation .ensures) (c .before .string-fits .ensures) refl ∙ rw (c .before .before .if1 .left, c .if2 .left))
+returns-3 c = let b = c .before .before .before .before .before .before .before .args .b .now in sym (calculation-is b (c .before .before .before .before .before .before .before .pre .stand) (record-at b 5 (c .before .before .before .before .before .before .before .args .i)) (c .before .before .before .before .before .field .ensures .is) (c .before .before .before .before .field2 .ensures .is) (c .before .before .before .no-calculation .ensures) (c .before .string-fits .ensures) refl ∙ rw (c .before .before .if1 .left, c .if2 .left))
 
 pub calculation-stands-spec : {M : Type 1} → statement M
 calculation-stands-spec =
     tie.close
     (tie.spec
-    cell-requires
-    cell-requires-2
+    field-requires
+    field-requires-2
     no-calculation-requires
     returns
     string-fits-requires

@@ -1,4 +1,4 @@
-use Rattle.inspect.proofs.Whole.{table-is}
+use Rattle.inspect.specs.laws.Whole.{table-is}
 use mathlib.Core.Path.{refl, sym, _∙_}
 use borrow.Author.Needs.{needs}
 use Rattle.inspect.proofs.is_table.Statement.{statement}

@@ -1,6 +1,6 @@
 use Prim.Native.Nat.{_+_, _<_}
-use Rattle.inspect.proofs.Recorded.{Numbers, numbers-start, numbers-end, numbers-behind, numbers-on, numbers-off}
-use Rattle.inspect.specs.Places.{section-at}
+use Rattle.inspect.specs.laws.Records.{Numbers, numbers-start, numbers-end, numbers-behind, numbers-on, numbers-off}
+use Rattle.fields.specs.Field.{section-at}
 use Rattle.table.specs.Fields.{has-header}
 use Rattle.table.specs.Check.{numbers-fit}
 use Rattle.table.specs.View.{view}

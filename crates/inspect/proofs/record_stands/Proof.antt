@@ -1,6 +1,7 @@
 use Rattle.table.specs.Check.{rule-stands}
-use Rattle.inspect.proofs.Whole.{input-words, reference-words, input-is, rule-at, reference-is, named-is}
-use Rattle.inspect.specs.Places.{section-at, record-at, two-words}
+use Rattle.inspect.specs.laws.Whole.{input-words, reference-words, input-is, rule-at, reference-is, named-is}
+use Rattle.fields.specs.Field.{section-at, record-at}
+use Rattle.fields.specs.laws.Fields.{two-words}
 use Rattle.table.specs.View.{view}
 use lib.ListN.{getD}
 use lib.Dec.{leb}
@@ -14,8 +15,8 @@ use Rattle.inspect.proofs.record_stands.Tie as tie
 string-fits-requires : tie.Need-string-fits-requires
 string-fits-requires c κs = let p = c .before .before .pre in record { stand = p .stand; section = p .section; row = p .row; field = input-words (c .match .keys1) }
 
-cell-requires : tie.Need-cell-requires
-cell-requires c κs = search needs
+field-requires : tie.Need-field-requires
+field-requires c κs = search needs
 
 rule-stands-requires : tie.Need-rule-stands-requires
 rule-stands-requires c κs = let p = c .before .before .pre in record { stand = p .stand; row = rw (c .match .keys2) at (p .row) }
@@ -27,7 +28,7 @@ string-fits-requires-3 : tie.Need-string-fits-requires-3
 string-fits-requires-3 c κs = let p = c .before .before .pre in record { stand = p .stand; section = p .section; row = p .row; field = two-words (section-at (c .before .before .args .n)) }
 
 returns : tie.Need-returns
-returns c = let a = c .before .before .before .before .before .args in sym (input-is (view (a .b .now)) (record-at (a .b .now) (a .n) (a .i)) (c .before .before .before .match .keys1) ∙ sym (ap₂ _&&_ (c .before .before .string-fits .ensures) (ap (λ (k : ℕ). leb k 20) (c .cell .ensures .is))) ∙ rw (c .before .if1 .taken))
+returns c = let a = c .before .before .before .before .before .args in sym (input-is (view (a .b .now)) (record-at (a .b .now) (a .n) (a .i)) (c .before .before .before .match .keys1) ∙ sym (ap₂ _&&_ (c .before .before .string-fits .ensures) (ap (λ (k : ℕ). leb k 20) (c .field .ensures .is))) ∙ rw (c .before .if1 .taken))
 
 returns-2 : tie.Need-returns-2
 returns-2 c = let a = c .before .before .before .before .args in sym (input-is (view (a .b .now)) (record-at (a .b .now) (a .n) (a .i)) (c .before .before .match .keys1) ∙ sym (ap (λ (k : Bool). k && leb (getD (record-at (a .b .now) (a .n) (a .i)) 0 0) 20) (c .before .string-fits .ensures)) ∙ rw (c .if1 .left))
@@ -46,7 +47,7 @@ record-stands-spec =
     tie.close
     (tie.spec
     string-fits-requires
-    cell-requires
+    field-requires
     rule-stands-requires
     string-fits-requires-2
     string-fits-requires-3

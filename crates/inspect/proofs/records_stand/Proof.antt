@@ -1,4 +1,4 @@
-use Rattle.inspect.proofs.Tested.{all-on, all-off, all-end}
+use Rattle.table_runs.specs.laws.All.{all-on, all-off, all-end}
 use Rattle.inspect.specs.Records.{section-stands}
 use Rattle.table.specs.View.{view}
 use Rattle.table.specs.Layout.{sections}

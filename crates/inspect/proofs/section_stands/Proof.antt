@@ -1,6 +1,7 @@
-use Rattle.inspect.proofs.Tested.{all-on, all-off, all-end}
+use Rattle.table_runs.specs.laws.All.{all-on, all-off, all-end}
 use Rattle.inspect.specs.Records.{record-stands, section-stands}
-use Rattle.inspect.specs.Places.{section-at, rows-count, two-words}
+use Rattle.fields.specs.Field.{section-at}
+use Rattle.fields.specs.laws.Fields.{rows-count, two-words}
 use Rattle.table.specs.Fields.{has-header}
 use Rattle.table.specs.View.{view}
 use Rattle.lists.specs.Select.{all}

@@ -1,5 +1,6 @@
-use Rattle.inspect.proofs.Recorded.{string-is}
-use Rattle.inspect.specs.Places.{section-at, record-at, width-small}
+use Rattle.inspect.specs.laws.Records.{string-is}
+use Rattle.fields.specs.Field.{section-at, record-at}
+use Rattle.fields.specs.laws.Fields.{width-small}
 use Rattle.table.specs.Fields.{has-header}
 use borrow.Author.Tests.{le-leb, lt-leb}
 use Prim.Native.Nat.{_+_}
@@ -9,14 +10,14 @@ use borrow.Author.Needs.{needs}
 use Rattle.inspect.proofs.string_fits.Statement.{statement}
 use Rattle.inspect.proofs.string_fits.Tie as tie
 
-add-cell : tie.Need-add-cell
-add-cell c = omega (arith, c .before .pre .field, width-small (section-at (c .before .args .n)))
+add-field : tie.Need-add-field
+add-field c = omega (arith, c .before .pre .field, width-small (section-at (c .before .args .n)))
 
-cell-requires : tie.Need-cell-requires
-cell-requires c κs = search needs
+field-requires : tie.Need-field-requires
+field-requires c κs = search needs
 
-cell-requires-2 : tie.Need-cell-requires-2
-cell-requires-2 c κs = search needs
+field-requires-2 : tie.Need-field-requires-2
+field-requires-2 c κs = search needs
 
 add-if1 : tie.Need-add-if1
 add-if1 c = search needs
@@ -25,12 +26,12 @@ count-requires : tie.Need-count-requires
 count-requires c κs = (has-header (c .before .before .before .args .b .now) (c .before .before .before .pre .stand), omega arith)
 
 returns : tie.Need-returns
-returns c = let a = c .before .before .before .before .before .args in sym (string-is (a .b .now) (c .before .before .before .before .before .pre .stand) (record-at (a .b .now) (a .n) (a .i)) (a .j) (a .longest) (c .before .before .cell2 .ensures .is) (c .before .before .before .cell .ensures .is) (c .before .count .ensures .is) ∙ rw (le-leb (c .before .before .cell2 .result + c .before .before .before .cell .result) (c .before .count .result) (c .if1 .taken)))
+returns c = let a = c .before .before .before .before .before .args in sym (string-is (a .b .now) (c .before .before .before .before .before .pre .stand) (record-at (a .b .now) (a .n) (a .i)) (a .j) (a .longest) (c .before .before .field2 .ensures .is) (c .before .before .before .field .ensures .is) (c .before .count .ensures .is) ∙ rw (le-leb (c .before .before .field2 .result + c .before .before .before .field .result) (c .before .count .result) (c .if1 .taken)))
 
 returns-2 : tie.Need-returns-2
-returns-2 c = let a = c .before .before .before .before .before .args in sym (string-is (a .b .now) (c .before .before .before .before .before .pre .stand) (record-at (a .b .now) (a .n) (a .i)) (a .j) (a .longest) (c .before .before .cell2 .ensures .is) (c .before .before .before .cell .ensures .is) (c .before .count .ensures .is) ∙ rw (lt-leb (c .before .before .cell2 .result + c .before .before .before .cell .result) (c .before .count .result) (c .if1 .left)))
+returns-2 c = let a = c .before .before .before .before .before .args in sym (string-is (a .b .now) (c .before .before .before .before .before .pre .stand) (record-at (a .b .now) (a .n) (a .i)) (a .j) (a .longest) (c .before .before .field2 .ensures .is) (c .before .before .before .field .ensures .is) (c .before .count .ensures .is) ∙ rw (lt-leb (c .before .before .field2 .result + c .before .before .before .field .result) (c .before .count .result) (c .if1 .left)))
 
 pub string-fits-spec : {M : Type 1} → statement M
 string-fits-spec =
     tie.close
-    (tie.spec add-cell cell-requires cell-requires-2 add-if1 count-requires returns returns-2)
+    (tie.spec add-field field-requires field-requires-2 add-if1 count-requires returns returns-2)

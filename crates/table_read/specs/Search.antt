@@ -1,0 +1,41 @@
+-- Searches among the records of a table.
+use mathlib.Core.List.{List, []}
+use mathlib.Core.Option.{Option, none, some}
+use Prim.Native.Nat.{ℕ, _<_}
+use lib.Dec.{eqb}
+use lib.ListN.{length, getD}
+use Rattle.lists.specs.Select.{first}
+use Rattle.lists.specs.Runs.{part}
+use Rattle.rule.specs.Answering.{named, answering}
+use Rattle.file.specs.Limit.{access-groups, inputs}
+use Rattle.table.specs.View.{view}
+use Rattle.table.specs.Check.{inputs-run, letter-field}
+use Rattle.table.specs.Policy.{name}
+use Rattle.table.specs.Standing.{row}
+use Rattle.table_read.specs.declared.Index.{Index}
+use Rattle.table_read.specs.declared.Index.the-variants.{At, Missing}
+
+-- a search that finds one of the rows or none, and the number of that row
+pub data Finds (rows : List (List ℕ)) : Option (List ℕ) → Index → Type 0 where
+  found : (i : ℕ) → i < length rows → Finds rows (some (getD rows i [])) (At i)
+  not-found : Finds rows none Missing
+
+-- the first access group of a name
+abbrev pub Finds-named : List ℕ → List ℕ → Index → Type 0
+Finds-named b g r =
+    Finds (view b .records access-groups) (named (name (view b) access-groups) g (view b .records access-groups)) r
+
+-- the access group that answers for a name
+abbrev pub group-for : List ℕ → List ℕ → Option (List ℕ)
+group-for b g = answering (name (view b) access-groups) g (view b .records access-groups)
+
+abbrev pub Finds-answering : List ℕ → List ℕ → Index → Type 0
+Finds-answering b g r = Finds (view b .records access-groups) (group-for b g) r
+
+-- the first input of the i-th access group that has the letter
+abbrev pub Finds-input : List ℕ → ℕ → ℕ → Index → Type 0
+Finds-input b i letter r =
+    Finds
+    (view b .records inputs)
+    (first (λ w. eqb (letter-field w) letter) (part (inputs-run (row (view b) access-groups i)) (view b .records inputs)))
+    r

@@ -1,0 +1,145 @@
+use fields::ACCESS_GROUPS;
+use fields::HOST_GROUPS;
+use fields::INPUTS;
+use fields::MEMBERS;
+use fields::REFERENCES;
+use fields::RULES;
+use fields::STRINGS;
+use fields::USER_GROUPS;
+ghost use mathlib.Core.Path.{_≡_};
+ghost use mathlib.Core.Bool.{true};
+ghost use Prim.Native.Nat.{_<_};
+ghost use lib.ListN.{length};
+ghost use Rattle.file.specs.Limit.{access-groups};
+ghost use Rattle.table.specs.Layout.{width};
+ghost use Rattle.table.specs.View.{view};
+ghost use Rattle.table.specs.Check.{is-table};
+ghost use Rattle.table.specs.Policy.{name};
+ghost use Rattle.table.specs.Standing.{row};
+ghost use Rattle.fields.specs.Field.{Word};
+ghost use Rattle.table_read.specs.Stored.{section, Ordered, name-word, Stored, word-of};
+ghost use Rattle.table_read.specs.Search.{Finds-named, Finds-answering, Finds-input};
+
+// The records of a table that was checked: every function asks for that, or for a record of such a table (Stored). Callers have
+// asked is_table, or have the bytes of an accepted load; they know a record's number from a count, a run or a search.
+
+// The sections that hold records.
+pub enum Section {
+    UserGroups,
+    HostGroups,
+    Members,
+    AccessGroups,
+    Inputs,
+    Rules,
+    References,
+}
+
+// What a search among records finds.
+pub enum Index {
+    At(usize),
+    Missing,
+}
+
+fn order_of(s: Section) -> usize
+    ensures { λ r. ⌜ Ordered (section s) r ⌝ }
+{
+    match s {
+        Section::UserGroups => USER_GROUPS,
+        Section::HostGroups => HOST_GROUPS,
+        Section::Members => MEMBERS,
+        Section::AccessGroups => ACCESS_GROUPS,
+        Section::Inputs => INPUTS,
+        Section::Rules => RULES,
+        Section::References => REFERENCES,
+    }
+}
+
+// The word of a record at which its name begins; a rule's is its calculation.
+fn name_word(s: Section) -> usize
+    ensures { λ r. ⌜ r ≡ name-word s ⌝ }
+{
+    match s {
+        Section::UserGroups => 0,
+        Section::HostGroups => 0,
+        Section::Members => 0,
+        Section::AccessGroups => 0,
+        Section::Inputs => 1,
+        Section::Rules => 5,
+        Section::References => 1,
+    }
+}
+
+// How many records a section has.
+pub fn count(table: &[u8], s: Section) -> usize
+    requires { ⌜ is-table (now table) ≡ true ⌝ }
+    ensures { λ r. ⌜ r ≡ length (view (now (table .entry)) .records (section s)) ⌝ }
+{
+    fields::count(table, order_of(s))
+}
+
+// The j-th word of the i-th record of a section.
+pub fn field(table: &[u8], s: Section, i: usize, j: usize) -> usize
+    requires { ⌜ Stored (now table) (section s) i × (j < width (section s)) ⌝ }
+    ensures { λ r. ⌜ Word (word-of (now (table .entry)) (section s) i j) r ⌝ }
+{
+    fields::field(table, order_of(s), i, j)
+}
+
+// The part of a table that a record's name is.
+pub fn name_of(table: &[u8], s: Section, i: usize) -> &[u8]
+    requires { ⌜ Stored (now table) (section s) i ⌝ }
+    ensures { λ r. ⌜ now r ≡ name (view (now (table .entry))) (section s) (row (view (now (table .entry))) (section s) i) ⌝ }
+{
+    let j = name_word(s);
+    let strings = fields::offset(table, STRINGS);
+    let a = strings + field(table, s, i, j);
+    let e = a + field(table, s, i, j + 1);
+    &table[a..e]
+}
+
+// The first access group of a name.
+pub fn first_named(table: &[u8], group: &[u8]) -> Index
+    requires { ⌜ is-table (now table) ≡ true ⌝ }
+    ensures { λ r. ⌜ Finds-named (now (table .entry)) (now (group .entry)) r ⌝ }
+{
+    let n = count(table, Section::AccessGroups);
+    let mut i = 0;
+    while i < n {
+        if compare::equal(name_of(table, Section::AccessGroups, i), group) {
+            return Index::At(i);
+        }
+        i += 1;
+    }
+    Index::Missing
+}
+
+// The access group that answers for a name.
+pub fn answering_group(table: &[u8], group: &[u8]) -> Index
+    requires { ⌜ is-table (now table) ≡ true ⌝ }
+    ensures { λ r. ⌜ Finds-answering (now (table .entry)) (now (group .entry)) r ⌝ }
+{
+    if group.len() == 0 {
+        return first_named(table, b"DEFAULT");
+    }
+    match first_named(table, group) {
+        Index::At(i) => Index::At(i),
+        Index::Missing => first_named(table, b"DEFAULT"),
+    }
+}
+
+// The first input of an access group that has the letter.
+pub fn first_input(table: &[u8], group: usize, letter: usize) -> Index
+    requires { ⌜ Stored (now table) access-groups group ⌝ }
+    ensures { λ r. ⌜ Finds-input (now (table .entry)) group letter r ⌝ }
+{
+    let start = field(table, Section::AccessGroups, group, 2);
+    let n = field(table, Section::AccessGroups, group, 3);
+    let mut i = 0;
+    while i < n {
+        if field(table, Section::Inputs, start + i, 0) == letter {
+            return Index::At(start + i);
+        }
+        i += 1;
+    }
+    Index::Missing
+}

@@ -1,0 +1,4 @@
+pub mod All
+pub mod Follow
+pub mod Sections
+pub mod Used
