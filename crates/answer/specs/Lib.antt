@@ -1,7 +1,2 @@
-pub mod Stored
-pub mod Sides
-pub mod Reading
-pub mod Searching
-pub mod Verdicts
-pub mod Questions
-pub mod Deciding
+pub mod Group
+pub mod laws

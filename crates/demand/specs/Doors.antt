@@ -30,7 +30,7 @@ use Rattle.load.specs.Load.{load}
 use Rattle.decision.specs.declared.Answer.the-variants.{BadLevel}
 use Rattle.decision.specs.Decision.{answered, access-in, decide}
 use Rattle.edition.specs.Edition.{Says-no, Edition, rules-later, access-by-rules, access-later}
-use Rattle.edition.specs.Laws.{access-never-above, access-alike}
+use Rattle.edition.specs.laws.Access.{access-never-above, access-alike}
 use Rattle.demand.specs.Calls.{Call, after-calls, is-accepted, No-accepted-load}
 use Rattle.demand.specs.ByFile.{rules-by-file, answer-by-file}
 use Rattle.demand.specs.Loaded.{Stored, stored, calls-leave, decided}

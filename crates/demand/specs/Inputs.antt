@@ -12,7 +12,7 @@ use Rattle.lists.specs.Select.{first, first-if}
 use Rattle.lists.specs.Runs.{Run, part}
 use Rattle.lists.specs.Every.{first-is}
 use Rattle.rule.specs.Answering.{answering}
-use Rattle.rule.specs.Walk.{part-at}
+use Rattle.rule.specs.laws.Walk.{part-at}
 use Rattle.file.specs.Contents.{Link, Asg, File}
 use Rattle.file.specs.Limit.{access-groups, inputs}
 use Rattle.table.specs.Layout.{Content}

@@ -1,2 +1,2 @@
 pub mod Edition
-pub mod Laws
+pub mod laws

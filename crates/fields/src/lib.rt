@@ -25,7 +25,8 @@ pub const STRINGS: usize = 7;
 
 const WIDTHS: [usize; 7] = [4, 4, 2, 6, 3, 7, 3];
 
-fn wide(b: u8) -> usize
+// A byte as a number.
+pub fn wide(b: u8) -> usize
     ensures { λ r. ⌜ (r ≡ b) × (r < 256) ⌝ }
 {
     b as usize

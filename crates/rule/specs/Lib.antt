@@ -1,5 +1,5 @@
 pub mod Question
 pub mod Rule
 pub mod Answering
-pub mod Passing
-pub mod Walk
+pub mod Decision
+pub mod laws

@@ -32,9 +32,10 @@ rank access.Read = 1
 rank access.Write = 2
 
 -- 01: "the user is a member of one of its UAGs (or it names none)"; "Several UAG lists in one rule count as one."
-abbrev pub belongs : List ℕ → List (List (List ℕ)) → Bool
-belongs name [] = true
-belongs name (g ∷ gs) = any (λ members. any (same name) members) (g ∷ gs)
+-- A predicate says which members match, one for users and one for hosts.
+abbrev pub belongs : (List ℕ → Bool) → List (List (List ℕ)) → Bool
+belongs matches [] = true
+belongs matches (g ∷ gs) = any (λ members. any matches members) (g ∷ gs)
 
 -- the tree that a text says, if it says one, is true of the readings
 abbrev pub true-tree : List Reading → Option Tree → Bool
@@ -50,7 +51,8 @@ calculation-holds rs (some s) = true-tree rs (tree-of s)
 abbrev pub asks : Rule → Question → Bool
 asks r q =
     leb (q .level) (r .level)
-    && (belongs (q .user) (r .uags) && (belongs (lowered (q .host)) (r .hags) && calculation-holds (q .readings) (r .calculation)))
+    && (belongs (same (q .user)) (r .uags)
+    && (belongs (same (lowered (q .host))) (r .hags) && calculation-holds (q .readings) (r .calculation)))
 
 -- 01: "A rule passes if it isn't switched off, the field's level is at most the rule's, [..]"
 abbrev pub passes : Question → Rule → Bool

@@ -4,3 +4,9 @@ pub enum Access {
     Read,
     Write,
 }
+
+// What the rules of a group give a question: an access, and whether writes are trapped.
+pub struct Decision {
+    pub access: Access,
+    pub trap: bool,
+}

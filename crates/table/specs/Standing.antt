@@ -14,7 +14,7 @@ use Rattle.lists.specs.Runs.{Run, part}
 use Rattle.lists.specs.RunLaws.{Within}
 use Rattle.lists.specs.Both.{both}
 use Rattle.calculation.specs.Reader.{tree-of}
-use Rattle.rule.specs.Walk.{part-at, part-count}
+use Rattle.rule.specs.laws.Walk.{part-at, part-count}
 use Rattle.file.specs.Limit.{Section, user-groups, host-groups, members, access-groups, inputs, rules, references, longest-name, longest-calculation}
 use Rattle.table.specs.Layout.{Content}
 use Rattle.table.specs.View.{view}

@@ -1,12 +1,8 @@
-use Rattle.answer.specs.Deciding.{question-of, decide-not}
+use Rattle.answer.specs.laws.Decide.{question-of, decide-not}
 use mathlib.Core.Path.{sym, _∙_}
 use borrow.Author.Needs.{needs}
 use Rattle.answer.proofs.decide.Statement.{statement}
 use Rattle.answer.proofs.decide.Tie as tie
-use Rattle.answer.proofs.decide.Reads as reads
-use Rattle.answer.proofs.decide.Lts as lts
-use Rattle.answer.proofs.decide_checked.Reads as decide-checked-reads
-use Rattle.inspect.proofs.is_table.Reads as is-table-reads
 
 is-table-requires : tie.Need-is-table-requires
 is-table-requires c κs = search needs

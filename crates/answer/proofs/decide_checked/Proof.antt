@@ -1,6 +1,7 @@
 use mathlib.Core.Path.{refl, sym}
 use native.Mathlib.Omega.{arith}
-use Rattle.answer.specs.Deciding.{question-of, stored-at, decide-bad, decide-none, decide-by}
+use Rattle.answer.specs.laws.Decide.{question-of, decide-bad, decide-none, decide-by}
+use Rattle.table_read.specs.laws.Search.{answering-stored}
 use borrow.Author.Needs.{needs}
 use Rattle.answer.proofs.decide_checked.Statement.{statement}
 use Rattle.answer.proofs.decide_checked.Tie as tie
@@ -23,14 +24,14 @@ hear-requires c κs = search needs
 wide-requires : tie.Need-wide-requires
 wide-requires c κs = search needs
 
-verdict-on-requires : tie.Need-verdict-on-requires
-verdict-on-requires c κs = let a = c .before .before .before .before .before .before .before .before .before .before .before .before .before .before .before in (stored-at (a .args .table .now) (a .args .group .now) (c .before .before .before .before .before .before .before .i .given .0 .0) (a .pre) (c .before .before .before .before .before .before .before .before .before .answering-group .ensures) (c .before .before .before .before .before .before .before .i .given .1), search needs)
+decision-of-group-requires : tie.Need-decision-of-group-requires
+decision-of-group-requires c κs = let a = c .before .before .before .before .before .before .before .before .before .before .before .before .before .before .before in (answering-stored (a .args .table .now) (a .args .group .now) (c .before .before .before .before .before .before .before .i .given .0 .0) (a .pre) (c .before .before .before .before .before .before .before .before .before .answering-group .ensures) (c .before .before .before .before .before .before .before .i .given .1), search needs)
 
 returns-2 : tie.Need-returns-2
 returns-2 c = let a = c .before .before .before .before .before .before .before .before in sym (decide-none (a .args .table .now) (question-of (a .args .group .now) (a .args .user .now) (a .args .host .now) (a .args .level) (a .args .rs)) (a .pre) (omega (arith, c .before .before .before .if1 .left)) (c .before .before .answering-group .ensures) (c .enum-told .given .1))
 
 returns-3 : tie.Need-returns-3
-returns-3 c = let a = c .before .before .before .before .before .before .before .before .before .before .before .before .before .before .before .before in sym (decide-by (a .args .table .now) (question-of (a .args .group .now) (a .args .user .now) (a .args .host .now) (a .args .level) (a .args .rs)) (a .pre) (c .before .before .before .before .before .before .before .before .i .given .0 .0) (c .before .before .before .wide .ensures) (omega (arith, c .before .before .before .before .before .before .before .before .before .before .before .if1 .left)) (c .before .before .before .before .before .before .before .before .before .before .answering-group .ensures) (c .before .before .before .before .before .before .before .before .i .given .1) (c .verdict-on .ensures (a .args .rs) (c .before .before .before .before .before .before .hear .ensures)))
+returns-3 c = let a = c .before .before .before .before .before .before .before .before .before .before .before .before .before .before .before .before in sym (decide-by (a .args .table .now) (question-of (a .args .group .now) (a .args .user .now) (a .args .host .now) (a .args .level) (a .args .rs)) (a .pre) (c .before .before .before .before .before .before .before .before .i .given .0 .0) (c .before .before .before .wide .ensures .0) (omega (arith, c .before .before .before .before .before .before .before .before .before .before .before .if1 .left)) (c .before .before .before .before .before .before .before .before .before .before .answering-group .ensures) (c .before .before .before .before .before .before .before .before .i .given .1) (c .decision-of-group .ensures (a .args .rs) (c .before .before .before .before .before .before .hear .ensures)))
 
 pub decide-checked-spec : {M : Type 1} → statement M
 decide-checked-spec =
@@ -42,6 +43,6 @@ decide-checked-spec =
     enum-known-i
     hear-requires
     wide-requires
-    verdict-on-requires
+    decision-of-group-requires
     returns-2
     returns-3)

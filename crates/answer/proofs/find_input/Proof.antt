@@ -1,12 +1,8 @@
-use Rattle.answer.specs.Deciding.{look-not}
+use Rattle.answer.specs.laws.LookUp.{look-not}
 use mathlib.Core.Path.{sym, _∙_}
 use borrow.Author.Needs.{needs}
 use Rattle.answer.proofs.find_input.Statement.{statement}
 use Rattle.answer.proofs.find_input.Tie as tie
-use Rattle.answer.proofs.find_input.Reads as reads
-use Rattle.answer.proofs.find_input.Lts as lts
-use Rattle.answer.proofs.find_input_checked.Reads as find-input-checked-reads
-use Rattle.inspect.proofs.is_table.Reads as is-table-reads
 
 is-table-requires : tie.Need-is-table-requires
 is-table-requires c κs = search needs

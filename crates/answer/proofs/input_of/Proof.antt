@@ -1,12 +1,8 @@
-use Rattle.answer.specs.Deciding.{stored-at, input-missing, input-found}
+use Rattle.answer.specs.laws.LookUp.{input-missing, input-found}
+use Rattle.table_read.specs.laws.Search.{answering-stored}
 use borrow.Author.Needs.{needs}
 use Rattle.answer.proofs.input_of.Statement.{statement}
 use Rattle.answer.proofs.input_of.Tie as tie
-use Rattle.answer.proofs.input_of.Reads as reads
-use Rattle.answer.proofs.input_of.Lts as lts
-use Rattle.answer.proofs.answering_group.Reads as answering-group-reads
-use Rattle.answer.proofs.first_input.Reads as first-input-reads
-use Rattle.answer.proofs.wide.Reads as wide-reads
 
 answering-group-requires : tie.Need-answering-group-requires
 answering-group-requires c κs = search needs
@@ -21,13 +17,13 @@ wide-requires : tie.Need-wide-requires
 wide-requires c κs = search needs
 
 first-input-requires : tie.Need-first-input-requires
-first-input-requires c κs = stored-at (c .before .before .before .before .before .before .before .args .table .now) (c .before .before .before .before .before .before .before .args .group .now) (c .before .before .i .given .0 .0) (c .before .before .before .before .before .before .before .pre) (c .before .before .before .before .answering-group .ensures) (c .before .before .i .given .1)
+first-input-requires c κs = answering-stored (c .before .before .before .before .before .before .before .args .table .now) (c .before .before .before .before .before .before .before .args .group .now) (c .before .before .i .given .0 .0) (c .before .before .before .before .before .before .before .pre) (c .before .before .before .before .answering-group .ensures) (c .before .before .i .given .1)
 
 returns : tie.Need-returns
 returns c = input-missing (c .before .before .before .before .before .args .table .now) (c .before .before .before .before .before .args .group .now) (c .before .before .before .before .before .args .letter) (c .before .before .answering-group .ensures) (c .enum-told .given .1)
 
 returns-2 : tie.Need-returns-2
-returns-2 c = input-found (c .before .before .before .before .before .before .before .before .args .table .now) (c .before .before .before .before .before .before .before .before .args .group .now) (c .before .before .before .before .before .before .before .before .args .letter) (c .before .before .before .i .given .0 .0) (c .before .before .before .before .before .answering-group .ensures) (c .before .before .before .i .given .1) (c .before .wide .ensures) (c .first-input .ensures)
+returns-2 c = input-found (c .before .before .before .before .before .before .before .before .args .table .now) (c .before .before .before .before .before .before .before .before .args .group .now) (c .before .before .before .before .before .before .before .before .args .letter) (c .before .before .before .i .given .0 .0) (c .before .before .before .before .before .answering-group .ensures) (c .before .before .before .i .given .1) (c .before .wide .ensures .0) (c .first-input .ensures)
 
 pub input-of-spec : {M : Type 1} → statement M
 input-of-spec =

@@ -1,15 +1,10 @@
-use Rattle.answer.specs.Deciding.{look-not, look-none, part-found}
-use Rattle.answer.specs.Stored.{finds-at}
+use Rattle.answer.specs.laws.LookUp.{look-not, look-none, part-found}
+use Rattle.table_read.specs.laws.Search.{finds-at}
 use Rattle.decision.specs.LookUp.{part-in}
 use mathlib.Core.Path.{sym, ap, _∙_}
 use borrow.Author.Needs.{needs}
 use Rattle.answer.proofs.look_up.Statement.{statement}
 use Rattle.answer.proofs.look_up.Tie as tie
-use Rattle.answer.proofs.look_up.Reads as reads
-use Rattle.answer.proofs.look_up.Lts as lts
-use Rattle.answer.proofs.input_of.Reads as input-of-reads
-use Rattle.inspect.proofs.is_table.Reads as is-table-reads
-use Rattle.answer.proofs.name_of.Reads as name-of-reads
 
 is-table-requires : tie.Need-is-table-requires
 is-table-requires c κs = search needs

@@ -8,7 +8,7 @@ use native.Mathlib.Omega.{arith}
 use lib.ListN.{length, drop, getD}
 use Rattle.lists.specs.Select.{first}
 use Rattle.lists.specs.Runs.{Run, part}
-use Rattle.rule.specs.Walk.{list-on, list-end, part-on, part-end, first-off, first-on}
+use Rattle.rule.specs.laws.Walk.{list-on, list-end, part-on, part-end, first-off, first-on}
 use Rattle.rule.specs.Answering.{named, or-default, answering, default-name}
 use Rattle.file.specs.Limit.{access-groups}
 use Rattle.table.specs.View.{view}

@@ -1,17 +1,17 @@
 -- Laws of a test that is made of one element after the other.
-use mathlib.Core.Path.{_≡_, _∙_}
+use mathlib.Core.Path.{_≡_, ap, _∙_}
 use mathlib.Core.Bool.{Bool, true, false, _&&_}
 use mathlib.Core.List.{List, [], _∷_}
 use Prim.Native.Nat.{ℕ, zero, suc, _+_, _≤_, _<_}
-use native.Mathlib.Numerals.{add-one}
 use native.Mathlib.Nat.{zero-add, suc-add}
 use lib.ListN.{length, take, drop, getD, drop-of-length-le}
-use lib.Seq.{drop-cons, take-nil, drop-nil}
+use lib.Seq.{take-nil, drop-nil}
 use Rattle.lists.specs.Select.{all}
+use Rattle.rule.specs.laws.Walk.{list-on}
 
 module _ {A : Type 0} (p : A → Bool) (d : A) (xs : List A) (i : ℕ) where
   at : i < length xs → all p (drop i xs) ≡ p (getD xs i d) && all p (drop (i + 1) xs)
-  at h = rw (add-one i, drop-cons xs i d h)
+  at h = ap (all p) (list-on xs d i h)
 
   -- the i-th passes, so the rest decides; it fails; nothing is left
   pub all-on : i < length xs → p (getD xs i d) ≡ true → all p (drop i xs) ≡ all p (drop (i + 1) xs)

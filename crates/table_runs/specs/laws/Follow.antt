@@ -4,13 +4,13 @@ use mathlib.Core.Bool.{Bool, true, false}
 use mathlib.Core.List.{List, [], _∷_, _++_, map, append-assoc, append-nil}
 use Prim.Native.Nat.{ℕ, _+_, _≤_, _<_}
 use native.Mathlib.Omega.{arith}
-use native.Mathlib.Numerals.{add-one}
 use lib.Dec.{eqb}
 use lib.ListN.{length, drop, getD}
-use lib.Seq.{drop-cons, drop-length}
+use lib.Seq.{drop-length}
 use borrow.Author.Tests.{eq-eqb, ne-eqb}
 use Rattle.lists.specs.Select.{joined}
 use Rattle.lists.specs.Runs.{Run}
+use Rattle.rule.specs.laws.Walk.{list-on}
 use Rattle.table.specs.Check.{run-at, in-turn}
 use Rattle.table_runs.specs.declared.RunEnd.{RunEnd}
 use Rattle.table_runs.specs.declared.RunEnd.the-variants.{At, Gap}
@@ -66,9 +66,6 @@ module _ (j : ℕ) (row : List ℕ) (at l : ℕ) where
 
 -- runs of many, of which the first i are taken
 module _ {A : Type 0} (f : A → List Run) (d : A) where
-  dropped : (xs : List A) (i : ℕ) → i < length xs → drop i xs ≡ getD xs i d ∷ drop (i + 1) xs
-  dropped xs i h = rw (add-one i) (drop-cons xs i d h)
-
   pub record Followed (xs : List A) (from i at : ℕ) : Type 0 where
     pub same : (more : List Run) (e : ℕ) → in-turn from (joined (map f xs) ++ more) e ≡ in-turn at (joined (map f (drop i xs)) ++ more) e
 
@@ -79,7 +76,7 @@ module _ {A : Type 0} (f : A → List Run) (d : A) where
     next : i < length xs → (more : List Run) (e : ℕ) → in-turn from (joined (map f xs) ++ more) e ≡ in-turn at (f (getD xs i d) ++ (joined (map f (drop (i + 1) xs)) ++ more)) e
     next h more e =
         g .same more e
-        ∙ ap (λ (ys : List A). in-turn at (joined (map f ys) ++ more) e) (dropped xs i h)
+        ∙ ap (λ (ys : List A). in-turn at (joined (map f ys) ++ more) e) (list-on xs d i h)
         ∙ ap (λ (rs : List Run). in-turn at rs e) (append-assoc (f (getD xs i d)) (joined (map f (drop (i + 1) xs))) more)
 
     pub followed-next : {m l : ℕ} → i < length xs → Follow (f (getD xs i d)) at l (At m) → Followed xs from (i + 1) m

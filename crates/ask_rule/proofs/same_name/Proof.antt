@@ -1,0 +1,26 @@
+use borrow.Author.Needs.{needs}
+use Rattle.ask_rule.proofs.same_name.Statement.{statement}
+use Rattle.ask_rule.proofs.same_name.Tie as tie
+
+enum-told : tie.Need-enum-told
+enum-told c = search needs
+
+equal-requires : tie.Need-equal-requires
+equal-requires c κs = search needs
+
+enum-told-2 : tie.Need-enum-told-2
+enum-told-2 c = search needs
+
+equal-lowered-requires : tie.Need-equal-lowered-requires
+equal-lowered-requires c κs = search needs
+
+returns : tie.Need-returns
+returns c = rw (c .before .enum-told .given .1) (c .equal .ensures)
+
+returns-2 : tie.Need-returns-2
+returns-2 c = rw (c .before .enum-told2 .given .1) (c .equal-lowered .ensures)
+
+pub same-name-spec : {M : Type 1} → statement M
+same-name-spec =
+    tie.close
+    (tie.spec enum-told equal-requires enum-told-2 equal-lowered-requires returns returns-2)

@@ -1,0 +1,3 @@
+pub mod Members
+pub mod Rules
+pub mod laws

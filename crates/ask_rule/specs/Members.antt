@@ -1,0 +1,43 @@
+-- The groups that a rule names and their members, of users and of hosts.
+use mathlib.Core.Path.{_≡_}
+use mathlib.Core.Bool.{Bool}
+use mathlib.Core.List.{List, map}
+use Prim.Native.Nat.{ℕ, _<_}
+use lib.ListN.{length}
+use Rattle.lists.specs.Text.{same, lowered}
+use Rattle.lists.specs.Runs.{Run, part}
+use Rattle.file.specs.Limit.{Section, user-groups, host-groups, rules, references}
+use Rattle.table.specs.View.{view}
+use Rattle.table.specs.Check.{run-at, number-field, undefined-number}
+use Rattle.table.specs.Policy.{referred}
+use Rattle.table.specs.Standing.{row}
+use Rattle.ask_rule.specs.declared.GroupKind.{GroupKind}
+use Rattle.ask_rule.specs.declared.GroupKind.the-variants.{Users, Hosts}
+
+abbrev pub groups : GroupKind → Section
+groups Users = user-groups
+groups Hosts = host-groups
+
+-- which members match a name. 01: "the host likewise (its ASCII letters lowered first, stored bytes as they are)"
+abbrev pub matches : GroupKind → List ℕ → List ℕ → Bool
+matches Users n = same n
+matches Hosts n = same (lowered n)
+
+-- which word of a rule begins its references
+abbrev pub references-word : GroupKind → ℕ
+references-word Users = 1
+references-word Hosts = 3
+
+abbrev pub references-run : GroupKind → List ℕ → Run
+references-run k = run-at (references-word k)
+
+-- the i-th reference's number is that of a group, unless it says that there is no such group
+pub record Refers (b : List ℕ) (k : GroupKind) (i : ℕ) : Type 0 where
+  pub inside :
+      (number-field (row (view b) references i) ≡ undefined-number → ⊥)
+      → number-field (row (view b) references i) < length (view b .records (groups k))
+
+-- the groups that the i-th rule names, each with its members
+abbrev pub groups-named : List ℕ → GroupKind → ℕ → List (List (List ℕ))
+groups-named b k i =
+    map (referred (view b) (groups k)) (part (references-run k (row (view b) rules i)) (view b .records references))

@@ -1,0 +1,61 @@
+-- One rule of a table and a question: whether it passes, and what it gives.
+use mathlib.Core.Path.{_≡_}
+use mathlib.Core.Bool.{Bool, false, cond}
+use mathlib.Core.List.{List, [], _∷_, _++_, map}
+use Prim.Native.Nat.{ℕ}
+use lib.Dec.{eqb}
+use lib.Ieee.{Float}
+use Rattle.calculation.specs.declared.Reading.{Reading}
+use Rattle.calculation.specs.Value.{heard, good}
+use Rattle.rule.specs.declared.Access.{Access}
+use Rattle.rule.specs.declared.Access.the-variants as access
+use Rattle.rule.specs.declared.Decision.{Decision}
+use Rattle.rule.specs.Question.{Question}
+use Rattle.rule.specs.Rule.{Rule, rank, calculation-holds, passes}
+use Rattle.rule.specs.Decision.{decision-by}
+use Rattle.file.specs.Limit.{rules}
+use Rattle.table.specs.View.{view}
+use Rattle.table.specs.Check.{permission-bits, trap-bit}
+use Rattle.table.specs.Policy.{permission, set-bit, rule-of}
+use Rattle.table.specs.Standing.{row}
+
+-- the i-th rule of a table
+abbrev pub rule-at : List ℕ → ℕ → Rule
+rule-at b i = rule-of (view b) (row (view b) rules i)
+
+-- a question as its rules see it: none of them asks for the group's name
+abbrev pub question : List ℕ → List ℕ → ℕ → List Reading → Question
+question u h l rs = record { group = []; user = u; host = h; level = l; readings = rs }
+
+-- the values of some readings, and which of them are good
+abbrev pub Heard-as : List Float → List Bool → List Reading → Type 0
+Heard-as values goods rs = (values ≡ map heard rs) × (goods ≡ map good rs)
+
+-- ---- what a rule's flags give
+
+abbrev pub with-trap : Access → Bool → Decision
+with-trap a t = record { access = a; trap = t }
+
+abbrev pub flagged : ℕ → Decision
+flagged f =
+    with-trap
+    (permission (permission-bits f))
+    (cond (eqb (rank (permission (permission-bits f))) (rank access.Write)) (set-bit (trap-bit f)) false)
+
+-- ---- of every question whose readings have these values
+
+-- whether the calculation of the i-th rule is true
+abbrev pub Calculates : List ℕ → ℕ → List Float → List Bool → Bool → Type 0
+Calculates b i values goods r =
+    (rs : List Reading) → Heard-as values goods rs → r ≡ calculation-holds rs (rule-at b i .calculation)
+
+-- whether the i-th rule passes
+abbrev pub Passes : List ℕ → ℕ → List ℕ → List ℕ → ℕ → List Float → List Bool → Bool → Type 0
+Passes b i user host level values goods r =
+    (rs : List Reading) → Heard-as values goods rs → r ≡ passes (question user host level rs) (rule-at b i)
+
+-- what the i-th rule gives behind others that give the decision d
+abbrev pub With-rule : List ℕ → ℕ → List ℕ → List ℕ → ℕ → List Float → List Bool → Decision → Decision → Type 0
+With-rule b i user host level values goods d r =
+    (rs : List Reading) → Heard-as values goods rs → (others : List Rule) → d ≡ decision-by (question user host level rs) others
+    → r ≡ decision-by (question user host level rs) (others ++ (rule-at b i ∷ []))

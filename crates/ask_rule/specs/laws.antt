@@ -1,0 +1,3 @@
+pub mod Members
+pub mod Calculation
+pub mod Flags
