@@ -31,7 +31,10 @@ fn decision_of_group(
 {
     let start = table_read::field(table, Section::AccessGroups, group, 4);
     let n = table_read::field(table, Section::AccessGroups, group, 5);
-    let mut so_far = ask_rule::decision(Access::None, false);
+    let mut so_far = Decision {
+        access: Access::None,
+        trap: false,
+    };
     let mut i = 0;
     while i < n {
         so_far = ask_rule::with_rule(table, start + i, user, host, level, values, goods, so_far);

@@ -9,7 +9,7 @@ use Rattle.lists.specs.Runs.{Run, part}
 use Rattle.file.specs.Limit.{Section, user-groups, host-groups, rules, references}
 use Rattle.table.specs.View.{view}
 use Rattle.table.specs.Check.{run-at, number-field, undefined-number}
-use Rattle.table.specs.Policy.{referred}
+use Rattle.table.specs.Policy.{members-of, referred}
 use Rattle.table.specs.Standing.{row}
 use Rattle.ask_rule.specs.declared.GroupKind.{GroupKind}
 use Rattle.ask_rule.specs.declared.GroupKind.the-variants.{Users, Hosts}
@@ -31,11 +31,19 @@ references-word Hosts = 3
 abbrev pub references-run : GroupKind → List ℕ → Run
 references-run k = run-at (references-word k)
 
+-- the members of the i-th group
+abbrev pub members-in : List ℕ → GroupKind → ℕ → List (List ℕ)
+members-in b k i = members-of (view b) (row (view b) (groups k) i)
+
 -- the i-th reference's number is that of a group, unless it says that there is no such group
 pub record Refers (b : List ℕ) (k : GroupKind) (i : ℕ) : Type 0 where
   pub inside :
       (number-field (row (view b) references i) ≡ undefined-number → ⊥)
       → number-field (row (view b) references i) < length (view b .records (groups k))
+
+-- the members of the group that the i-th reference gives
+abbrev pub members-referred : List ℕ → GroupKind → ℕ → List (List ℕ)
+members-referred b k i = referred (view b) (groups k) (row (view b) references i)
 
 -- the groups that the i-th rule names, each with its members
 abbrev pub groups-named : List ℕ → GroupKind → ℕ → List (List (List ℕ))

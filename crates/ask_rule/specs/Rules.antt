@@ -1,18 +1,15 @@
 -- One rule of a table and a question: whether it passes, and what it gives.
 use mathlib.Core.Path.{_≡_}
-use mathlib.Core.Bool.{Bool, false, cond}
+use mathlib.Core.Bool.{Bool}
 use mathlib.Core.List.{List, [], _∷_, _++_, map}
 use Prim.Native.Nat.{ℕ}
-use lib.Dec.{eqb}
 use lib.Ieee.{Float}
 use Rattle.calculation.specs.declared.Reading.{Reading}
 use Rattle.calculation.specs.Value.{heard, good}
-use Rattle.rule.specs.declared.Access.{Access}
-use Rattle.rule.specs.declared.Access.the-variants as access
 use Rattle.rule.specs.declared.Decision.{Decision}
 use Rattle.rule.specs.Question.{Question}
-use Rattle.rule.specs.Rule.{Rule, rank, calculation-holds, passes}
-use Rattle.rule.specs.Decision.{decision-by}
+use Rattle.rule.specs.Rule.{Rule, calculation-holds, passes}
+use Rattle.rule.specs.Decision.{grant, decision-by}
 use Rattle.file.specs.Limit.{rules}
 use Rattle.table.specs.View.{view}
 use Rattle.table.specs.Check.{permission-bits, trap-bit}
@@ -33,14 +30,8 @@ Heard-as values goods rs = (values ≡ map heard rs) × (goods ≡ map good rs)
 
 -- ---- what a rule's flags give
 
-abbrev pub with-trap : Access → Bool → Decision
-with-trap a t = record { access = a; trap = t }
-
 abbrev pub flagged : ℕ → Decision
-flagged f =
-    with-trap
-    (permission (permission-bits f))
-    (cond (eqb (rank (permission (permission-bits f))) (rank access.Write)) (set-bit (trap-bit f)) false)
+flagged f = grant (permission (permission-bits f)) (set-bit (trap-bit f))
 
 -- ---- of every question whose readings have these values
 

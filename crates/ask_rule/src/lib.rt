@@ -1,23 +1,19 @@
-use calculation::Reading;
 use rule::Access;
 use rule::Decision;
 use table_read::Section;
 ghost use mathlib.Core.Path.{_≡_};
-ghost use mathlib.Core.Bool.{true};
-ghost use mathlib.Core.List.{List};
 ghost use Prim.Native.Nat.{_<_};
 ghost use lib.ListN.{length};
 ghost use lib.Dec.{leb};
 ghost use Rattle.lists.specs.Select.{any};
 ghost use Rattle.rule.specs.Rule.{rank, belongs};
+ghost use Rattle.rule.specs.Decision.{with-trap};
 ghost use Rattle.file.specs.Limit.{rules, references};
-ghost use Rattle.table.specs.View.{view};
-ghost use Rattle.table.specs.Policy.{members-of, referred, permission, set-bit};
-ghost use Rattle.table.specs.Standing.{row};
+ghost use Rattle.table.specs.Policy.{permission, set-bit};
 ghost use Rattle.fields.specs.Field.{Word};
 ghost use Rattle.table_read.specs.Stored.{Stored, word-of};
-ghost use Rattle.ask_rule.specs.Members.{groups, matches, references-word, Refers, groups-named};
-ghost use Rattle.ask_rule.specs.Rules.{with-trap, flagged, Calculates, Passes, With-rule};
+ghost use Rattle.ask_rule.specs.Members.{groups, matches, references-word, members-in, Refers, members-referred, groups-named};
+ghost use Rattle.ask_rule.specs.Rules.{flagged, Calculates, Passes, With-rule};
 
 // Users and user groups, or hosts and host groups.
 enum GroupKind {
@@ -51,7 +47,7 @@ fn group_word(table: &[u8], k: GroupKind, i: usize, j: usize) -> usize
 // Whether a name is a member of a group: one comparison for each member.
 fn is_member(table: &[u8], k: GroupKind, group: usize, name: &[u8]) -> bool
     requires { ⌜ Stored (now table) (groups k) group ⌝ }
-    ensures { λ r. ⌜ r ≡ any (matches k (now (name .entry))) (members-of (view (now (table .entry))) (row (view (now (table .entry))) (groups k) group)) ⌝ }
+    ensures { λ r. ⌜ r ≡ any (matches k (now (name .entry))) (members-in (now (table .entry)) k group) ⌝ }
 {
     let start = group_word(table, k, group, 2);
     let n = group_word(table, k, group, 3);
@@ -72,7 +68,7 @@ fn is_member(table: &[u8], k: GroupKind, group: usize, name: &[u8]) -> bool
 // Whether a name is a member of the group that a reference gives.
 fn is_referred(table: &[u8], k: GroupKind, reference: usize, name: &[u8]) -> bool
     requires { ⌜ Stored (now table) references reference × Refers (now table) k reference ⌝ }
-    ensures { λ r. ⌜ r ≡ any (matches k (now (name .entry))) (referred (view (now (table .entry))) (groups k) (row (view (now (table .entry))) references reference)) ⌝ }
+    ensures { λ r. ⌜ r ≡ any (matches k (now (name .entry))) (members-referred (now (table .entry)) k reference) ⌝ }
 {
     let group = table_read::field(table, Section::References, reference, 0);
     if group == 65535 {
@@ -141,7 +137,7 @@ fn rank_of(a: Access) -> usize
     }
 }
 
-pub fn decision(access: Access, trap: bool) -> Decision
+fn decision(access: Access, trap: bool) -> Decision
     ensures { λ r. ⌜ r ≡ with-trap access trap ⌝ }
 {
     Decision { access, trap }
@@ -184,7 +180,7 @@ fn calculation_true(table: &[u8], rule: usize, values: &[f64; 21], goods: &[bool
     )
 }
 
-pub fn passes_rule(
+fn passes_rule(
     table: &[u8],
     rule: usize,
     user: &[u8],
@@ -212,7 +208,8 @@ pub fn passes_rule(
     calculation_true(table, rule, values, goods)
 }
 
-// What the rules so far and one more give, the greater, of equals the first. A rule that can give no more is not tried.
+// What earlier rules and one more give: the greater access, of equals the first. A rule that can give no more is not tried.
+// Inner: the caller knows the rule from the run of its group, and has 21 values.
 pub fn with_rule(
     table: &[u8],
     rule: usize,

@@ -20,7 +20,8 @@ use Rattle.file.specs.Meaning.{rule-in}
 abbrev pub Edition : Type 0
 Edition = ℕ → Question → Bool
 
--- "a rule of it passes if each unknown predicate in it gets yes and what is asked there of level, user, host (members lowered too) and calculation holds by the file"
+-- "a rule of it passes if each unknown predicate in it gets yes and what is asked there of level, user, host (members lowered too)
+-- and calculation holds by the file"
 abbrev pub passes-later : Edition → File → Question → Rule-text → Bool
 passes-later e f q r = all (λ p. e p q) (r .unknown) && asks (rule-in f r) q
 

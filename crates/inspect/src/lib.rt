@@ -10,7 +10,8 @@ ghost use Prim.Native.Nat.{_+_, _<_};
 ghost use Rattle.lists.specs.Select.{all};
 ghost use Rattle.table.specs.Layout.{sections};
 ghost use Rattle.table.specs.View.{view};
-ghost use Rattle.table.specs.Check.{run-at, sections-stand, string-fits, flags-stand, no-calculation, calculation-stands, calculation-run, numbers-fit, rule-stands, is-table};
+ghost use Rattle.table.specs.Check.{run-at, sections-stand, string-fits, flags-stand, no-calculation};
+ghost use Rattle.table.specs.Check.{calculation-stands, calculation-run, numbers-fit, rule-stands, is-table};
 ghost use Rattle.fields.specs.Field.{section-at, record-at, Has-field};
 ghost use Rattle.inspect.specs.Records.{Has-rule, record-stands, section-stands, number-stands};
 

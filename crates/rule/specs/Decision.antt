@@ -1,19 +1,27 @@
 -- What the rules of a group give a question together, access and trap in one. 01, "The question".
-use mathlib.Core.Bool.{false, cond}
+use mathlib.Core.Bool.{Bool, false, cond}
 use mathlib.Core.List.{List}
 use lib.Dec.{eqb}
+use Rattle.rule.specs.declared.Access.{Access}
 use Rattle.rule.specs.declared.Access.the-variants as access
 use Rattle.rule.specs.declared.Decision.{Decision}
 use Rattle.rule.specs.Question.{Question}
-use Rattle.rule.specs.Rule.{Rule, rank, passes, greater, access-by, gives-write, trap-by}
+use Rattle.rule.specs.Rule.{Rule, rank, passes, greater, access-by, trap-by}
+
+abbrev pub with-trap : Access → Bool → Decision
+with-trap a t = record { access = a; trap = t }
 
 -- 01: "NONE, no trap"
 abbrev pub no-access : Decision
-no-access = record { access = access.None; trap = false }
+no-access = with-trap access.None false
 
--- what a rule gives that passes: its trap counts only with WRITE
+-- what a permission and a trap give: the trap counts only with WRITE
+abbrev pub grant : Access → Bool → Decision
+grant a t = with-trap a (cond (eqb (rank a) (rank access.Write)) t false)
+
+-- what a rule gives that passes
 abbrev pub granted : Rule → Decision
-granted r = record { access = r .permission; trap = cond (gives-write r) (r .trap) false }
+granted r = grant (r .permission) (r .trap)
 
 -- what one rule gives
 abbrev pub by-rule : Question → Rule → Decision

@@ -86,6 +86,7 @@ pub fn sections_stand(b: &[u8]) -> bool
 
 // ---- of bytes whose sections stand
 
+// Whether no section has more records than a table may have. Inner: is_table has asked sections_stand before.
 pub fn counts_fit(b: &[u8]) -> bool
     requires { ⌜ sections-stand (now b) ≡ true ⌝ }
     ensures { λ r. ⌜ r ≡ counts-fit (view (now (b .entry))) ⌝ }
@@ -177,6 +178,7 @@ fn members_used_up(b: &[u8]) -> bool
     }
 }
 
+// Whether the runs of a kind follow each other and use up their section. Inner: is_table has asked sections_stand before.
 pub fn runs_stand(b: &[u8]) -> bool
     requires { ⌜ sections-stand (now b) ≡ true ⌝ }
     ensures { λ r. ⌜ r ≡ runs-stand (view (now (b .entry))) ⌝ }

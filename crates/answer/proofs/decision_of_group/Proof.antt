@@ -6,7 +6,7 @@ use Rattle.answer.specs.laws.Decide.{rule-stored, first-rules, one-more,
 use lib.ListN.{take}
 use native.Mathlib.Omega.{arith}
 use mathlib.Core.List.{List}
-use mathlib.Core.Path.{_≡_}
+use mathlib.Core.Path.{_≡_, refl}
 use Prim.Native.Nat.{_≤_, _-_}
 use borrow.Author.Needs.{needs}
 use Rattle.answer.proofs.decision_of_group.Statement.{statement}
@@ -24,17 +24,14 @@ field-requires c κs = (c .before .before .before .pre .0, omega arith)
 field-requires-2 : tie.Need-field-requires-2 Inv-loop μ-loop
 field-requires-2 c κs = (c .before .before .before .before .pre .0, omega arith)
 
-decision-requires : tie.Need-decision-requires Inv-loop μ-loop
-decision-requires c κs = search needs
-
 loop-holds : tie.Need-loop-holds Inv-loop μ-loop
-loop-holds c = let a = c .before .before .before .before .before .before in (omega arith, λ rs h. first-rules (a .args .table .now) (a .args .group) (a .pre .0) 0 (c .before .before .field .ensures) (c .before .field2 .ensures) (question (a .args .user .now) (a .args .host .now) (a .args .level) rs) (c .decision .ensures))
+loop-holds c = let a = c .before .before .before .before .before in (omega arith, λ rs h. first-rules (a .args .table .now) (a .args .group) (a .pre .0) 0 (c .before .field .ensures) (c .field2 .ensures) (question (a .args .user .now) (a .args .host .now) (a .args .level) rs) refl)
 
 add-with-rule : tie.Need-add-with-rule Inv-loop μ-loop
-add-with-rule c = omega (arith, c .before .before .before .before .field .ensures .small, c .before .before .before .field2 .ensures .small)
+add-with-rule c = omega (arith, c .before .before .before .field .ensures .small, c .before .before .field2 .ensures .small)
 
 with-rule-requires : tie.Need-with-rule-requires Inv-loop μ-loop
-with-rule-requires c κs = let a = c .before .before .before .before .before .before .before .before in (rule-stored (a .args .table .now) (a .args .group) (a .pre .0) (c .before .loop .i) (c .before .before .before .before .field .ensures) (c .before .before .before .field2 .ensures) (omega arith), a .pre .1)
+with-rule-requires c κs = let a = c .before .before .before .before .before .before .before in (rule-stored (a .args .table .now) (a .args .group) (a .pre .0) (c .before .loop .i) (c .before .before .before .field .ensures) (c .before .before .field2 .ensures) (omega arith), a .pre .1)
 
 add-i : tie.Need-add-i Inv-loop μ-loop
 add-i c = search needs
@@ -43,10 +40,10 @@ loop-less : tie.Need-loop-less Inv-loop μ-loop
 loop-less c = search needs
 
 loop-again : tie.Need-loop-again Inv-loop μ-loop
-loop-again c = let a = c .before .before .before .before .before .before .before .before .before in (omega arith, λ rs h. one-more (a .args .table .now) (a .args .group) (a .pre .0) (c .before .before .loop .i) (c .before .before .before .before .before .field .ensures) (c .before .before .before .before .field2 .ensures) (question (a .args .user .now) (a .args .host .now) (a .args .level) rs) (omega arith) (c .with-rule .ensures rs h (take (c .before .before .loop .i) (group-rules (a .args .table .now) (a .args .group))) (c .before .before .loop .inv .1 rs h)))
+loop-again c = let a = c .before .before .before .before .before .before .before .before in (omega arith, λ rs h. one-more (a .args .table .now) (a .args .group) (a .pre .0) (c .before .before .loop .i) (c .before .before .before .before .field .ensures) (c .before .before .before .field2 .ensures) (question (a .args .user .now) (a .args .host .now) (a .args .level) rs) (omega arith) (c .with-rule .ensures rs h (take (c .before .before .loop .i) (group-rules (a .args .table .now) (a .args .group))) (c .before .before .loop .inv .1 rs h)))
 
 returns : tie.Need-returns Inv-loop μ-loop
-returns c = let a = c .before .before .before .before .before .before .before .before in λ rs h. all-rules (a .args .table .now) (a .args .group) (a .pre .0) (c .before .loop .i) (c .before .before .before .before .field .ensures) (c .before .before .before .field2 .ensures) (question (a .args .user .now) (a .args .host .now) (a .args .level) rs) (omega arith) (c .before .loop .inv .1 rs h)
+returns c = let a = c .before .before .before .before .before .before .before in λ rs h. all-rules (a .args .table .now) (a .args .group) (a .pre .0) (c .before .loop .i) (c .before .before .before .field .ensures) (c .before .before .field2 .ensures) (question (a .args .user .now) (a .args .host .now) (a .args .level) rs) (omega arith) (c .before .loop .inv .1 rs h)
 
 pub decision-of-group-spec : {M : Type 1} → statement M
 decision-of-group-spec =
@@ -56,7 +53,6 @@ decision-of-group-spec =
     μ-loop
     field-requires
     field-requires-2
-    decision-requires
     loop-holds
     add-with-rule
     with-rule-requires

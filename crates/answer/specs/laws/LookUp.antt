@@ -30,7 +30,8 @@ module _ (b g : List ℕ) (l : ℕ) where
   input-missing f e = subst (λ (o : Option (List ℕ)). Finds (view b .records inputs) (input-of (view b) l o) Missing) (sym (finds-none f e)) not-found
 
   pub input-found :
-      {r p : Index} {x : ℕ} (i : ℕ) → Finds-answering b g r → r ≡ At i → x ≡ l → Finds (view b .records inputs) (input-of (view b) x (some (row (view b) access-groups i))) p
+      {r p : Index} {x : ℕ} (i : ℕ) → Finds-answering b g r → r ≡ At i → x ≡ l
+      → Finds (view b .records inputs) (input-of (view b) x (some (row (view b) access-groups i))) p
       → Finds-letter b g l p
   input-found {r} {p} i f e y d =
       subst
@@ -54,7 +55,8 @@ module _ (b g : List ℕ) (l : ℕ) where
         rw h (ap (named-part b) z)
 
     pub look-part :
-        {r : Index} {o f n : ℕ} (i : ℕ) → Finds-letter b g l r → r ≡ At i → Word (offset-of b strings-order) o → Word (word-of b inputs i 1) f → Word (word-of b inputs i 2) n
+        {r : Index} {o f n : ℕ} (i : ℕ) → Finds-letter b g l r → r ≡ At i
+        → Word (offset-of b strings-order) o → Word (word-of b inputs i 1) f → Word (word-of b inputs i 2) n
         → found.Part (o + f) n ≡ look-up b g l
     look-part i d e o f n = ap₂ (λ (x y : ℕ). found.Part x y) (ap₂ (λ (x y : ℕ). x + y) (o .is) (f .is)) (n .is) ∙ sym (look-found i d e)
 

@@ -1,4 +1,5 @@
-use Rattle.ask_rule.specs.laws.Flags.{of-flags, flagged-as}
+use Rattle.rule.specs.Decision.{grant}
+use Rattle.ask_rule.specs.laws.Flags.{flagged-as}
 use Rattle.rule.specs.declared.Access.the-variants as access
 use mathlib.Core.Path.{ap, _∙_}
 use borrow.Author.Needs.{needs}
@@ -30,7 +31,7 @@ decision-requires-3 : tie.Need-decision-requires-3
 decision-requires-3 c κs = search needs
 
 returns : tie.Need-returns
-returns c = c .decision .ensures ∙ ap (of-flags access.Write) (c .before .before .before .before .is-set .ensures) ∙ flagged-as (c .before .before .before .before .before .args .flags) access.Write (c .before .before .before .permission-of .ensures) (c .before .enum-told .given .1)
+returns c = c .decision .ensures ∙ ap (grant access.Write) (c .before .before .before .before .is-set .ensures) ∙ flagged-as (c .before .before .before .before .before .args .flags) access.Write (c .before .before .before .permission-of .ensures) (c .before .enum-told .given .1)
 
 returns-2 : tie.Need-returns-2
 returns-2 c = c .decision2 .ensures ∙ flagged-as (c .before .before .before .before .before .args .flags) access.Read (c .before .before .before .permission-of .ensures) (c .before .enum-told2 .given .1)

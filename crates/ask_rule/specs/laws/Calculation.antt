@@ -24,4 +24,5 @@ module _ (rs : List Reading) (c : Content) (w : List ℕ) {a n : ℕ} (f : a ≡
 
   pub calculation-decides : (a + n ≡ 0 → ⊥) → calculation-holds rs (rule-of c w .calculation) ≡ true-tree rs (tree-of (string c (calculation-run w)))
   calculation-decides e =
-      rw (not-both (eqb (calculation-run w .first) 0) (eqb (calculation-run w .count) 0) (λ x y. e (omega (arith, eqb-true (calculation-run w .first) 0 x, eqb-true (calculation-run w .count) 0 y))))
+      let run = calculation-run w in
+      rw (not-both (eqb (run .first) 0) (eqb (run .count) 0) (λ x y. e (omega (arith, eqb-true (run .first) 0 x, eqb-true (run .count) 0 y))))

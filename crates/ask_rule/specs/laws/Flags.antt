@@ -1,22 +1,16 @@
 -- Laws of a rule's flags.
 use mathlib.Core.Path.{_≡_, refl, sym, ap, _∙_}
-use mathlib.Core.Bool.{Bool, true, false, cond}
+use mathlib.Core.Bool.{true}
 use Prim.Native.Nat.{ℕ, zero, suc}
-use lib.Dec.{eqb}
 use Rattle.rule.specs.declared.Access.{Access}
 use Rattle.rule.specs.declared.Access.the-variants as access
-use Rattle.rule.specs.declared.Decision.{Decision}
-use Rattle.rule.specs.Rule.{rank}
+use Rattle.rule.specs.Decision.{grant}
 use Rattle.table.specs.Check.{permission-bits, trap-bit}
 use Rattle.table.specs.Policy.{permission, set-bit}
-use Rattle.ask_rule.specs.Rules.{with-trap, flagged}
+use Rattle.ask_rule.specs.Rules.{flagged}
 
--- what flags of a permission and a trap give
-abbrev pub of-flags : Access → Bool → Decision
-of-flags a t = with-trap a (cond (eqb (rank a) (rank access.Write)) t false)
-
-pub flagged-as : (f : ℕ) (a : Access) {p : Access} → p ≡ permission (permission-bits f) → p ≡ a → of-flags a (set-bit (trap-bit f)) ≡ flagged f
-flagged-as f a e q = ap (λ (x : Access). of-flags x (set-bit (trap-bit f))) (sym q ∙ e)
+pub flagged-as : (f : ℕ) (a : Access) {p : Access} → p ≡ permission (permission-bits f) → p ≡ a → grant a (set-bit (trap-bit f)) ≡ flagged f
+flagged-as f a e q = ap (λ (x : Access). grant x (set-bit (trap-bit f))) (sym q ∙ e)
 
 pub set-bit-on : (n : ℕ) → (n ≡ 0 → ⊥) → set-bit n ≡ true
 set-bit-on zero h = absurd (h refl)

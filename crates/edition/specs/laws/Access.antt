@@ -49,7 +49,9 @@ asks-worse r q qs g e =
 
 module _ (e : Edition) (f : File) (q : Question) where
   -- a rule that passes, whichever readings have gone bad, has no unknown predicate and passes in the edition
-  pub passes-worse : (qs : List Reading) → Gone-bad (q .readings) qs → (r : Rule-text) → passes (reading-instead q qs) (rule-in f r) ≡ true → passes-later e f q r ≡ true
+  pub passes-worse :
+      (qs : List Reading) → Gone-bad (q .readings) qs → (r : Rule-text) → passes (reading-instead q qs) (rule-in f r) ≡ true
+      → passes-later e f q r ≡ true
   passes-worse qs g r h = go (r .unknown) (both (not (nonempty (r .unknown))) (asks (rule-in f r) (reading-instead q qs)) h)
     where
       go : (u : List ℕ) → (not (nonempty u) ≡ true) × (asks (rule-in f r) (reading-instead q qs) ≡ true) → all (λ p. e p q) u && asks (rule-in f r) q ≡ true
@@ -93,7 +95,8 @@ module _ (e : Edition) (f : File) (q : Question) where
       (qs : List Reading) → Gone-bad (q .readings) qs → (rs : List Rule-text)
       → rank (access-by (reading-instead q qs) (map (rule-in f) rs)) ≤ rank (access-by-rules e f q rs)
   access-never-above qs g [] = le-refl 0
-  access-never-above qs g (r ∷ rs) = go (passes (reading-instead q qs) (rule-in f r)) (passes-later e f q r) (passes-worse e f q qs g r) (access-never-above qs g rs)
+  access-never-above qs g (r ∷ rs) =
+      go (passes (reading-instead q qs) (rule-in f r)) (passes-later e f q r) (passes-worse e f q qs g r) (access-never-above qs g rs)
     where
       ours : List Access
       ours = map (λ x. x .permission) (select (passes (reading-instead q qs)) (map (rule-in f) rs))
@@ -105,13 +108,20 @@ module _ (e : Edition) (f : File) (q : Question) where
           (a b : Bool) → (a ≡ true → b ≡ true) → rank (greatest ours) ≤ rank (greatest theirs)
           → rank (greatest (map (λ x. x .permission) (prepend-if a (rule-in f r) (select (passes (reading-instead q qs)) (map (rule-in f) rs)))))
           ≤ rank (greatest (map (λ x. x .permission) (prepend-if b r (select (passes-later e f q) rs))))
-      go true true h l = greater-least (r .permission) (greatest ours) (rank (greater (r .permission) (greatest theirs))) (greater-left (r .permission) (greatest theirs)) (let k = greater-right (r .permission) (greatest theirs) in omega arith)
+      go true true h l =
+          greater-least
+          (r .permission)
+          (greatest ours)
+          (rank (greater (r .permission) (greatest theirs)))
+          (greater-left (r .permission) (greatest theirs))
+          (let k = greater-right (r .permission) (greatest theirs) in omega arith)
       go true false h l = absurd (false≢true (h refl))
       go false true h l = let k = greater-right (r .permission) (greatest theirs) in omega arith
       go false false h l = l
 
   -- equal to the edition's, where that says no to every unknown predicate
-  pub access-alike : (rs : List Rule-text) → Every (λ r. Every (λ p. e p q ≡ false) (r .unknown)) rs → access-by q (map (rule-in f) rs) ≡ access-by-rules e f q rs
+  pub access-alike :
+      (rs : List Rule-text) → Every (λ r. Every (λ p. e p q ≡ false) (r .unknown)) rs → access-by q (map (rule-in f) rs) ≡ access-by-rules e f q rs
   access-alike [] nil = refl
   access-alike (r ∷ rs) (cons n c) = go (passes q (rule-in f r)) (passes-later e f q r) (passes-alike e f q r n) (access-alike rs c)
     where

@@ -15,7 +15,8 @@ use Rattle.lists.specs.Runs.{part}
 use Rattle.calculation.specs.Reader.{tree-of}
 use Rattle.file.specs.Limit.{user-groups, host-groups, references, longest-calculation}
 use Rattle.table.specs.View.{strings-order, count-of, offset-of, view}
-use Rattle.table.specs.Check.{run-at, sections-stand, string-fits, no-calculation, calculation-run, calculation-stands, numbers-fit, flags-field, flags-stand, rule-stands}
+use Rattle.table.specs.Check.{run-at, sections-stand, string-fits, no-calculation, calculation-run, calculation-stands}
+use Rattle.table.specs.Check.{numbers-fit, flags-field, flags-stand, rule-stands}
 use Rattle.table.specs.Fields.{strings-count, strings-inside, string-at}
 use Rattle.fields.specs.Field.{section-at, record-at}
 use Rattle.fields.specs.laws.Fields.{rows-count}
@@ -36,11 +37,16 @@ module _ (b : List ℕ) (h : sections-stand b ≡ true) where
     fits-inside e =
         omega (
           arith,
-          leb-true (getD row 5 0 + getD row 6 0) (length (view b .strings)) (both (leb (getD row 5 0 + getD row 6 0) (length (view b .strings))) (leb (getD row 6 0) longest-calculation) e .0),
+          leb-true
+              (getD row 5 0 + getD row 6 0)
+              (length (view b .strings))
+              (both (leb (getD row 5 0 + getD row 6 0) (length (view b .strings))) (leb (getD row 6 0) longest-calculation) e .0),
           strings-count b h,
         )
 
-    pub calculation-inside : {s : Bool} {o : ℕ} → s ≡ string-fits (view b) longest-calculation (calculation-run row) → s ≡ true → o ≡ offset-of b strings-order → o + f + l ≤ length b
+    pub calculation-inside :
+        {s : Bool} {o : ℕ} → s ≡ string-fits (view b) longest-calculation (calculation-run row) → s ≡ true → o ≡ offset-of b strings-order
+        → o + f + l ≤ length b
     calculation-inside r t e = omega (arith, fits-inside (sym r ∙ t), strings-inside b h .ends)
 
     pub calculation-bytes :
@@ -78,7 +84,9 @@ module _ (b : List ℕ) (of : ℕ) (h : of < 7) where
   pub numbers-behind : (i e : ℕ) {c : ℕ} → c ≡ count-of b 6 → c ≤ i → Numbers i e ≡ true
   numbers-behind i e p w = all-end test [] (take e rows) i (omega (arith, length-take e rows, rows-count b 6 (omega arith)))
 
-  module _ (i e : ℕ) {c g : ℕ} (p : c ≡ count-of b 6) (q : g ≡ count-of b of) (l : i < c) (k : i < e) {r : Bool} (x : r ≡ number-stands g (record-at b 6 i)) where
+  module _
+      (i e : ℕ) {c g : ℕ} (p : c ≡ count-of b 6) (q : g ≡ count-of b of) (l : i < c) (k : i < e)
+      {r : Bool} (x : r ≡ number-stands g (record-at b 6 i)) where
     inside : i < length (take e rows)
     inside = omega (arith, length-take e rows, rows-count b 6 (omega arith))
 

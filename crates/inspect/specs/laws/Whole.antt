@@ -84,11 +84,22 @@ module _ (c : Content) where
   abbrev named : Section → Bool
   named s = all (name-stands c s) (c .records s)
 
+  abbrev from-inputs : Bool → Bool
+  from-inputs x = x && (section-stands c rules && (named references && true))
+
   by-section : names-fit c && (letters-stand c && all (rule-stands c) (c .records rules)) ≡ all (section-stands c) sections
   by-section =
-      regroup (named user-groups) (named host-groups) (named members) (named access-groups) (named inputs) (named references) (letters-stand c) (section-stands c rules)
+      regroup
+      (named user-groups)
+      (named host-groups)
+      (named members)
+      (named access-groups)
+      (named inputs)
+      (named references)
+      (letters-stand c)
+      (section-stands c rules)
       ∙ ap
-      (λ (x : Bool). named user-groups && (named host-groups && (named members && (named access-groups && (x && (section-stands c rules && (named references && true)))))))
+      (λ (x : Bool). named user-groups && (named host-groups && (named members && (named access-groups && from-inputs x))))
       (all-both (name-stands c inputs) (λ row. leb (letter-field row) greatest-letter) (c .records inputs))
 
 pub table-is :

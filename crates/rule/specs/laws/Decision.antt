@@ -3,17 +3,14 @@ use mathlib.Core.Path.{_≡_, refl, sym, ap, _∙_}
 use mathlib.Core.Bool.{Bool, true, false, cond, false≢true}
 use mathlib.Core.List.{List, [], _∷_, _++_, map, append-nil}
 use mathlib.Core.Option.{Option}
-use lib.Dec.{eqb, leb}
+use lib.Dec.{leb}
 use Rattle.lists.specs.Select.{select, prepend-if, first, first-if}
 use Rattle.rule.specs.declared.Access.{Access}
 use Rattle.rule.specs.declared.Access.the-variants as access
 use Rattle.rule.specs.declared.Decision.{Decision}
 use Rattle.rule.specs.Question.{Question}
 use Rattle.rule.specs.Rule.{Rule, rank, passes, greater, greatest, gives-write, trap-of}
-use Rattle.rule.specs.Decision.{no-access, granted, by-rule, decision-by, then}
-
-abbrev with-trap : Access → Bool → Decision
-with-trap a t = record { access = a; trap = t }
+use Rattle.rule.specs.Decision.{with-trap, no-access, grant, granted, by-rule, decision-by, then}
 
 -- a law of every access, by its three cases
 three : (P : Access → Type 0) → P access.None → P access.Read → P access.Write → (a : Access) → P a
@@ -94,13 +91,8 @@ module _ (q : Question) where
   decision-one : (r : Rule) → decision-by q (r ∷ []) ≡ by-rule q r
   decision-one r = decision-first r [] ∙ go (passes q r)
     where
-      full : (t : Bool) (a : Access) → then (with-trap a (cond (eqb (rank a) (rank access.Write)) t false)) no-access ≡ with-trap a (cond (eqb (rank a) (rank access.Write)) t false)
-      full t =
-          three
-          (λ a. then (with-trap a (cond (eqb (rank a) (rank access.Write)) t false)) no-access ≡ with-trap a (cond (eqb (rank a) (rank access.Write)) t false))
-          refl
-          refl
-          refl
+      full : (t : Bool) (a : Access) → then (grant a t) no-access ≡ grant a t
+      full t = three (λ a. then (grant a t) no-access ≡ grant a t) refl refl refl
 
       go : (b : Bool) → then (cond b (granted r) no-access) no-access ≡ cond b (granted r) no-access
       go true = full (r .trap) (r .permission)
@@ -121,7 +113,8 @@ module _ (q : Question) where
     gives-no-more l = sym (more ∙ go (passes q r))
       where
         adds : Access → Access → Type 0
-        adds a p = leb (rank p) (rank a) ≡ true → then (with-trap a (v .trap)) (with-trap p (cond (eqb (rank p) (rank access.Write)) (r .trap) false)) ≡ then (with-trap a (v .trap)) no-access
+        adds a p =
+            leb (rank p) (rank a) ≡ true → then (with-trap a (v .trap)) (grant p (r .trap)) ≡ then (with-trap a (v .trap)) no-access
 
         no-more : (a p : Access) → adds a p
         no-more =
@@ -140,8 +133,7 @@ module _ (q : Question) where
       where
         takes : Access → Access → Type 0
         takes a p =
-            leb (rank p) (rank a) ≡ false
-            → then (with-trap a (v .trap)) (with-trap p (cond (eqb (rank p) (rank access.Write)) (r .trap) false)) ≡ with-trap p (cond (eqb (rank p) (rank access.Write)) (r .trap) false)
+            leb (rank p) (rank a) ≡ false → then (with-trap a (v .trap)) (grant p (r .trap)) ≡ grant p (r .trap)
 
         replaced : (a p : Access) → takes a p
         replaced =

@@ -71,7 +71,8 @@ module _ (name : List ℕ → List ℕ) (rows : List (List ℕ)) where
   for-empty [] l f = f
   for-empty (b ∷ g) l f = absurd (omega arith)
 
-  pub for-named : (g : List ℕ) (i : ℕ) {r : Index} → (length g ≡ 0 → ⊥) → Finds rows (named name g rows) r → r ≡ At i → Finds rows (answering name g rows) (At i)
+  pub for-named :
+      (g : List ℕ) (i : ℕ) {r : Index} → (length g ≡ 0 → ⊥) → Finds rows (named name g rows) r → r ≡ At i → Finds rows (answering name g rows) (At i)
   for-named [] i l f e = absurd (l refl)
   for-named (b ∷ g) i l f e =
       let w = finds-at i f e in

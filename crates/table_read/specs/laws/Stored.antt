@@ -46,7 +46,8 @@ module _ (b : List ℕ) (s : Section) (i : ℕ) (h : Stored b s i) where
   fits = rw (strings-count b (stands b (h .table) .0)) at (name-within (view b) (stands b (h .table) .1) s i (h .inside))
 
   pub name-ends :
-      {o f n : ℕ} → Word (offset-of b strings-order) o → f ≡ name-run s (row (view b) s i) .first → n ≡ name-run s (row (view b) s i) .count → o + f + n ≤ length b
+      {o f n : ℕ} → Word (offset-of b strings-order) o → f ≡ name-run s (row (view b) s i) .first → n ≡ name-run s (row (view b) s i) .count
+      → o + f + n ≤ length b
   name-ends o f n = omega (arith, fits, strings-inside b (stands b (h .table) .0) .ends, o .is)
 
   pub name-read :
@@ -86,8 +87,12 @@ name-low Rules = omega arith
 name-low References = omega arith
 
 -- the words of a name
-pub name-first : (b : List ℕ) (k : coded.Section) (i : ℕ) {j r : ℕ} → j ≡ name-word k → Word (word-of b (section k) i j) r → r ≡ name-run (section k) (row (view b) (section k) i) .first
+pub name-first :
+    (b : List ℕ) (k : coded.Section) (i : ℕ) {j r : ℕ} → j ≡ name-word k → Word (word-of b (section k) i j) r
+    → r ≡ name-run (section k) (row (view b) (section k) i) .first
 name-first b k i e r = r .is ∙ ap (word-of b (section k) i) e ∙ ap (λ (q : Run). q .first) (sym (name-is k (row (view b) (section k) i)))
 
-pub name-count : (b : List ℕ) (k : coded.Section) (i : ℕ) {j r : ℕ} → j ≡ name-word k → Word (word-of b (section k) i (j + 1)) r → r ≡ name-run (section k) (row (view b) (section k) i) .count
+pub name-count :
+    (b : List ℕ) (k : coded.Section) (i : ℕ) {j r : ℕ} → j ≡ name-word k → Word (word-of b (section k) i (j + 1)) r
+    → r ≡ name-run (section k) (row (view b) (section k) i) .count
 name-count b k i e r = r .is ∙ ap (λ (x : ℕ). word-of b (section k) i (x + 1)) e ∙ ap (λ (q : Run). q .count) (sym (name-is k (row (view b) (section k) i)))

@@ -32,7 +32,8 @@ module _ {xs : List Run} {from limit : ℕ} where
   with-limit l h t = record { same = t .same; small = h }
 
   pub gap-then : Follow xs from limit Gap → (ys : List Run) (l : ℕ) → Follow (xs ++ ys) from l Gap
-  gap-then t ys l = record { same = λ more e. ap (λ (rs : List Run). in-turn from rs e) (append-assoc xs ys more) ∙ t .same (ys ++ more) e; small = omega arith }
+  gap-then t ys l =
+      record { same = λ more e. ap (λ (rs : List Run). in-turn from rs e) (append-assoc xs ys more) ∙ t .same (ys ++ more) e; small = omega arith }
 
   pub follow-on : {m l : ℕ} {ys : List Run} {r : RunEnd} → Follow xs from limit (At m) → Follow ys m l r → Follow (xs ++ ys) from l r
   follow-on {ys = ys} t u =
@@ -58,7 +59,9 @@ module _ (j : ℕ) (row : List ℕ) (at l : ℕ) where
   record-gap true t = gap-then t (run-at (j + 2) row ∷ []) l
   record-gap false t = with-limit l (omega arith) t
 
-  pub record-both : {two : Bool} {m k n : ℕ} {r : RunEnd} → two ≡ true → Follow (run-at j row ∷ []) at m (At k) → Follow (run-at (j + 2) row ∷ []) k n r → n ≤ l → Follow (runs-in two j row) at l r
+  pub record-both :
+      {two : Bool} {m k n : ℕ} {r : RunEnd} → two ≡ true → Follow (run-at j row ∷ []) at m (At k) → Follow (run-at (j + 2) row ∷ []) k n r → n ≤ l
+      → Follow (runs-in two j row) at l r
   record-both {r = r} e t u h = rw e (with-limit l (omega (arith, u .small)) (follow-on t u))
 
   pub record-one : {two : Bool} {m k : ℕ} → two ≡ false → Follow (run-at j row ∷ []) at m (At k) → m ≤ l → Follow (runs-in two j row) at l (At k)
@@ -73,7 +76,9 @@ module _ {A : Type 0} (f : A → List Run) (d : A) where
   followed-none xs from = record { same = λ more e. refl }
 
   module _ (xs : List A) (from i at : ℕ) (g : Followed xs from i at) where
-    next : i < length xs → (more : List Run) (e : ℕ) → in-turn from (joined (map f xs) ++ more) e ≡ in-turn at (f (getD xs i d) ++ (joined (map f (drop (i + 1) xs)) ++ more)) e
+    next :
+        i < length xs → (more : List Run) (e : ℕ)
+        → in-turn from (joined (map f xs) ++ more) e ≡ in-turn at (f (getD xs i d) ++ (joined (map f (drop (i + 1) xs)) ++ more)) e
     next h more e =
         g .same more e
         ∙ ap (λ (ys : List A). in-turn at (joined (map f ys) ++ more) e) (list-on xs d i h)

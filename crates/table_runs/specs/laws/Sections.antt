@@ -80,6 +80,8 @@ module _ (b : List ℕ) (n : ℕ) (h : n < 7) {m c : ℕ} (p : m ≡ most (secti
 pub counts-over : (b : List ℕ) → all (few b) sections ≡ false → counts-fit (view b) ≡ false
 counts-over b e = rw e
 
-pub counts-left : (b : List ℕ) (n : ℕ) {c : ℕ} → sections-stand b ≡ true → 7 ≤ n → c ≡ count-of b strings-order → all (few b) sections ≡ all (few b) (drop n sections) → leb c most-bytes ≡ counts-fit (view b)
+pub counts-left :
+    (b : List ℕ) (n : ℕ) {c : ℕ} → sections-stand b ≡ true → 7 ≤ n → c ≡ count-of b strings-order
+    → all (few b) sections ≡ all (few b) (drop n sections) → leb c most-bytes ≡ counts-fit (view b)
 counts-left b n h l p e =
     sym (ap₂ _&&_ (e ∙ all-end (few b) references sections n l) (ap (λ (k : ℕ). leb k most-bytes) (strings-count b h ∙ sym p)))

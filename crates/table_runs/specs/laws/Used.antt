@@ -28,7 +28,9 @@ pairs (row ∷ rows) = ap (λ (rs : List Run). users-run row ∷ hosts-run row �
 
 module _ (b : List ℕ) where
   -- the number of records that runs reach
-  pub reaches : (of : ℕ) → of < 7 → {c m from limit : ℕ} {rs : List Run} → c ≡ count-of b of → Follow rs from limit (At m) → eqb m c ≡ in-turn from rs (length (view b .records (section-at of)))
+  pub reaches :
+      (of : ℕ) → of < 7 → {c m from limit : ℕ} {rs : List Run} → c ≡ count-of b of → Follow rs from limit (At m)
+      → eqb m c ≡ in-turn from rs (length (view b .records (section-at of)))
   reaches of h {m = m} p t = ap (λ (k : ℕ). eqb m k) (p ∙ sym (rows-count b of h)) ∙ sym (follow-end (length (view b .records (section-at of))) t)
 
   group-runs : all-runs b 0 false 2 ++ all-runs b 1 false 2 ≡ map members-run (view b .records user-groups ++ view b .records host-groups)
@@ -37,13 +39,17 @@ module _ (b : List ℕ) where
       ∙ sym (map-append members-run (view b .records user-groups) (view b .records host-groups))
 
   module _ {limit : ℕ} where
-    member-runs : {r : RunEnd} → Follow (all-runs b 0 false 2 ++ all-runs b 1 false 2) 0 limit r → Follow (map members-run (view b .records user-groups ++ view b .records host-groups)) 0 limit r
+    member-runs :
+        {r : RunEnd} → Follow (all-runs b 0 false 2 ++ all-runs b 1 false 2) 0 limit r
+        → Follow (map members-run (view b .records user-groups ++ view b .records host-groups)) 0 limit r
     member-runs {r} t = subst (λ (rs : List Run). Follow rs 0 limit r) group-runs t
 
     pub members-gap : Follow (all-runs b 0 false 2 ++ all-runs b 1 false 2) 0 limit Gap → members-follow (view b) ≡ false
     members-gap t = follow-gap (length (view b .records members)) (member-runs t)
 
-    pub members-reach : {c m : ℕ} → 2 < 7 → c ≡ count-of b 2 → Follow (all-runs b 0 false 2 ++ all-runs b 1 false 2) 0 limit (At m) → eqb m c ≡ members-follow (view b)
+    pub members-reach :
+        {c m : ℕ} → 2 < 7 → c ≡ count-of b 2 → Follow (all-runs b 0 false 2 ++ all-runs b 1 false 2) 0 limit (At m)
+        → eqb m c ≡ members-follow (view b)
     members-reach h p t = reaches 2 h p (member-runs t)
 
   abbrev pub Used : ℕ → Bool → ℕ → ℕ → Bool
