@@ -1,20 +1,21 @@
--- A file is its items, one behind the other, and an ASG is its inputs and rules. What each item says stands behind its own name.
+-- A file is its items, one behind the other, and the body of an ASG is its inputs and rules. What an item says stands behind its own name.
 use mathlib.Core.Path.{_≡_, refl, sym, ap, subst, _∙_}
-use mathlib.Core.Bool.{Bool, true, false}
+use mathlib.Core.Bool.{Bool, true, _&&_}
 use mathlib.Core.List.{List, [], _∷_, _++_, map, append-nil, append-assoc, nil≢cons}
 use Rattle.lists.specs.Select.{all, joined}
-use Rattle.lists.specs.Every.{Every, nil, cons}
+use Rattle.lists.specs.Both.{both}
+use Rattle.lists.specs.Every.{Every, nil, cons, every-implies}
 use Rattle.lists.specs.Laws.{map-map}
 use Rattle.grammar.specs.declared.Role.{Role}
 use Rattle.grammar.specs.declared.Role.the-variants.{Mute, UagName, User, HagName, Host, AsgName, Input, Pvname, RuleWord, UnknownItem}
-use Rattle.grammar.specs.Production.{Sign, Symbols, end, nt, many, rb, Nonterminal}
+use Rattle.grammar.specs.Production.{Sign, Symbols, end, nt, many, Nonterminal}
 use Rattle.grammar.specs.Production.{acf-file, asconfig-item, uag-def, hag-def, asg-def, asg-body-item, inp-config, rule-config, generic-top-level-item}
 use Rattle.grammar.specs.Production.{acf-file₁, asconfig₁, asconfig-item₁, asconfig-item₂, asconfig-item₃, asconfig-item₄, uag-def₁, uag-head₁}
 use Rattle.grammar.specs.Production.{hag-def₁, hag-head₁, asg-def₁, asg-head₁, asg-body₁, asg-body-item₁, asg-body-item₂, inp-config₁, rule-config₁}
 use Rattle.grammar.specs.Production.{generic-top-level-item₁, generic-top-level-item₂, generic-top-level-item₃}
 use Rattle.grammar.specs.Production.{Derives, finish, take, expand, leave, choose, stop, repeat}
 use Rattle.grammar.specs.Reading.{Said, sign}
-use Rattle.grammar.specs.laws.Roles.{one-of, role-of, rule-roles, asg-roles, derived-roles}
+use Rattle.grammar.specs.laws.Roles.{one-of, one-of-all, role-of, rule-roles, asg-roles, derived-roles}
 
 -- the tokens xs are an x of the grammar, all of them and no other
 abbrev pub Is : Nonterminal → List Said → Type 0
@@ -81,7 +82,9 @@ record Several (x : Nonterminal) (k : Symbols) (r : List Sign) (xs : List Said) 
   spelled : map sign rest ≡ signs
   derived : Derives k signs r
 
-several : {x : Nonterminal} {k : Symbols} {r : List Sign} (xs : List Said) {s : List Sign} → map sign xs ≡ s → Derives (many (nt x end) k) s r → Several x k r xs
+several :
+    {x : Nonterminal} {k : Symbols} {r : List Sign} (xs : List Said) {s : List Sign} → map sign xs ≡ s → Derives (many (nt x end) k) s r
+    → Several x k r xs
 several xs {s = s} e (stop d) = record { items = []; rest = xs; whole = refl; each = nil; signs = s; spelled = e; derived = d }
 several {x} xs e (repeat {t = t} d m) =
     let c = cut d in
@@ -99,6 +102,7 @@ several {x} xs e (repeat {t = t} d m) =
 
 -- ---- a file is its items
 
+-- the items of a file, each an asconfig_item of 001 by itself
 pub record File-items (xs : List Said) : Type 0 where
   pub items : List (List Said)
   pub whole : joined items ≡ xs
@@ -127,10 +131,20 @@ file-items xs = go (map sign xs) refl
 
 -- ---- what an item says
 
--- What is said: first nothing, then the name (or word) h, and behind it nothing or one of rs.
+-- Tokens that say nothing, then one that says h, and behind it tokens that say nothing or one of rs.
 pub data Headed (h : Role) (rs : List Role) : List Role → Type 0 where
-  silent : {r : Role} {s : List Role} → r ≡ Mute → Headed h rs s → Headed h rs (r ∷ s)
+  before : {r : Role} {s : List Role} → r ≡ Mute → Headed h rs s → Headed h rs (r ∷ s)
   head : {r : Role} {s : List Role} → r ≡ h → Every (λ z. one-of (Mute ∷ rs) z ≡ true) s → Headed h rs (r ∷ s)
+
+-- what passes for all that may be said passes for what is said
+pub headed-all :
+    (q : Role → Bool) {h : Role} {rs s : List Role} → all q (Mute ∷ h ∷ rs) ≡ true → Headed h rs s → Every (λ r. q r ≡ true) s
+headed-all q {h} {rs} w (before e d) =
+    cons (subst (λ r. q r ≡ true) (sym e) (both (q Mute) (q h && all q rs) w .0)) (headed-all q w d)
+headed-all q {h} {rs} w (head e v) =
+    let m = both (q Mute) (q h && all q rs) w in
+    let n = both (q h) (all q rs) (m .1) in
+    cons (subst (λ r. q r ≡ true) (sym e) (n .0)) (every-implies (λ r o. one-of-all q (Mute ∷ rs) r o (rw (m .0) (n .1))) v)
 
 -- what an item of a file says: a UAG, a HAG, an ASG or an unknown item
 pub data Item (xs : List Said) : Type 0 where
@@ -145,20 +159,20 @@ pub data Asg-item (xs : List Said) : Type 0 where
   rule : Is rule-config xs → Headed RuleWord rule-roles (roles xs) → Asg-item xs
 
 -- the tokens xs have the signs s, and s has a property of what it says
-said-so : (P : List Role → Type 0) (xs : List Said) {s : List Sign} → map sign xs ≡ s → P (map role-of s) → P (roles xs)
-said-so P xs e h = subst P (ap (map role-of) (sym e) ∙ roles-signs xs) h
+from-signs : (P : List Role → Type 0) (xs : List Said) {s : List Sign} → map sign xs ≡ s → P (map role-of s) → P (roles xs)
+from-signs P xs e h = subst P (ap (map role-of) (sym e) ∙ roles-signs xs) h
 
 headed-user-group : {s : List Sign} → Derives (nt uag-def end) s [] → Headed UagName (User ∷ []) (map role-of s)
 headed-user-group (expand uag-def₁ (take (expand uag-head₁ (take (take (take finish))) b)) finish) =
-    silent refl (silent refl (head refl (cons refl (derived-roles _ b refl nil))))
+    before refl (before refl (head refl (cons refl (derived-roles _ b refl nil))))
 
 headed-host-group : {s : List Sign} → Derives (nt hag-def end) s [] → Headed HagName (Host ∷ []) (map role-of s)
 headed-host-group (expand hag-def₁ (take (expand hag-head₁ (take (take (take finish))) b)) finish) =
-    silent refl (silent refl (head refl (cons refl (derived-roles _ b refl nil))))
+    before refl (before refl (head refl (cons refl (derived-roles _ b refl nil))))
 
 headed-access-group : {s : List Sign} → Derives (nt asg-def end) s [] → Headed AsgName asg-roles (map role-of s)
 headed-access-group (expand asg-def₁ (take (expand asg-head₁ (take (take (take finish))) b)) finish) =
-    silent refl (silent refl (head refl (cons refl (derived-roles _ b refl nil))))
+    before refl (before refl (head refl (cons refl (derived-roles _ b refl nil))))
 
 headed-unknown : {s : List Sign} → Derives (nt generic-top-level-item end) s [] → Headed UnknownItem [] (map role-of s)
 headed-unknown (expand generic-top-level-item₁ (take d) finish) = head refl (derived-roles _ d refl nil)
@@ -171,24 +185,23 @@ headed-input (expand inp-config₁ (take d) finish) = head refl (derived-roles _
 headed-rule : {s : List Sign} → Derives (nt rule-config end) s [] → Headed RuleWord rule-roles (map role-of s)
 headed-rule (expand rule-config₁ (take d) finish) = head refl (derived-roles _ d refl nil)
 
--- what is headed by its signs is headed
-headed : {h : Role} {rs : List Role} (xs : List Said) → Headed h rs (map role-of (map sign xs)) → Headed h rs (roles xs)
-headed {h} {rs} xs = subst (Headed h rs) (roles-signs xs)
-
+-- every item of a file is one of these
 pub item : (xs : List Said) → Is asconfig-item xs → Item xs
-item xs (expand asconfig-item₁ d finish) = user-group d (headed xs (headed-user-group d))
-item xs (expand asconfig-item₂ d finish) = host-group d (headed xs (headed-host-group d))
-item xs (expand asconfig-item₃ d finish) = access-group d (headed xs (headed-access-group d))
-item xs (expand asconfig-item₄ d finish) = unknown d (headed xs (headed-unknown d))
+item xs (expand asconfig-item₁ d finish) = user-group d (from-signs (Headed _ _) xs refl (headed-user-group d))
+item xs (expand asconfig-item₂ d finish) = host-group d (from-signs (Headed _ _) xs refl (headed-host-group d))
+item xs (expand asconfig-item₃ d finish) = access-group d (from-signs (Headed _ _) xs refl (headed-access-group d))
+item xs (expand asconfig-item₄ d finish) = unknown d (from-signs (Headed _ _) xs refl (headed-unknown d))
 
+-- every item of an ASG is one of these
 pub asg-item : (xs : List Said) → Is asg-body-item xs → Asg-item xs
-asg-item xs (expand asg-body-item₁ d finish) = input d (headed xs (headed-input d))
-asg-item xs (expand asg-body-item₂ d finish) = rule d (headed xs (headed-rule d))
+asg-item xs (expand asg-body-item₁ d finish) = input d (from-signs (Headed _ _) xs refl (headed-input d))
+asg-item xs (expand asg-body-item₂ d finish) = rule d (from-signs (Headed _ _) xs refl (headed-rule d))
 
--- ---- an ASG is its name, and in its braces its inputs and rules
+-- ---- an ASG is its name, and between its braces its inputs and rules
 
+-- the items of an ASG, each an asg_body_item of 001 by itself
 pub record Asg-items (xs : List Said) : Type 0 where
-  -- up to the opening brace
+  -- the ASG word, the name and the opening brace
   pub opening : List Said
   pub items : List (List Said)
   -- the closing brace
@@ -208,7 +221,7 @@ asg-items xs = go (map sign xs) refl
           items = [];
           closing = [];
           whole = sym (append-nil xs);
-          opened = said-so (Headed AsgName []) xs e (silent refl (silent refl (head refl (cons refl nil))));
+          opened = from-signs (Headed AsgName []) xs e (before refl (before refl (head refl (cons refl nil))));
           each = nil;
           closed = nil;
         }
@@ -220,7 +233,7 @@ asg-items xs = go (map sign xs) refl
           items = o .items;
           closing = o .rest;
           whole = v .whole ∙ ap (λ z. v .own ++ z) (o .whole);
-          opened = said-so (Headed AsgName []) (v .own) (v .own-signs) (silent refl (silent refl (head refl (cons refl (cons refl nil)))));
+          opened = from-signs (Headed AsgName []) (v .own) (v .own-signs) (before refl (before refl (head refl (cons refl (cons refl nil)))));
           each = o .each;
-          closed = said-so (Every (λ r. one-of (Mute ∷ []) r ≡ true)) (o .rest) (o .spelled) (derived-roles _ (o .derived) refl nil);
+          closed = from-signs (Every (λ r. one-of (Mute ∷ []) r ≡ true)) (o .rest) (o .spelled) (derived-roles _ (o .derived) refl nil);
         }

@@ -1,12 +1,12 @@
 -- What the tokens of each nonterminal may say.
 use mathlib.Core.Path.{_≡_, refl, sym, ap, subst, _∙_}
-use mathlib.Core.Bool.{Bool, true, false, _&&_, _||_, false≢true}
+use mathlib.Core.Bool.{Bool, true, false, _||_, false≢true}
 use mathlib.Core.List.{List, [], _∷_, _++_, map}
 use lib.ListN.{getD}
 use borrow.Author.Tests.{eqb-true, eq-eqb}
 use Rattle.lists.specs.Select.{all, any}
 use Rattle.lists.specs.Both.{both}
-use Rattle.lists.specs.Every.{Every, nil, cons}
+use Rattle.lists.specs.Every.{Every, cons}
 use Rattle.grammar.specs.declared.Role.{Role}
 use Rattle.grammar.specs.declared.Role.the-variants.{Mute, UagName, User, HagName, Host, AsgName, Input, Pvname, RuleWord, Level, Permission}
 use Rattle.grammar.specs.declared.Role.the-variants.{LogOption, UagNamed, HagNamed, CalcWord, Calculation, UnknownItem, UnknownPredicate}
@@ -147,71 +147,71 @@ symbol-roles (opt x l) = roles-in x ++ symbol-roles l
 symbol-roles (many α l) = symbol-roles α ++ symbol-roles l
 
 -- each production keeps to the table
-keeps : {x : Nonterminal} {α : Symbols} → x ⟶ α → all (one-of (roles-in x)) (symbol-roles α) ≡ true
-keeps acf-file₁ = refl
-keeps asconfig₁ = refl
-keeps asconfig-item₁ = refl
-keeps asconfig-item₂ = refl
-keeps asconfig-item₃ = refl
-keeps asconfig-item₄ = refl
-keeps uag-def₁ = refl
-keeps uag-head₁ = refl
-keeps uag-body₁ = refl
-keeps uag-user-list₁ = refl
-keeps hag-def₁ = refl
-keeps hag-head₁ = refl
-keeps hag-body₁ = refl
-keeps hag-host-list₁ = refl
-keeps asg-def₁ = refl
-keeps asg-head₁ = refl
-keeps asg-body₁ = refl
-keeps asg-body-item₁ = refl
-keeps asg-body-item₂ = refl
-keeps inp-config₁ = refl
-keeps rule-config₁ = refl
-keeps rule-head₁ = refl
-keeps rule-head₂ = refl
-keeps rule-head-mandatory₁ = refl
-keeps rule-log-option₁ = refl
-keeps rule-body₁ = refl
-keeps rule-list₁ = refl
-keeps rule-list-item₁ = refl
-keeps rule-list-item₂ = refl
-keeps rule-list-item₃ = refl
-keeps rule-list-item₄ = refl
-keeps rule-uag-list₁ = refl
-keeps rule-hag-list₁ = refl
-keeps keyword₁ = refl
-keeps keyword₂ = refl
-keeps keyword₃ = refl
-keeps keyword₄ = refl
-keeps (non-rule-keyword₁ {r = r}) = rw (eq-eqb (role-number r) (role-number r) refl) refl
-keeps (non-rule-keyword₂ {r = r}) = rw (eq-eqb (role-number r) (role-number r) refl) refl
-keeps (non-rule-keyword₃ {r = r}) = rw (eq-eqb (role-number r) (role-number r) refl) refl
-keeps generic-head₁ = refl
-keeps generic-head₂ = refl
-keeps generic-head₃ = refl
-keeps generic-list₁ = refl
-keeps generic-element₁ = refl
-keeps generic-element₂ = refl
-keeps generic-element₃ = refl
-keeps generic-element₄ = refl
-keeps generic-block₁ = refl
-keeps generic-block₂ = refl
-keeps generic-block₃ = refl
-keeps generic-block-list₁ = refl
-keeps generic-block-elem₁ = refl
-keeps generic-block-elem-name₁ = refl
-keeps generic-block-elem-name₂ = refl
-keeps generic-top-level-item₁ = refl
-keeps generic-top-level-item₂ = refl
-keeps generic-top-level-item₃ = refl
-keeps generic-list-block₁ = refl
-keeps rule-generic-block-elem₁ = refl
-keeps rule-generic-block-elem-name₁ = refl
-keeps rule-generic-block-elem-name₂ = refl
+production-roles : {x : Nonterminal} {α : Symbols} → x ⟶ α → all (one-of (roles-in x)) (symbol-roles α) ≡ true
+production-roles acf-file₁ = refl
+production-roles asconfig₁ = refl
+production-roles asconfig-item₁ = refl
+production-roles asconfig-item₂ = refl
+production-roles asconfig-item₃ = refl
+production-roles asconfig-item₄ = refl
+production-roles uag-def₁ = refl
+production-roles uag-head₁ = refl
+production-roles uag-body₁ = refl
+production-roles uag-user-list₁ = refl
+production-roles hag-def₁ = refl
+production-roles hag-head₁ = refl
+production-roles hag-body₁ = refl
+production-roles hag-host-list₁ = refl
+production-roles asg-def₁ = refl
+production-roles asg-head₁ = refl
+production-roles asg-body₁ = refl
+production-roles asg-body-item₁ = refl
+production-roles asg-body-item₂ = refl
+production-roles inp-config₁ = refl
+production-roles rule-config₁ = refl
+production-roles rule-head₁ = refl
+production-roles rule-head₂ = refl
+production-roles rule-head-mandatory₁ = refl
+production-roles rule-log-option₁ = refl
+production-roles rule-body₁ = refl
+production-roles rule-list₁ = refl
+production-roles rule-list-item₁ = refl
+production-roles rule-list-item₂ = refl
+production-roles rule-list-item₃ = refl
+production-roles rule-list-item₄ = refl
+production-roles rule-uag-list₁ = refl
+production-roles rule-hag-list₁ = refl
+production-roles keyword₁ = refl
+production-roles keyword₂ = refl
+production-roles keyword₃ = refl
+production-roles keyword₄ = refl
+production-roles (non-rule-keyword₁ {r = r}) = rw (eq-eqb (role-number r) (role-number r) refl) refl
+production-roles (non-rule-keyword₂ {r = r}) = rw (eq-eqb (role-number r) (role-number r) refl) refl
+production-roles (non-rule-keyword₃ {r = r}) = rw (eq-eqb (role-number r) (role-number r) refl) refl
+production-roles generic-head₁ = refl
+production-roles generic-head₂ = refl
+production-roles generic-head₃ = refl
+production-roles generic-list₁ = refl
+production-roles generic-element₁ = refl
+production-roles generic-element₂ = refl
+production-roles generic-element₃ = refl
+production-roles generic-element₄ = refl
+production-roles generic-block₁ = refl
+production-roles generic-block₂ = refl
+production-roles generic-block₃ = refl
+production-roles generic-block-list₁ = refl
+production-roles generic-block-elem₁ = refl
+production-roles generic-block-elem-name₁ = refl
+production-roles generic-block-elem-name₂ = refl
+production-roles generic-top-level-item₁ = refl
+production-roles generic-top-level-item₂ = refl
+production-roles generic-top-level-item₃ = refl
+production-roles generic-list-block₁ = refl
+production-roles rule-generic-block-elem₁ = refl
+production-roles rule-generic-block-elem-name₁ = refl
+production-roles rule-generic-block-elem-name₂ = refl
 
--- ---- what is derived keeps to the table
+-- ---- what is derived production-roles to the table
 
 abbrev pub role-of : Sign → Role
 role-of (k says r) = r
@@ -226,11 +226,11 @@ module _ (q : Role → Bool) where
   derived-roles (take {a = a says b} {k = k} d) h e = let w = both (q b) (all q (symbol-roles k)) h in cons (w .0) (derived-roles d (w .1) e)
   derived-roles (expand {x = x} {α = α} {k = k} p d c) h e =
       let w = all-split q (roles-in x) (symbol-roles k) h in
-      derived-roles d (all-of-all q (symbol-roles α) (roles-in x) (keeps p) (w .0)) (derived-roles c (w .1) e)
+      derived-roles d (all-of-all q (symbol-roles α) (roles-in x) (production-roles p) (w .0)) (derived-roles c (w .1) e)
   derived-roles (leave {x = x} {k = k} d) h e = derived-roles d (all-split q (roles-in x) (symbol-roles k) h .1) e
   derived-roles (choose {x = x} {α = α} {k = k} p d c) h e =
       let w = all-split q (roles-in x) (symbol-roles k) h in
-      derived-roles d (all-of-all q (symbol-roles α) (roles-in x) (keeps p) (w .0)) (derived-roles c (w .1) e)
+      derived-roles d (all-of-all q (symbol-roles α) (roles-in x) (production-roles p) (w .0)) (derived-roles c (w .1) e)
   derived-roles (stop {α = α} {k = k} d) h e = derived-roles d (all-split q (symbol-roles α) (symbol-roles k) h .1) e
   derived-roles (repeat {α = α} {k = k} d c) h e =
       derived-roles d (all-split q (symbol-roles α) (symbol-roles k) h .0) (derived-roles c h e)
