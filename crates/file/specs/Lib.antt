@@ -8,3 +8,4 @@ pub mod Warning
 pub mod Load
 pub mod Counted
 pub mod Theorem
+pub mod laws

@@ -8,3 +8,4 @@ pub mod Stopping
 pub mod Theorem
 pub mod Inputs
 pub mod OneStop
+pub mod laws
