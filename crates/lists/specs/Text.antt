@@ -2,7 +2,7 @@
 use mathlib.Core.Bool.{Bool, true, false, cond, _&&_, _||_}
 use mathlib.Core.List.{List, [], _∷_, map}
 use Prim.Native.Nat.{ℕ, _+_, _-_, _*_}
-use Prim.Native.Char.{code}
+use Prim.Native.Char.{Char, code}
 use Prim.Native.String as text
 use Prim.Native.String.{String}
 use lib.Dec.{eqb, leb}
@@ -28,21 +28,21 @@ one-of (c ∷ cs) b = eqb b c || one-of cs b
 abbrev pub among : String → ℕ → Bool
 among s b = one-of (bytes s) b
 
--- b lies in a range, its ends included
-abbrev pub within : ℕ → ℕ → ℕ → Bool
-within lo hi b = leb lo b && leb b hi
+-- b is a character of a range, its ends included
+abbrev pub within : Char → Char → ℕ → Bool
+within lo hi b = leb (code lo) b && leb b (code hi)
 
 abbrev pub digit : ℕ → Bool
-digit = within 48 57
+digit = within "0" "9"
 
 abbrev pub capital : ℕ → Bool
-capital = within 65 90
+capital = within "A" "Z"
 
 abbrev pub small : ℕ → Bool
-small = within 97 122
+small = within "a" "z"
 
 abbrev pub lower-byte : ℕ → ℕ
-lower-byte b = cond (capital b) (b + 32) b
+lower-byte b = cond (capital b) (b + (code "a" - code "A")) b
 
 -- ASCII letters in lower case, all else as it is
 abbrev pub lowered : List ℕ → List ℕ
@@ -51,4 +51,4 @@ lowered = map lower-byte
 -- the whole number that decimal digits spell, after those that make up n
 abbrev pub whole : ℕ → List ℕ → ℕ
 whole n [] = n
-whole n (d ∷ ds) = whole (n * 10 + (d - 48)) ds
+whole n (d ∷ ds) = whole (n * 10 + (d - code "0")) ds
