@@ -22,7 +22,7 @@ module _ {A : Type 0} (p : A → Bool) where
 -- only a number begins with a figure
 pub figure-byte : (b : ℕ) (s : List ℕ) → start b s ≡ figure → numeral-byte b ≡ true
 figure-byte b s e =
-    go (among " \t" b) (numeral-byte b) (within "A" "U" b) (within "a" "u" b) (first (λ x. same (x .spelled) (take (length (x .spelled)) (b ∷ s))) spellings) (b - 65) (b - 97) e
+    go (among " \t" b) (numeral-byte b) (within 65 85 b) (within 97 117 b) (first (λ x. same (x .spelled) (take (length (x .spelled)) (b ∷ s))) spellings) (b - 65) (b - 97) e
   where
     go :
         (p q u v : Bool) (o : Option Spelling) (i j : ℕ)

@@ -91,8 +91,8 @@ abbrev pub start : ℕ → List ℕ → Start
 start b s =
     cond (among " \t" b) blank
     (cond (numeral-byte b) figure
-    (cond (within "A" "U" b) (sign (letter (b - code "A")) 0)
-    (cond (within "a" "u" b) (sign (letter (b - code "a")) 0)
+    (cond (within (code "A") (code "U") b) (sign (letter (b - code "A")) 0)
+    (cond (within (code "a") (code "u") b) (sign (letter (b - code "a")) 0)
     (sign-of (first (λ x. same (x .spelled) (take (length (x .spelled)) (b ∷ s))) spellings)))))
 
 abbrev pub then : Symbol → Option (List Symbol) → Option (List Symbol)

@@ -2,7 +2,7 @@
 use mathlib.Core.Bool.{Bool, true, false, cond, _&&_, _||_}
 use mathlib.Core.List.{List, [], _∷_, map}
 use Prim.Native.Nat.{ℕ, _+_, _-_, _*_}
-use Prim.Native.Char.{Char, code}
+use Prim.Native.Char.{code}
 use Prim.Native.String as text
 use Prim.Native.String.{String}
 use lib.Dec.{eqb, leb}
@@ -28,18 +28,18 @@ one-of (c ∷ cs) b = eqb b c || one-of cs b
 abbrev pub among : String → ℕ → Bool
 among s b = one-of (bytes s) b
 
--- b is a character of a range, its ends included
-abbrev pub within : Char → Char → ℕ → Bool
-within lo hi b = leb (code lo) b && leb b (code hi)
+-- b lies in a range, its ends included
+abbrev pub within : ℕ → ℕ → ℕ → Bool
+within lo hi b = leb lo b && leb b hi
 
 abbrev pub digit : ℕ → Bool
-digit = within "0" "9"
+digit = within (code "0") (code "9")
 
 abbrev pub capital : ℕ → Bool
-capital = within "A" "Z"
+capital = within (code "A") (code "Z")
 
 abbrev pub small : ℕ → Bool
-small = within "a" "z"
+small = within (code "a") (code "z")
 
 abbrev pub lower-byte : ℕ → ℕ
 lower-byte b = cond (capital b) (b + (code "a" - code "A")) b

@@ -50,7 +50,7 @@ float s = fraction (after digit (unsigned s))
 
 -- 001: INP(link) ::= "INP" link-letter, link-letter ::= "A" | "B" | ... | "U"
 abbrev pub inp : List ℕ → Bool
-inp s = same (take 3 s) (bytes "INP") && (eqb (length s) 4 && within "A" "U" (getD s 3 0))
+inp s = same (take 3 s) (bytes "INP") && (eqb (length s) 4 && within (code "A") (code "U") (getD s 3 0))
 
 -- 01: "letter 0 to 20"
 abbrev pub greatest-letter : ℕ
