@@ -3,6 +3,7 @@ use mathlib.Core.Bool.{Bool, _&&_, _||_, cond}
 use mathlib.Core.List.{List, [], _∷_, _++_}
 use mathlib.Core.Option.{Option, none, some}
 use Prim.Native.Nat.{ℕ, zero, suc, _+_, _-_, _^_}
+use Prim.Native.Char.{code}
 use lib.Dec.{leb}
 use Prim.Native.String.{String}
 use lib.ListN.{length, take, drop}
@@ -90,8 +91,8 @@ abbrev pub start : ℕ → List ℕ → Start
 start b s =
     cond (among " \t" b) blank
     (cond (numeral-byte b) figure
-    (cond (within 65 85 b) (sign (letter (b - 65)) 0)
-    (cond (within 97 117 b) (sign (letter (b - 97)) 0)
+    (cond (within (code "A") (code "U") b) (sign (letter (b - code "A")) 0)
+    (cond (within (code "a") (code "u") b) (sign (letter (b - code "a")) 0)
     (sign-of (first (λ x. same (x .spelled) (take (length (x .spelled)) (b ∷ s))) spellings)))))
 
 abbrev pub then : Symbol → Option (List Symbol) → Option (List Symbol)

@@ -8,6 +8,7 @@ use lib.ListN.{length}
 use Rattle.lists.specs.Text.{same}
 use Rattle.lists.specs.Select.{holds-of, missing, all, any, select, first}
 use Rattle.token.specs.Word.{link-letter}
+use Rattle.grammar.specs.declared.Role.{Role}
 use Rattle.grammar.specs.declared.Role.the-variants.{UagName, HagName, AsgName, Input, RuleWord, Level, Permission, LogOption, CalcWord, Calculation}
 use Rattle.grammar.specs.Reading.{Said}
 use Rattle.calculation.specs.Expression.{Tree}
@@ -58,16 +59,25 @@ item s x = holds-of (item-of (x .role)) (λ t. eqb (order t) (order s))
 abbrev pub too-many : Context → Bool
 too-many c = holds-of (item-of (c .here .role)) (λ s. leb (most s) (length (select (item s) (c .before))))
 
--- where a name or a letter may stand once. 7: "two UAG, two HAG or two ASG of one name (bytes compared), one INP letter twice in an ASG, a second CALC in a RULE"
-abbrev pub scope : Context → List Said
-scope c =
-    cond (says Input (c .here)) (until AsgName (c .before))
-    (cond (says CalcWord (c .here)) (until RuleWord (c .before))
-    (cond (says UagName (c .here) || says HagName (c .here) || says AsgName (c .here)) (c .before) []))
+-- a token of the role q that some of the tokens xs repeat: they have its role and its text
+abbrev pub again : Role → List Said → Context → Bool
+again q xs c = says q (c .here) && any (λ x. says (x .role) (c .here) && same (text x) (text (c .here))) xs
+
+-- 7: "two UAG, two HAG or two ASG of one name (bytes compared)"
+abbrev pub name-again : Context → Bool
+name-again c = again UagName (c .before) c || (again HagName (c .before) c || again AsgName (c .before) c)
+
+-- 7: "one INP letter twice in an ASG": the INP word has its letter in it
+abbrev pub letter-again : Context → Bool
+letter-again c = again Input (until AsgName (c .before)) c
+
+-- 7: "a second CALC in a RULE"
+abbrev pub calc-again : Context → Bool
+calc-again c = again CalcWord (until RuleWord (c .before)) c
 
 -- 7: "name or letter given again"
 abbrev pub given-again : Context → Bool
-given-again c = any (λ x. says (x .role) (c .here) && same (text x) (text (c .here))) (scope c)
+given-again c = name-again c || (letter-again c || calc-again c)
 
 -- 8: "level neither 0 nor 1"
 abbrev pub bad-level : Context → Bool

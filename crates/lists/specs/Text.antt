@@ -33,16 +33,16 @@ abbrev pub within : ℕ → ℕ → ℕ → Bool
 within lo hi b = leb lo b && leb b hi
 
 abbrev pub digit : ℕ → Bool
-digit = within 48 57
+digit = within (code "0") (code "9")
 
 abbrev pub capital : ℕ → Bool
-capital = within 65 90
+capital = within (code "A") (code "Z")
 
 abbrev pub small : ℕ → Bool
-small = within 97 122
+small = within (code "a") (code "z")
 
 abbrev pub lower-byte : ℕ → ℕ
-lower-byte b = cond (capital b) (b + 32) b
+lower-byte b = cond (capital b) (b + (code "a" - code "A")) b
 
 -- ASCII letters in lower case, all else as it is
 abbrev pub lowered : List ℕ → List ℕ
@@ -51,4 +51,4 @@ lowered = map lower-byte
 -- the whole number that decimal digits spell, after those that make up n
 abbrev pub whole : ℕ → List ℕ → ℕ
 whole n [] = n
-whole n (d ∷ ds) = whole (n * 10 + (d - 48)) ds
+whole n (d ∷ ds) = whole (n * 10 + (d - code "0")) ds

@@ -16,7 +16,7 @@ use Rattle.grammar.specs.Reading.{Said}
 use Rattle.kept.specs.Kept.{Arrays, kind-of-number, said-at, said-from}
 use Rattle.file.specs.Limit.{Section, most, item-of}
 use Rattle.file.specs.Contents.{says, text, texts, until}
-use Rattle.file.specs.Refusal.{Context, too-long, item, too-many, scope, given-again, bad-level, unknown-word, letters-given, bad-calculation}
+use Rattle.file.specs.Refusal.{Context, too-long, item, too-many, again, given-again, bad-level, unknown-word, letters-given, bad-calculation}
 use Rattle.texts.specs.Rolls.{arrays}
 use Rattle.texts.specs.Seek.{seek}
 
@@ -92,21 +92,20 @@ too-many-bare c = go (item-of (c .here .role))
     go none = refl
     go (some s) = rw (select-bare (item s) (λ x. refl) (c .before), length-map (select (item s) (c .before)) bare)
 
-scope-bare : (c : Context) → scope (bare-context c) ≡ map bare (scope c)
-scope-bare c = rw (until-bare AsgName (c .before), until-bare RuleWord (c .before)) (go (says Input (c .here)) (says CalcWord (c .here)) (says UagName (c .here) || says HagName (c .here) || says AsgName (c .here)))
-  where
-    go :
-        (i k n : Bool) → cond i (map bare (until AsgName (c .before))) (cond k (map bare (until RuleWord (c .before))) (cond n (map bare (c .before)) []))
-        ≡ map bare (cond i (until AsgName (c .before)) (cond k (until RuleWord (c .before)) (cond n (c .before) [])))
-    go true k n = refl
-    go false true n = refl
-    go false false true = refl
-    go false false false = refl
+again-bare : (q : Role) (xs ys : List Said) (c : Context) → xs ≡ map bare ys → again q xs (bare-context c) ≡ again q ys c
+again-bare q xs ys c e =
+    let f : Said → Bool = λ x. says (x .role) (c .here) && same (text x) (text (c .here)) in
+    ap (λ (b : Bool). says q (c .here) && b) (ap (any f) e ∙ any-map f bare ys)
 
 pub given-again-bare : (c : Context) → given-again (bare-context c) ≡ given-again c
 given-again-bare c =
-    ap (any (λ (x : Said). says (x .role) (c .here) && same (text x) (text (c .here)))) (scope-bare c)
-    ∙ any-map (λ x. says (x .role) (c .here) && same (text x) (text (c .here))) bare (scope c)
+    rw (
+      again-bare UagName (map bare (c .before)) (c .before) c refl,
+      again-bare HagName (map bare (c .before)) (c .before) c refl,
+      again-bare AsgName (map bare (c .before)) (c .before) c refl,
+      again-bare Input (until AsgName (map bare (c .before))) (until AsgName (c .before)) c (until-bare AsgName (c .before)),
+      again-bare CalcWord (until RuleWord (map bare (c .before))) (until RuleWord (c .before)) c (until-bare RuleWord (c .before)),
+    )
 
 letters-bare : (c : Context) → letters-given (bare-context c) ≡ letters-given c
 letters-bare c =

@@ -2,6 +2,7 @@
 use mathlib.Core.Bool.{Bool, true, false, _&&_, _||_, not, cond}
 use mathlib.Core.List.{List, [], _∷_}
 use Prim.Native.Nat.{ℕ, _-_}
+use Prim.Native.Char.{code}
 use lib.Dec.{eqb}
 use lib.ListN.{length, getD, take}
 use Rattle.lists.specs.Text.{bytes, same, among, within, digit, capital, small}
@@ -49,7 +50,7 @@ float s = fraction (after digit (unsigned s))
 
 -- 001: INP(link) ::= "INP" link-letter, link-letter ::= "A" | "B" | ... | "U"
 abbrev pub inp : List ℕ → Bool
-inp s = same (take 3 s) (bytes "INP") && (eqb (length s) 4 && within 65 85 (getD s 3 0))
+inp s = same (take 3 s) (bytes "INP") && (eqb (length s) 4 && within (code "A") (code "U") (getD s 3 0))
 
 -- 01: "letter 0 to 20"
 abbrev pub greatest-letter : ℕ
@@ -57,7 +58,7 @@ greatest-letter = 20
 
 -- the number of an INP word's letter, A being 0
 abbrev pub link-letter : List ℕ → ℕ
-link-letter s = getD s 3 0 - 65
+link-letter s = getD s 3 0 - code "A"
 
 -- 01: "It is a keyword if it is UAG, HAG, ASG, RULE, CALC or INP with one letter A to U; else an INT or a FLOAT if it has 001's form; else a STRING."
 abbrev pub word-kind : List ℕ → Kind
