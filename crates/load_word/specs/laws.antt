@@ -1,3 +1,4 @@
 pub mod Leaf
 pub mod Begun
 pub mod Digits
+pub mod Words

@@ -1,3 +1,4 @@
+use Rattle.load_word.specs.laws.Words.{is-uag, is-hag, is-asg, is-rule, is-calc, is-inp, is-int, is-float, is-string}
 use mathlib.Core.Path.{sym, _∙_}
 use borrow.Author.Needs.{needs}
 use Rattle.load_word.proofs.word_kind.Statement.{statement}
@@ -10,7 +11,10 @@ equal-requires : tie.Need-equal-requires
 equal-requires c κs = search needs
 
 returns : tie.Need-returns
-returns c = rw (sym (c .before .equal .ensures) ∙ c .if1 .taken)
+returns c =
+    let at-equal = c .before in
+    let w = at-equal .before .before .before .args .w .now in
+    is-uag w (sym (at-equal .equal .ensures) ∙ c .if1 .taken)
 
 slice-aggregate-equal-2 : tie.Need-slice-aggregate-equal-2
 slice-aggregate-equal-2 c = search needs
@@ -23,7 +27,8 @@ returns-2 c =
     let at-equal2 = c .before in
     let at-if1 = at-equal2 .before .before in
     let at-equal = at-if1 .before in
-    rw (sym (at-equal .equal .ensures) ∙ at-if1 .if1 .left, sym (at-equal2 .equal2 .ensures) ∙ c .if2 .taken)
+    let w = at-equal .before .before .before .args .w .now in
+    is-hag w (sym (at-equal .equal .ensures) ∙ at-if1 .if1 .left) (sym (at-equal2 .equal2 .ensures) ∙ c .if2 .taken)
 
 slice-aggregate-equal-3 : tie.Need-slice-aggregate-equal-3
 slice-aggregate-equal-3 c = search needs
@@ -38,11 +43,11 @@ returns-3 c =
     let at-equal2 = at-if2 .before in
     let at-if1 = at-equal2 .before .before in
     let at-equal = at-if1 .before in
-    rw (
-      sym (at-equal .equal .ensures) ∙ at-if1 .if1 .left,
-      sym (at-equal2 .equal2 .ensures) ∙ at-if2 .if2 .left,
-      sym (at-equal3 .equal3 .ensures) ∙ c .if3 .taken,
-    )
+    let w = at-equal .before .before .before .args .w .now in
+    is-asg w
+    (sym (at-equal .equal .ensures) ∙ at-if1 .if1 .left)
+    (sym (at-equal2 .equal2 .ensures) ∙ at-if2 .if2 .left)
+    (sym (at-equal3 .equal3 .ensures) ∙ c .if3 .taken)
 
 slice-aggregate-equal-4 : tie.Need-slice-aggregate-equal-4
 slice-aggregate-equal-4 c = search needs
@@ -59,12 +64,12 @@ returns-4 c =
     let at-equal2 = at-if2 .before in
     let at-if1 = at-equal2 .before .before in
     let at-equal = at-if1 .before in
-    rw (
-      sym (at-equal .equal .ensures) ∙ at-if1 .if1 .left,
-      sym (at-equal2 .equal2 .ensures) ∙ at-if2 .if2 .left,
-      sym (at-equal3 .equal3 .ensures) ∙ at-if3 .if3 .left,
-      sym (at-equal4 .equal4 .ensures) ∙ c .if4 .taken,
-    )
+    let w = at-equal .before .before .before .args .w .now in
+    is-rule w
+    (sym (at-equal .equal .ensures) ∙ at-if1 .if1 .left)
+    (sym (at-equal2 .equal2 .ensures) ∙ at-if2 .if2 .left)
+    (sym (at-equal3 .equal3 .ensures) ∙ at-if3 .if3 .left)
+    (sym (at-equal4 .equal4 .ensures) ∙ c .if4 .taken)
 
 slice-aggregate-equal-5 : tie.Need-slice-aggregate-equal-5
 slice-aggregate-equal-5 c = search needs
@@ -83,13 +88,13 @@ returns-5 c =
     let at-equal2 = at-if2 .before in
     let at-if1 = at-equal2 .before .before in
     let at-equal = at-if1 .before in
-    rw (
-      sym (at-equal .equal .ensures) ∙ at-if1 .if1 .left,
-      sym (at-equal2 .equal2 .ensures) ∙ at-if2 .if2 .left,
-      sym (at-equal3 .equal3 .ensures) ∙ at-if3 .if3 .left,
-      sym (at-equal4 .equal4 .ensures) ∙ at-if4 .if4 .left,
-      sym (at-equal5 .equal5 .ensures) ∙ c .if5 .taken,
-    )
+    let w = at-equal .before .before .before .args .w .now in
+    is-calc w
+    (sym (at-equal .equal .ensures) ∙ at-if1 .if1 .left)
+    (sym (at-equal2 .equal2 .ensures) ∙ at-if2 .if2 .left)
+    (sym (at-equal3 .equal3 .ensures) ∙ at-if3 .if3 .left)
+    (sym (at-equal4 .equal4 .ensures) ∙ at-if4 .if4 .left)
+    (sym (at-equal5 .equal5 .ensures) ∙ c .if5 .taken)
 
 is-input-requires : tie.Need-is-input-requires
 is-input-requires c κs = search needs
@@ -107,14 +112,14 @@ returns-6 c =
     let at-equal2 = at-if2 .before in
     let at-if1 = at-equal2 .before .before in
     let at-equal = at-if1 .before in
-    rw (
-      sym (at-equal .equal .ensures) ∙ at-if1 .if1 .left,
-      sym (at-equal2 .equal2 .ensures) ∙ at-if2 .if2 .left,
-      sym (at-equal3 .equal3 .ensures) ∙ at-if3 .if3 .left,
-      sym (at-equal4 .equal4 .ensures) ∙ at-if4 .if4 .left,
-      sym (at-equal5 .equal5 .ensures) ∙ at-if5 .if5 .left,
-      sym (at-is-input .is-input .ensures) ∙ c .if6 .taken,
-    )
+    let w = at-equal .before .before .before .args .w .now in
+    is-inp w
+    (sym (at-equal .equal .ensures) ∙ at-if1 .if1 .left)
+    (sym (at-equal2 .equal2 .ensures) ∙ at-if2 .if2 .left)
+    (sym (at-equal3 .equal3 .ensures) ∙ at-if3 .if3 .left)
+    (sym (at-equal4 .equal4 .ensures) ∙ at-if4 .if4 .left)
+    (sym (at-equal5 .equal5 .ensures) ∙ at-if5 .if5 .left)
+    (sym (at-is-input .is-input .ensures) ∙ c .if6 .taken)
 
 is-int-requires : tie.Need-is-int-requires
 is-int-requires c κs = search needs
@@ -134,15 +139,15 @@ returns-7 c =
     let at-equal2 = at-if2 .before in
     let at-if1 = at-equal2 .before .before in
     let at-equal = at-if1 .before in
-    rw (
-      sym (at-equal .equal .ensures) ∙ at-if1 .if1 .left,
-      sym (at-equal2 .equal2 .ensures) ∙ at-if2 .if2 .left,
-      sym (at-equal3 .equal3 .ensures) ∙ at-if3 .if3 .left,
-      sym (at-equal4 .equal4 .ensures) ∙ at-if4 .if4 .left,
-      sym (at-equal5 .equal5 .ensures) ∙ at-if5 .if5 .left,
-      sym (at-is-input .is-input .ensures) ∙ at-if6 .if6 .left,
-      sym (at-is-int .is-int .ensures) ∙ c .if7 .taken,
-    )
+    let w = at-equal .before .before .before .args .w .now in
+    is-int w
+    (sym (at-equal .equal .ensures) ∙ at-if1 .if1 .left)
+    (sym (at-equal2 .equal2 .ensures) ∙ at-if2 .if2 .left)
+    (sym (at-equal3 .equal3 .ensures) ∙ at-if3 .if3 .left)
+    (sym (at-equal4 .equal4 .ensures) ∙ at-if4 .if4 .left)
+    (sym (at-equal5 .equal5 .ensures) ∙ at-if5 .if5 .left)
+    (sym (at-is-input .is-input .ensures) ∙ at-if6 .if6 .left)
+    (sym (at-is-int .is-int .ensures) ∙ c .if7 .taken)
 
 is-float-requires : tie.Need-is-float-requires
 is-float-requires c κs = search needs
@@ -164,16 +169,16 @@ returns-8 c =
     let at-equal2 = at-if2 .before in
     let at-if1 = at-equal2 .before .before in
     let at-equal = at-if1 .before in
-    rw (
-      sym (at-equal .equal .ensures) ∙ at-if1 .if1 .left,
-      sym (at-equal2 .equal2 .ensures) ∙ at-if2 .if2 .left,
-      sym (at-equal3 .equal3 .ensures) ∙ at-if3 .if3 .left,
-      sym (at-equal4 .equal4 .ensures) ∙ at-if4 .if4 .left,
-      sym (at-equal5 .equal5 .ensures) ∙ at-if5 .if5 .left,
-      sym (at-is-input .is-input .ensures) ∙ at-if6 .if6 .left,
-      sym (at-is-int .is-int .ensures) ∙ at-if7 .if7 .left,
-      sym (at-is-float .is-float .ensures) ∙ c .if8 .taken,
-    )
+    let w = at-equal .before .before .before .args .w .now in
+    is-float w
+    (sym (at-equal .equal .ensures) ∙ at-if1 .if1 .left)
+    (sym (at-equal2 .equal2 .ensures) ∙ at-if2 .if2 .left)
+    (sym (at-equal3 .equal3 .ensures) ∙ at-if3 .if3 .left)
+    (sym (at-equal4 .equal4 .ensures) ∙ at-if4 .if4 .left)
+    (sym (at-equal5 .equal5 .ensures) ∙ at-if5 .if5 .left)
+    (sym (at-is-input .is-input .ensures) ∙ at-if6 .if6 .left)
+    (sym (at-is-int .is-int .ensures) ∙ at-if7 .if7 .left)
+    (sym (at-is-float .is-float .ensures) ∙ c .if8 .taken)
 
 returns-9 : tie.Need-returns-9
 returns-9 c =
@@ -192,16 +197,16 @@ returns-9 c =
     let at-equal2 = at-if2 .before in
     let at-if1 = at-equal2 .before .before in
     let at-equal = at-if1 .before in
-    rw (
-      sym (at-equal .equal .ensures) ∙ at-if1 .if1 .left,
-      sym (at-equal2 .equal2 .ensures) ∙ at-if2 .if2 .left,
-      sym (at-equal3 .equal3 .ensures) ∙ at-if3 .if3 .left,
-      sym (at-equal4 .equal4 .ensures) ∙ at-if4 .if4 .left,
-      sym (at-equal5 .equal5 .ensures) ∙ at-if5 .if5 .left,
-      sym (at-is-input .is-input .ensures) ∙ at-if6 .if6 .left,
-      sym (at-is-int .is-int .ensures) ∙ at-if7 .if7 .left,
-      sym (at-is-float .is-float .ensures) ∙ c .if8 .left,
-    )
+    let w = at-equal .before .before .before .args .w .now in
+    is-string w
+    (sym (at-equal .equal .ensures) ∙ at-if1 .if1 .left)
+    (sym (at-equal2 .equal2 .ensures) ∙ at-if2 .if2 .left)
+    (sym (at-equal3 .equal3 .ensures) ∙ at-if3 .if3 .left)
+    (sym (at-equal4 .equal4 .ensures) ∙ at-if4 .if4 .left)
+    (sym (at-equal5 .equal5 .ensures) ∙ at-if5 .if5 .left)
+    (sym (at-is-input .is-input .ensures) ∙ at-if6 .if6 .left)
+    (sym (at-is-int .is-int .ensures) ∙ at-if7 .if7 .left)
+    (sym (at-is-float .is-float .ensures) ∙ c .if8 .left)
 
 pub word-kind-spec : {M : Type 1} → statement M
 word-kind-spec =
