@@ -4,7 +4,7 @@
 
 use std::path::PathBuf;
 
-const NAME: &str = "gateway";
+const NAME: &str = "hrazvanut";
 
 fn folder() -> PathBuf {
     match std::env::var_os("HRAZVANUT_LIB") {

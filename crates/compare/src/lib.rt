@@ -6,7 +6,7 @@ pub fn lower(b: u8) -> u8
     ensures { λ r. ⌜ r ≡ lower-byte b ⌝ }
 {
     match b {
-        65..=90 => b + 32,
+        b'A'..=b'Z' => b + 32,
         _ => b,
     }
 }

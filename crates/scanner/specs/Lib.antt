@@ -1,6 +1,4 @@
-pub mod Start
-pub mod Number
-pub mod Quote
-pub mod Filled
-pub mod Steps
+pub mod Found
+pub mod Stored
 pub mod Answer
+pub mod laws

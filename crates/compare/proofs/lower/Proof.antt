@@ -3,22 +3,16 @@ use native.Mathlib.Omega.{arith}
 use borrow.Author.Needs.{needs}
 use Rattle.compare.proofs.lower.Statement.{statement}
 use Rattle.compare.proofs.lower.Tie as tie
-use Rattle.compare.proofs.lower.Reads as reads
-use Rattle.compare.proofs.lower.Lts as lts
 
--- src/lib.rt:9:20
 add-result : tie.Need-add-result
 add-result c = search needs
 
--- src/lib.rt:5:1
 returns : tie.Need-returns
 returns c = let b = c .before .before .args .b in rw (le-leb 65 b (omega arith), le-leb b 90 (omega arith))
 
--- src/lib.rt:5:1
 returns-2 : tie.Need-returns-2
 returns-2 c = let b = c .before .args .b in rw (lt-leb 65 b (omega arith))
 
--- src/lib.rt:5:1
 returns-3 : tie.Need-returns-3
 returns-3 c = let b = c .before .before .args .b in rw (le-leb 65 b (omega arith), lt-leb b 90 (omega arith))
 

@@ -1,7 +1,7 @@
 use native.Mathlib.Omega.{arith}
 use lib.ListN.{length}
 use Rattle.hear.specs.Heard.{bad-heard, all-heard}
-use Rattle.scanner.specs.Answer.{whole, bad-byte}
+use Rattle.scanner.specs.laws.Answers.{whole, bad-byte}
 use borrow.Author.Needs.{needs}
 use Rattle.hear.proofs.listen.Statement.{statement}
 use Rattle.hear.proofs.listen.Tie as tie

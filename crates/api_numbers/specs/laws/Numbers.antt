@@ -1,0 +1,60 @@
+-- Laws of the numbers of answers.
+use mathlib.Core.Path.{_≡_, sym, ap}
+use mathlib.Core.Bool.{Bool, true, false}
+use Prim.Native.Nat.{ℕ, _+_, _≤_, _<_}
+use native.Mathlib.Omega.{arith}
+use Rattle.rule.specs.declared.Access.{Access}
+use Rattle.rule.specs.declared.Access.the-variants as access
+use Rattle.rule.specs.Rule.{rank}
+use Rattle.file.specs.declared.Refusal.{Refusal}
+use Rattle.file.specs.declared.Refusal.the-variants as cause
+use Rattle.file.specs.Refusal as refusal
+use Rattle.load.specs.declared.Loaded.{Loaded}
+use Rattle.load.specs.declared.Loaded.the-variants as loaded
+use Rattle.load.specs.declared.Listed.{Listed}
+use Rattle.load.specs.declared.Listed.the-variants as listed
+use Rattle.decision.specs.declared.Answer.{Answer}
+use Rattle.decision.specs.declared.Answer.the-variants as answer
+use Rattle.decision.specs.declared.Found.{Found}
+use Rattle.decision.specs.declared.Found.the-variants as found
+use Rattle.api_numbers.specs.Numbers.{packed, load-number, listed-number, answer-number, found-number}
+
+pub refusal-small : (k : Refusal) → refusal.number k < 256
+refusal-small cause.FileTooLong = omega arith
+refusal-small cause.BadByte = omega arith
+refusal-small cause.TooDeep = omega arith
+refusal-small cause.Ungrammatical = omega arith
+refusal-small cause.StringTooLong = omega arith
+refusal-small cause.TooMany = omega arith
+refusal-small cause.GivenAgain = omega arith
+refusal-small cause.BadLevel = omega arith
+refusal-small cause.UnknownWord = omega arith
+refusal-small cause.BadCalculation = omega arith
+refusal-small cause.NoRoom = omega arith
+
+pub rank-small : (a : Access) → rank a ≤ 2
+rank-small access.None = omega arith
+rank-small access.Read = omega arith
+rank-small access.Write = omega arith
+
+pub loaded-is : {l : Loaded} {n m : ℕ} → l ≡ loaded.Accepted n m → packed n m 0 ≡ load-number l
+loaded-is e = sym (ap load-number e)
+
+pub loaded-refused : {l : Loaded} {k : Refusal} {p : ℕ} → l ≡ loaded.Refused k p → packed p 0 (refusal.number k) ≡ load-number l
+loaded-refused e = sym (ap load-number e)
+
+pub listed-is : {l : Listed} {n : ℕ} → l ≡ listed.Warnings n → packed n 0 0 ≡ listed-number l
+listed-is e = sym (ap listed-number e)
+
+pub listed-refused : {l : Listed} {k : Refusal} {p : ℕ} → l ≡ listed.Refused k p → packed p 0 (refusal.number k) ≡ listed-number l
+listed-refused e = sym (ap listed-number e)
+
+module _ {x : Answer} {a : Access} {t : Bool} where
+  pub trap-is : t ≡ true → x ≡ answer.Answered a t → rank a + 4 ≡ answer-number x
+  trap-is b e = rw (e, b)
+
+  pub no-trap-is : t ≡ false → x ≡ answer.Answered a t → rank a ≡ answer-number x
+  no-trap-is b e = rw (e, b) (omega arith)
+
+pub found-is : {x : Found} {at n : ℕ} → x ≡ found.Part at n → packed at n 0 ≡ found-number x
+found-is e = sym (ap found-number e)

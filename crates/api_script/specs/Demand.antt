@@ -1,0 +1,32 @@
+-- Demand 3 of one run: a load, any calls, a question. See demand/specs/Front.antt.
+use mathlib.Core.Path.{_≡_}
+use mathlib.Core.Bool.{true}
+use mathlib.Core.List.{List}
+use Prim.Native.Nat.{ℕ, _≤_}
+use Rattle.grammar.specs.Reading.{Said}
+use Rattle.calculation.specs.declared.Reading.{Reading}
+use Rattle.calculation.specs.Readings.{Gone-bad}
+use Rattle.rule.specs.Question.{Question, reading-instead}
+use Rattle.rule.specs.Rule.{rank}
+use Rattle.file.specs.Says.{Text-says}
+use Rattle.load.specs.Load.{load}
+use Rattle.decision.specs.Decision.{access-in, decide}
+use Rattle.edition.specs.Edition.{Edition, access-later, Says-no}
+use Rattle.demand.specs.Calls.{Call, after-calls, is-accepted, No-accepted-load}
+use Rattle.api_script.specs.declared.Asked.{Asked}
+
+-- Of the lent bytes, a text, the calls between, a question, the lent bytes afterwards and what was answered.
+pub record Never-more (lent s : List ℕ) (between : List Call) (q : Question) (after : List ℕ) (r : Asked) : Type 0 where
+  -- each call is the one that the definitions say
+  pub loaded : r .loaded ≡ load lent s .answer
+  pub bytes : after ≡ after-calls (load lent s .bytes) between
+  pub answer : r .answer ≡ decide (after-calls (load lent s .bytes) between) q
+  -- what we don't know never gives more access: whichever readings went bad before the question was asked, the access is at most that of the
+  -- readings as they were, in every edition; and it is exactly that of an edition that says no to every unknown predicate, with the same readings
+  pub never-more :
+      is-accepted (r .loaded) ≡ true
+      → (xs : List Said) → Text-says s xs
+      → No-accepted-load (load lent s .bytes) between
+      → (e : Edition)
+      → ((were : List Reading) → Gone-bad were (q .readings) → rank (access-in (r .answer)) ≤ rank (access-later e xs (reading-instead q were)))
+      × (Says-no e q xs → access-in (r .answer) ≡ access-later e xs q)

@@ -1,0 +1,4 @@
+pub mod Script
+pub mod Replies
+pub mod Demand
+pub mod laws

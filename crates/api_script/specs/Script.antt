@@ -1,0 +1,60 @@
+-- A script of calls, in numbers, so that a program can lend one. 01, "What the contracts owe": "any sequence of calls".
+use mathlib.Core.List.{List, [], _∷_}
+use Prim.Native.Nat.{ℕ, zero, suc, _+_, _*_, _/_, _%_}
+use lib.ListN.{length, getD}
+use lib.Ieee.{Float}
+use Rattle.calculation.specs.declared.Reading.{Reading}
+use Rattle.api_readings.specs.Readings.{readings}
+use Rattle.kept.specs.Kept.{between}
+use Rattle.demand.specs.Calls.{Call, load-text, list-warnings, calculate, check-table, ask, look-up-input}
+
+-- The words are 16 for each call:
+--   0       what is called: see call-of
+--   1 to 6  three texts, each from where to where it stands in the pool
+--   7       a level or a letter
+--   8       where the 21 readings begin in states and values
+-- The others say nothing. What stands beyond an end is no byte, the number 0; of readings see api_readings/specs.
+pub record Script : Type 0 where
+  pub words : List ℕ
+  pub pool : List ℕ
+  pub states : List ℕ
+  pub values : List Float
+
+abbrev pub script-of : List ℕ → List ℕ → List ℕ → List Float → Script
+script-of ws p ss vs = record { words = ws; pool = p; states = ss; values = vs }
+
+-- what a number calls, of three texts, a level or letter, and readings: 0 a load, and so on; 5 and more a look-up
+abbrev pub call-of : ℕ → List ℕ → List ℕ → List ℕ → ℕ → List Reading → Call
+call-of what a b c n rs =
+    getD
+    (load-text a ∷ list-warnings a ∷ calculate a rs ∷ check-table ∷ ask (record { group = a; user = b; host = c; level = n; readings = rs }) ∷ [])
+    what
+    (look-up-input a n)
+
+-- the j-th word of the i-th call
+abbrev pub word : List ℕ → ℕ → ℕ → ℕ
+word words i j = getD words (i * 16 + j) 0
+
+-- the text that two words give, the j-th and the next
+abbrev pub text-at : List ℕ → List ℕ → ℕ → ℕ → List ℕ
+text-at words pool i j = between pool (word words i j) (word words i (j + 1))
+
+-- the i-th call of a script; a level and a letter are bytes
+abbrev pub call-at : Script → ℕ → Call
+call-at s i =
+    call-of
+    (word (s .words) i 0)
+    (text-at (s .words) (s .pool) i 1)
+    (text-at (s .words) (s .pool) i 3)
+    (text-at (s .words) (s .pool) i 5)
+    (word (s .words) i 7 % 256)
+    (readings (s .states) (s .values) (word (s .words) i 8))
+
+-- n calls from the i-th on
+unfoldable pub calls-from : Script → ℕ → ℕ → List Call
+calls-from s i zero = []
+calls-from s i (suc n) = call-at s i ∷ calls-from s (i + 1) n
+
+-- the calls of a script: one for each 16 words
+abbrev pub calls : Script → List Call
+calls s = calls-from s 0 (length (s .words) / 16)

@@ -1,0 +1,68 @@
+// A script of calls in numbers: its words and texts, and what its calls answer.
+use decision::Answer;
+use decision::Found;
+use evaluate::Worth;
+use load::Listed;
+use load::Loaded;
+ghost use mathlib.Core.Path.{_≡_};
+ghost use Prim.Native.Nat.{_+_, _*_, _%_, _≤_, _<_};
+ghost use lib.ListN.{length};
+ghost use Rattle.kept.specs.Kept.{between};
+ghost use Rattle.api_script.specs.Script.{word, text-at};
+
+// The answers of a load and of a question after it.
+pub struct Asked {
+    pub loaded: Loaded,
+    pub answer: Answer,
+}
+
+// What a call answers.
+pub enum Reply {
+    Loaded(Loaded),
+    Listed(Listed),
+    Valued(Worth),
+    Checked(bool),
+    Answered(Answer),
+    Found(Found),
+}
+
+// What stands in the pool between two places, as far as it goes.
+fn part<'a>(pool: &'a [u8], from: usize, to: usize) -> &'a [u8]
+    ensures { λ r. ⌜ now r ≡ between (now (pool .entry)) from to ⌝ }
+{
+    let n = pool.len();
+    if to <= from {
+        return &pool[0..0];
+    }
+    if n <= from {
+        return &pool[0..0];
+    }
+    if n <= to {
+        return &pool[from..n];
+    }
+    &pool[from..to]
+}
+
+// The j-th word of the i-th call. The caller, api_sequence, asks for calls that stand in the script whole.
+pub fn word(script: &[u16], i: usize, j: usize) -> usize
+    requires { ⌜ (i * 16 + 16 ≤ length (now script)) × (j < 16) ⌝ }
+    ensures { λ r. ⌜ r ≡ word (now (script .entry)) i j ⌝ }
+{
+    kept::wide(script[i * 16 + j])
+}
+
+// The lower byte of a word.
+pub fn byte(script: &[u16], i: usize, j: usize) -> u8
+    requires { ⌜ (i * 16 + 16 ≤ length (now script)) × (j < 16) ⌝ }
+    ensures { λ r. ⌜ r ≡ word (now (script .entry)) i j % 256 ⌝ }
+{
+    (word(script, i, j) % 256) as u8
+}
+
+// The text that the j-th word of the i-th call and the next give.
+pub fn text_at<'a>(script: &[u16], pool: &'a [u8], i: usize, j: usize) -> &'a [u8]
+    requires { ⌜ (i * 16 + 16 ≤ length (now script)) × (j + 1 < 16) ⌝ }
+    ensures { λ r. ⌜ now r ≡ text-at (now (script .entry)) (now (pool .entry)) i j ⌝ }
+{
+    part(pool, word(script, i, j), word(script, i, j + 1))
+}

@@ -1,4 +1,0 @@
-pub mod Script
-pub mod Answers
-pub mod Door
-pub mod Laws

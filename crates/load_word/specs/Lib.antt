@@ -1,0 +1,4 @@
+pub mod Start
+pub mod Class
+pub mod Number
+pub mod laws

@@ -1,0 +1,4 @@
+pub mod Leaf
+pub mod Begun
+pub mod Digits
+pub mod Words
