@@ -3,29 +3,21 @@ use mathlib.Core.Path.{_∙_, sym, ap}
 use mathlib.Core.Bool.{cond}
 use lib.ListN.{getD}
 use borrow.Author.Needs.{needs}
-use Rattle.hear.proofs.place_of.Statement.{statement}
-use Rattle.hear.proofs.place_of.Tie as tie
-use Rattle.hear.proofs.place_of.Reads as reads
-use Rattle.hear.proofs.place_of.Lts as lts
-use Rattle.kept.proofs.wide.Reads as wide-reads
+use Rattle.load_syntax.proofs.place_of.Statement.{statement}
+use Rattle.load_syntax.proofs.place_of.Tie as tie
 
--- src/lib.rt:21:27
 mul-wide : tie.Need-mul-wide
 mul-wide c = search needs
 
--- src/lib.rt:21:27
 shared-slice-read-wide : tie.Need-shared-slice-read-wide
 shared-slice-read-wide c = search needs
 
--- src/lib.rt:21:16
 wide-requires : tie.Need-wide-requires
 wide-requires c κs = search needs
 
--- src/lib.rt:17:1
 returns : tie.Need-returns
 returns c = c .wide .ensures ∙ sym (rw (lt-ltb (c .before .before .before .before .args .i) (c .before .before .before .before .args .n) (c .before .before .if1 .taken)))
 
--- src/lib.rt:17:1
 returns-2 : tie.Need-returns-2
 returns-2 c = sym (rw (le-ltb (c .before .before .args .i) (c .before .before .args .n) (c .if1 .left)))
 
