@@ -1,21 +1,15 @@
-use Rattle.warn.specs.Code.{named-found, named-nowhere}
+use Rattle.load_warnings.specs.laws.Code.{named-found, named-nowhere}
 use mathlib.Core.Path.{sym}
 use borrow.Author.Needs.{needs}
-use Rattle.warn.proofs.undefined.Statement.{statement}
-use Rattle.warn.proofs.undefined.Tie as tie
-use Rattle.warn.proofs.undefined.Reads as reads
-use Rattle.warn.proofs.undefined.Lts as lts
-use Rattle.texts.proofs.position.Reads as position-reads
+use Rattle.load_warnings.proofs.undefined.Statement.{statement}
+use Rattle.load_warnings.proofs.undefined.Tie as tie
 
--- src/lib.rt:27:8
 position-requires : tie.Need-position-requires
 position-requires c κs = search needs
 
--- src/lib.rt:28:9
 returns : tie.Need-returns
 returns c = sym (named-found (c .before .before .before .before .before .before .args .s .now) (c .before .before .before .before .before .before .args .starts .now) (c .before .before .before .before .before .before .args .ends .now) (c .before .before .before .before .before .before .args .names .now) (c .before .before .before .before .before .before .args .i) (rw (c .before .position .ensures) at (c .if1 .taken)))
 
--- src/lib.rt:23:1
 returns-2 : tie.Need-returns-2
 returns-2 c = sym (named-nowhere (c .before .before .before .before .before .before .args .s .now) (c .before .before .before .before .before .before .args .starts .now) (c .before .before .before .before .before .before .args .ends .now) (c .before .before .before .before .before .before .args .names .now) (c .before .before .before .before .before .before .args .i) (rw (c .before .position .ensures) at (c .if1 .left)))
 

@@ -1,8 +1,8 @@
--- The warning of a kept token, as a number.
+-- The number of a token's warning, from its role and the names of the groups.
 use mathlib.Core.Path.{_≡_, refl, ap, _∙_}
 use mathlib.Core.Bool.{Bool, true, false, cond, not, _&&_, _||_}
 use mathlib.Core.List.{List, _∷_, map}
-use mathlib.Core.Option.{Option, none, some}
+use mathlib.Core.Option.{none, some}
 use Prim.Native.Nat.{ℕ, zero, suc, _≤_, _<_}
 use native.Mathlib.Omega.{arith}
 use lib.Dec.{eqb, ltb}
@@ -11,30 +11,14 @@ use borrow.Author.Tests.{eqb-true, eq-eqb, ne-eqb, lt-ltb, le-ltb}
 use Rattle.lists.specs.Text.{same}
 use Rattle.lists.specs.Select.{any}
 use Rattle.kept.specs.Kept.{Arrays, role-of-number, said-at, said-from}
-use Rattle.file.specs.declared.Warning.{Warning}
 use Rattle.file.specs.declared.Warning.the-variants.{UnknownItem, UnknownPredicate, UndefinedGroup}
 use Rattle.file.specs.Contents.{says, text}
-use Rattle.file.specs.Warning.{number, warning-of}
+use Rattle.file.specs.Warning.{warning-of}
 use Rattle.texts.specs.Rolls.{Telling, same-number}
 use Rattle.texts.specs.Lies.{text-at}
 use Rattle.texts.specs.Listed.{indices}
 use Rattle.texts.specs.Spot.{spot, spot-any}
-
--- 0 for no warning
-abbrev pub code-of : Option Warning → ℕ
-code-of none = 0
-code-of (some w) = number w
-
--- 3 if none of some tokens has the text of the i-th
-abbrev pub named-code : List ℕ → List ℕ → List ℕ → List ℕ → ℕ → ℕ
-named-code s starts ends names i = cond (any (λ u. same u (text-at s starts ends i)) (map (text-at s starts ends) names)) 0 3
-
-abbrev pub code-at : List ℕ → List ℕ → List ℕ → List ℕ → List ℕ → List ℕ → ℕ → ℕ
-code-at s starts ends roles uags hags i =
-    cond (eqb (getD roles i 0) 16) 1
-    (cond (eqb (getD roles i 0) 17) 2
-    (cond (eqb (getD roles i 0) 12) (named-code s starts ends uags i)
-    (cond (eqb (getD roles i 0) 13) (named-code s starts ends hags i) 0)))
+use Rattle.load_warnings.specs.Code.{code-of, named-code, code-at}
 
 -- ---- a name among others, by its place
 

@@ -1,28 +1,21 @@
-use Rattle.warn.specs.Told.{wrote-in, wrote-out, wrote-skip}
+use Rattle.load_warnings.specs.laws.Filled.{wrote-in, wrote-out, wrote-skip}
 use mathlib.Core.Path.{sym}
 use borrow.Author.Needs.{needs}
-use Rattle.warn.proofs.put_number.Statement.{statement}
-use Rattle.warn.proofs.put_number.Tie as tie
-use Rattle.warn.proofs.put_number.Reads as reads
-use Rattle.warn.proofs.put_number.Lts as lts
+use Rattle.load_warnings.proofs.put_number.Statement.{statement}
+use Rattle.load_warnings.proofs.put_number.Tie as tie
 
--- src/lib.rt:60:13
 slice-write-numbers : tie.Need-slice-write-numbers
 slice-write-numbers c = search needs
 
--- src/lib.rt:55:1
 same-length : tie.Need-same-length
 same-length c = search needs
 
--- src/lib.rt:55:1
 returns : tie.Need-returns
 returns c = sym (wrote-in (c .before .before .args .skip) (c .before .before .args .k) (c .before .before .args .numbers .now) (c .before .before .args .w) (c .before .if1 .taken))
 
--- src/lib.rt:55:1
 returns-2 : tie.Need-returns-2
 returns-2 c = sym (wrote-out (c .before .before .args .skip) (c .before .before .args .k) (c .before .before .args .numbers .now) (c .before .before .args .w) (c .before .if1 .taken) (c .if2 .left))
 
--- src/lib.rt:55:1
 returns-3 : tie.Need-returns-3
 returns-3 c = sym (wrote-skip (c .before .args .skip) (c .before .args .k) (c .before .args .numbers .now) (c .before .args .w) (c .if1 .left))
 

@@ -1,4 +1,4 @@
--- The warnings of kept tokens, told from one of them on.
+-- The loop that writes the warnings.
 use mathlib.Core.Path.{_≡_, refl, sym, ap, _∙_}
 use mathlib.Core.Bool.{Bool, true, false, cond}
 use mathlib.Core.List.{List, [], _∷_, map}
@@ -15,26 +15,14 @@ use Rattle.kept.specs.Stores.{kept-in}
 use Rattle.file.specs.declared.Warning.{Warning}
 use Rattle.file.specs.declared.Warning.the-variants.{UnknownItem, UnknownPredicate, UndefinedGroup}
 use Rattle.file.specs.Contents.{place}
-use Rattle.file.specs.Warning.{number, Warned, warning-of, with-place, warnings-among, warnings}
+use Rattle.file.specs.Warning.{Warned, warning-of, with-place, warnings-among}
 use Rattle.texts.specs.Rolls.{tokens, tokens-none, tokens-step}
 use Rattle.texts.specs.Listed.{indices}
-use Rattle.warn.specs.Code.{code-of, code-at, code-is}
-
--- the warnings of n kept tokens
-abbrev pub told : List ℕ → List ℕ → List ℕ → List ℕ → List ℕ → ℕ → List Warned
-told s places starts ends roles n = warnings (said-from s (kept-in [] places starts ends) roles 0 n)
-
-abbrev pub numbers-of : List Warned → List ℕ
-numbers-of ws = map (λ w. number (w .warning)) ws
-
-abbrev pub places-of : List Warned → List ℕ
-places-of ws = map (λ w. w .place) ws
+use Rattle.load_warnings.specs.laws.Code.{code-is}
+use Rattle.load_warnings.specs.Code.{code-of, code-at}
+use Rattle.load_warnings.specs.Filled.{warnings-of, numbers-of, places-of, wrote, Filled}
 
 -- ---- values written from the skip-th on
-
--- a value is the k-th: it is written if skip stand before it, and if there is room
-abbrev pub wrote : ℕ → ℕ → List ℕ → ℕ → List ℕ
-wrote skip k b v = cond (leb skip k) (set b (k - skip) v) b
 
 pub length-wrote : (skip k : ℕ) (b : List ℕ) (v : ℕ) → length (wrote skip k b v) ≡ length b
 length-wrote skip k b v = go (leb skip k)
@@ -101,13 +89,6 @@ module _ (x : Said) (ws : List Warned) where
 
 -- ---- the loop over the tokens
 
--- r warnings, of which b became c by writing the numbers and a became d by writing the places, from the skip-th warning
--- on and as many as there is room for
-pub record Told (ws : List Warned) (skip : ℕ) (b c a d : List ℕ) (r : ℕ) : Type 0 where
-  pub count : r ≡ length ws
-  pub numbers : c ≡ sets b 0 (drop skip (numbers-of ws))
-  pub places : d ≡ sets a 0 (drop skip (places-of ws))
-
 module _ (s places starts ends roles : List ℕ) (n : ℕ) where
   abbrev file : List Said
   file = said-from s (kept-in [] places starts ends) roles 0 n
@@ -116,37 +97,37 @@ module _ (s places starts ends roles : List ℕ) (n : ℕ) where
   here i = said-at s (kept-in [] places starts ends) roles i
 
   -- the number of the i-th token's warning
-  abbrev pub told-code : ℕ → ℕ
-  told-code i = code-of (warning-of file (here i))
+  abbrev pub code-here : ℕ → ℕ
+  code-here i = code-of (warning-of file (here i))
 
   -- the warnings from the i-th token on
   abbrev pub rest : ℕ → List Warned
   rest i = warnings-among file (tokens s (kept-in [] places starts ends) roles i n)
 
-  pub told-is : (uags hags : List ℕ) (w i : ℕ) → uags ≡ indices 1 roles 0 n → hags ≡ indices 3 roles 0 n → w ≡ code-at s starts ends roles uags hags i → w ≡ told-code i
-  told-is uags hags w i u h e = e ∙ rw (u, h) (sym (code-is s (kept-in [] places starts ends) roles n i))
+  pub code-here-is : (uags hags : List ℕ) (w i : ℕ) → uags ≡ indices 1 roles 0 n → hags ≡ indices 3 roles 0 n → w ≡ code-at s starts ends roles uags hags i → w ≡ code-here i
+  code-here-is uags hags w i u h e = e ∙ rw (u, h) (sym (code-is s (kept-in [] places starts ends) roles n i))
 
   rest-step : (i : ℕ) → i < n → rest i ≡ with-place (warning-of file (here i)) (here i) (rest (i + 1))
   rest-step i h = ap (warnings-among file) (tokens-step s (kept-in [] places starts ends) roles i n h)
 
-  rest-first : rest 0 ≡ told s places starts ends roles n
+  rest-first : rest 0 ≡ warnings-of s places starts ends roles n
   rest-first = let z : n - 0 ≡ n = omega arith in ap (λ (m : ℕ). warnings-among file (said-from s (kept-in [] places starts ends) roles 0 m)) z
 
   rest-none : (i : ℕ) → n ≤ i → rest i ≡ []
   rest-none i h = ap (warnings-among file) (tokens-none s (kept-in [] places starts ends) roles i n h)
 
--- with k warnings told before the i-th token, what is left to tell comes to all
+-- with k warnings written before the i-th token, what is left to write comes to all
 module _ (s places starts ends roles : List ℕ) (n skip : ℕ) (numbers₀ at₀ : List ℕ) where
-  pub record To-tell (b a : List ℕ) (k i : ℕ) : Type 0 where
+  pub record Filling (b a : List ℕ) (k i : ℕ) : Type 0 where
     pub few : k ≤ i
-    pub count : k + length (rest s places starts ends roles n i) ≡ length (told s places starts ends roles n)
-    pub numbers-left : written skip k b (numbers-of (rest s places starts ends roles n i)) ≡ sets numbers₀ 0 (drop skip (numbers-of (told s places starts ends roles n)))
-    pub places-left : written skip k a (places-of (rest s places starts ends roles n i)) ≡ sets at₀ 0 (drop skip (places-of (told s places starts ends roles n)))
+    pub count : k + length (rest s places starts ends roles n i) ≡ length (warnings-of s places starts ends roles n)
+    pub numbers-left : written skip k b (numbers-of (rest s places starts ends roles n i)) ≡ sets numbers₀ 0 (drop skip (numbers-of (warnings-of s places starts ends roles n)))
+    pub places-left : written skip k a (places-of (rest s places starts ends roles n i)) ≡ sets at₀ 0 (drop skip (places-of (warnings-of s places starts ends roles n)))
     pub long-numbers : length b ≡ length numbers₀
     pub long-at : length a ≡ length at₀
 
-  pub tell-first : To-tell numbers₀ at₀ 0 0
-  tell-first =
+  pub fill-first : Filling numbers₀ at₀ 0 0
+  fill-first =
       let z : 0 - skip ≡ 0 = omega arith in
       let y : skip - 0 ≡ skip = omega arith in
       let f = rest-first s places starts ends roles n in
@@ -159,10 +140,10 @@ module _ (s places starts ends roles : List ℕ) (n skip : ℕ) (numbers₀ at�
         long-at = refl;
       }
 
-  pub tell-hit :
-      {b c a d : List ℕ} {k i w : ℕ} → i < n → w ≡ told-code s places starts ends roles n i → (w ≡ 0 → ⊥)
-      → c ≡ wrote skip k b w → d ≡ wrote skip k a (getD places i 0) → To-tell b a k i → To-tell c d (k + 1) (i + 1)
-  tell-hit {b} {c} {a} {d} {k} {i} {w} h e g p q l =
+  pub fill-warning :
+      {b c a d : List ℕ} {k i w : ℕ} → i < n → w ≡ code-here s places starts ends roles n i → (w ≡ 0 → ⊥)
+      → c ≡ wrote skip k b w → d ≡ wrote skip k a (getD places i 0) → Filling b a k i → Filling c d (k + 1) (i + 1)
+  fill-warning {b} {c} {a} {d} {k} {i} {w} h e g p q l =
       let f = rest-step s places starts ends roles n i h in
       let o = warning-of (file s places starts ends roles n) (here s places starts ends roles n i) in
       let x = here s places starts ends roles n i in
@@ -177,8 +158,8 @@ module _ (s places starts ends roles : List ℕ) (n skip : ℕ) (numbers₀ at�
         long-at = rw q (length-wrote skip k a (getD places i 0) ∙ l .long-at);
       }
 
-  pub tell-miss : {b a : List ℕ} {k i w : ℕ} → i < n → w ≡ told-code s places starts ends roles n i → w ≡ 0 → To-tell b a k i → To-tell b a k (i + 1)
-  tell-miss {b} {a} {k} {i} {w} h e g l =
+  pub fill-none : {b a : List ℕ} {k i w : ℕ} → i < n → w ≡ code-here s places starts ends roles n i → w ≡ 0 → Filling b a k i → Filling b a k (i + 1)
+  fill-none {b} {a} {k} {i} {w} h e g l =
       let f = rest-step s places starts ends roles n i h ∙ no-more (here s places starts ends roles n i) (rest s places starts ends roles n (i + 1)) (warning-of (file s places starts ends roles n) (here s places starts ends roles n i)) (sym e ∙ g) in
       record {
         few = omega (arith, l .few);
@@ -189,8 +170,8 @@ module _ (s places starts ends roles : List ℕ) (n skip : ℕ) (numbers₀ at�
         long-at = l .long-at;
       }
 
-  pub tell-end : {b a : List ℕ} {k i : ℕ} → n ≤ i → To-tell b a k i → Told (told s places starts ends roles n) skip numbers₀ b at₀ a k
-  tell-end {b} {a} {k} {i} h l =
+  pub fill-end : {b a : List ℕ} {k i : ℕ} → n ≤ i → Filling b a k i → Filled (warnings-of s places starts ends roles n) skip numbers₀ b at₀ a k
+  fill-end {b} {a} {k} {i} h l =
       let f = rest-none s places starts ends roles n i h in
       record {
         count = omega (arith, l .count, ap length f);
