@@ -48,30 +48,6 @@ use Rattle.hear.specs.Heard.{kept, at-last}
 use Rattle.loader.specs.Heard.{Final, verdict-long}
 use Rattle.loader.specs.Over.{over}
 
--- ---- an accepted file has few groups
-
-module _ (s : List ℕ) (a : Arrays) (roles : List ℕ) (n : ℕ) (e : verdict s ≡ accept (said-from s a roles 0 n)) where
-  pub few-users : tally 1 roles 0 n ≤ 64
-  unfolding sum
-  few-users =
-      let xs = said-from s a roles 0 n in
-      let c = clear (contexts xs) (unanswered (contexts xs) (accepted-is s xs e .uncaused)) .few in
-      omega (arith, tally-is s a roles 1 0 n (record { some = omega arith; known = omega arith }), length-sum (texts UagName xs), sum-texts UagName (λ t. 1) xs, counted-roles user-groups (UagName ∷ []) (λ x. once x .user-group) xs c)
-
-  pub few-hosts : tally 3 roles 0 n ≤ 64
-  unfolding sum
-  few-hosts =
-      let xs = said-from s a roles 0 n in
-      let c = clear (contexts xs) (unanswered (contexts xs) (accepted-is s xs e .uncaused)) .few in
-      omega (arith, tally-is s a roles 3 0 n (record { some = omega arith; known = omega arith }), length-sum (texts HagName xs), sum-texts HagName (λ t. 1) xs, counted-roles host-groups (HagName ∷ []) (λ x. once x .host-group) xs c)
-
--- what is asked where the tokens of an accepted file are written for
-pub record Ready (s places starts ends roles : List ℕ) (n : ℕ) : Type 0 where
-  pub lie : Lie s starts ends roles n
-  pub has-places : n ≤ length places
-  pub user-groups : tally 1 roles 0 n ≤ 64
-  pub host-groups : tally 3 roles 0 n ≤ 64
-
 -- ---- what is answered
 
 -- the tokens that define groups, as they were collected
