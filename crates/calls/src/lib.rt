@@ -90,7 +90,7 @@ fn call_reading(
     if what == 1 {
         let mut numbers = [0u8; 64];
         let mut at = [0u16; 64];
-        return Told::Listed(loader::list_warnings(a, 0, &mut numbers, &mut at));
+        return Told::Listed(load_listing::list_warnings(a, 0, &mut numbers, &mut at));
     }
     if what == 2 {
         return Told::Valued(evaluate::value(a, rs));

@@ -122,7 +122,7 @@ pub extern "C" fn hrazvanut_list_warnings(
 ) -> u64
     ensures { λ r. ⌜ Lists (listing skip (now (numbers .entry)) (now (places .entry)) (now (text .entry))) (now (numbers .exit)) (now (places .exit)) r ⌝ }
 {
-    listed_number(loader::list_warnings(text, skip, numbers, places))
+    listed_number(load_listing::list_warnings(text, skip, numbers, places))
 }
 
 #[no_mangle]

@@ -11,6 +11,12 @@ ghost use Rattle.load_judge.specs.Judged.{Judged-tokens, Judged};
 use file::Refusal;
 use load_syntax::Judgment;
 
+// How long the arrays of the callers are. A text has no more tokens than bytes, and clearing arrays for the longest text takes
+// as long as loading a short one.
+pub const SHORT: usize = 2048;
+
+pub const LONGEST: usize = 16384;
+
 // How many causes there are.
 const CAUSES: usize = 6;
 

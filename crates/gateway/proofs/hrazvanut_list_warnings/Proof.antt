@@ -5,7 +5,7 @@ use Rattle.gateway.proofs.hrazvanut_list_warnings.Tie as tie
 use Rattle.gateway.proofs.hrazvanut_list_warnings.Reads as reads
 use Rattle.gateway.proofs.hrazvanut_list_warnings.Lts as lts
 use Rattle.gateway.proofs.listed_number.Reads as listed-number-reads
-use Rattle.loader.proofs.list_warnings.Reads as list-warnings-reads
+use Rattle.load_listing.proofs.list_warnings.Reads as list-warnings-reads
 
 -- src/lib.rt:125:19
 list-warnings-requires : tie.Need-list-warnings-requires

@@ -1,54 +1,37 @@
--- From what was heard to what a load answers and leaves.
+-- From the verdict on a text to what a load answers and leaves.
 use mathlib.Core.Path.{_≡_, refl, sym, ap, subst, _∙_}
-use mathlib.Core.Bool.{Bool, true, false, not, _&&_, false≢true}
-use mathlib.Core.List.{List, [], _∷_, _++_, map}
-use mathlib.Core.Option.{Option, none, some}
-use Prim.Native.Nat.{ℕ, zero, suc, _+_, _-_, _≤_, _<_}
-use native.Mathlib.Omega.{arith}
+use mathlib.Core.Bool.{Bool, true, false, false≢true}
+use mathlib.Core.List.{List, [], _++_}
+use Prim.Native.Nat.{ℕ, _≤_, _<_}
 use lib.Dec.{leb}
-use borrow.Author.Tests.{le-leb, lt-leb, leb-true, leb-false}
 use lib.ListN.{length, drop}
-use Rattle.lists.specs.Text.{same}
-use Rattle.lists.specs.Sums.{sum, length-sum}
-use Rattle.grammar.specs.declared.Role.{Role}
-use Rattle.grammar.specs.declared.Role.the-variants.{UagName, HagName}
-use Rattle.grammar.specs.declared.Role.the-variants as role
-use Rattle.grammar.specs.Reading.{Said}
-use Rattle.kept.specs.Kept.{Arrays, kind-of-number, said-at, said-from}
+use borrow.Author.Tests.{le-leb, lt-leb, leb-true, leb-false}
+use Rattle.kept.specs.Kept.{Arrays, said-from}
 use Rattle.kept.specs.Stores.{kept-in}
-use Rattle.file.specs.declared.Warning as warning
-use Rattle.file.specs.Limit.{user-groups, host-groups, most-bytes}
-use Rattle.file.specs.Contents.{says, text, place, texts, file-of}
-use Rattle.file.specs.Refusal.{contexts}
-use Rattle.file.specs.Counted.{once, clear, sum-texts, counted-roles}
+use Rattle.file.specs.Limit.{most-bytes}
+use Rattle.file.specs.Contents.{file-of}
 use Rattle.file.specs.declared.Refusal.{Refusal}
 use Rattle.file.specs.declared.Refusal.the-variants.{FileTooLong, NoRoom}
-use Rattle.file.specs.Load.{refuse, accept, verdict}
-use Rattle.file.specs.Theorem.{accepted-is, unanswered}
-use Rattle.file.specs.Warning.{number, undefined, warning-of, with-place, warnings-among, warnings}
+use Rattle.file.specs.Load.{accept}
+use Rattle.file.specs.Warning.{warnings}
 use Rattle.table.specs.Layout.{greatest-table}
 use Rattle.table.specs.Written.{table-of}
 use Rattle.table.specs.Accepted.{fits}
 use Rattle.table.specs.Theorem.{table-length}
-use Rattle.texts.specs.Rolls.{Lie, tally, tally-is}
-use Rattle.texts.specs.Bare.{any-map}
-use Rattle.load.specs.declared.Listed.the-variants.{Warnings, Refused}
 use Rattle.load.specs.declared.Loaded.the-variants as loaded
 use Rattle.load.specs.Load.{Outcome, by-verdict, load}
-use Rattle.load.specs.Listing.{listing}
-use Rattle.warn.specs.Told.{Told, told}
+use Rattle.texts.specs.Listed.{indices}
 use Rattle.writer.specs.declared.Written.{Written}
 use Rattle.writer.specs.declared.Written.the-variants as written
 use Rattle.writer.specs.Table.{table-told, Wrote}
 use Rattle.writer.specs.Whole.{table-is}
-use Rattle.texts.specs.Listed.{indices}
-use Rattle.hear.specs.declared.Heard.{Heard}
-use Rattle.hear.specs.declared.Heard.the-variants as heard
-use Rattle.hear.specs.Heard.{kept, at-last}
-use Rattle.loader.specs.Heard.{Final, verdict-long}
-use Rattle.loader.specs.Over.{over}
-
--- ---- what is answered
+use Rattle.load_syntax.specs.declared.Judgment.{Judgment}
+use Rattle.load_syntax.specs.declared.Judgment.the-variants as judgment
+use Rattle.load_judge.specs.Judged.{Judged}
+use Rattle.load_judge.specs.laws.Judged.{verdict-long}
+use Rattle.load_judge.specs.laws.Bounded.{accepted-as, refused-as}
+use Rattle.load_warnings.specs.Filled.{Filled, warnings-of}
+use Rattle.load_warnings.specs.laws.Kind.{warnings-kindless}
 
 -- the tokens that define groups, as they were collected
 is-table-of :
@@ -57,47 +40,12 @@ is-table-of :
 unfolding table-told
 is-table-of s a roles n u h = rw (u, h) (table-is s a roles n)
 
-module _ {s : List ℕ} {a : Arrays} {roles : List ℕ} {r : Heard} (f : Final s a roles r) where
-  said-is : {n : ℕ} → r ≡ heard.Tokens n → verdict s ≡ accept (said-from s a roles 0 n)
-  said-is e = f .same ∙ ap (at-last s a roles) e
-
-  refused-is : {k : Refusal} {p : ℕ} → r ≡ heard.Refused k p → verdict s ≡ refuse k p
-  refused-is e = f .same ∙ ap (at-last s a roles) e
-
-  pub ready : {n : ℕ} → r ≡ heard.Tokens n → Ready s (a .places) (a .starts) (a .ends) roles n
-  ready {n} e =
-      let v = said-is e in
-      let k : kept r ≡ n = ap kept e in
-      record {
-        lie = rw k at (f .lie);
-        has-places = rw k at (f .places);
-        user-groups = few-users s a roles n v;
-        host-groups = few-hosts s a roles n v;
-      }
-
+module _ {s : List ℕ} {a : Arrays} {roles : List ℕ} {r : Judgment} (f : Judged s a roles r) where
   -- no accepted file's table is too long
-  pub table-short : {n : ℕ} → r ≡ heard.Tokens n → length (table-told s (a .starts) (a .ends) roles n (indices 1 roles 0 n) (indices 3 roles 0 n)) ≤ greatest-table
+  pub table-short : {n : ℕ} → r ≡ judgment.Tokens n → length (table-told s (a .starts) (a .ends) roles n (indices 1 roles 0 n) (indices 3 roles 0 n)) ≤ greatest-table
   table-short {n} e =
       let xs = said-from s a roles 0 n in
-      subst (λ (t : List ℕ). length t ≤ greatest-table) (sym (is-table-of s a roles n refl refl)) (table-length (file-of xs) (fits s xs (said-is e)))
-
-  pub listed-refused : {k : Refusal} {p : ℕ} (skip : ℕ) (numbers places : List ℕ) → r ≡ heard.Refused k p → record { answer = Refused k p; numbers = numbers; places = places } ≡ listing skip numbers places s
-  unfolding listing
-  listed-refused skip numbers places e = rw (refused-is e)
-
-  pub listed-told :
-      {n count : ℕ} (skip : ℕ) (numbers places : List ℕ) {c d : List ℕ} → r ≡ heard.Tokens n
-      → Told (told s (a .places) (a .starts) (a .ends) roles n) skip numbers c places d count
-      → record { answer = Warnings count; numbers = c; places = d } ≡ listing skip numbers places s
-  unfolding listing
-  listed-told {n} skip numbers places e t =
-      let w = warnings-kindless s a roles n in
-      rw (said-is e, t .count, t .numbers, t .places, w, over (drop skip (map (λ x. number (x .warning)) (warnings (said-from s a roles 0 n)))) numbers, over (drop skip (map (λ x. x .place) (warnings (said-from s a roles 0 n)))) places)
-
--- a text over 16,384 bytes
-pub listed-long : (skip : ℕ) (numbers places s : List ℕ) → most-bytes < length s → record { answer = Refused FileTooLong 0; numbers = numbers; places = places } ≡ listing skip numbers places s
-unfolding listing
-listed-long skip numbers places s h = rw (verdict-long s h)
+      subst (λ (t : List ℕ). length t ≤ greatest-table) (sym (is-table-of s a roles n refl refl)) (table-length (file-of xs) (fits s xs (accepted-as f e)))
 
 -- ---- a load
 
@@ -115,14 +63,14 @@ module _ (s : List ℕ) (a : Arrays) (roles : List ℕ) (n : ℕ) (lent : List �
       → record { answer = loaded.Refused NoRoom size; bytes = c } ≡ by-verdict lent (accept (said-from s a roles 0 n))
   stored-none h g k = rw (g, k, ← e, lt-leb (length t) (length lent) h)
 
-module _ {s : List ℕ} {a : Arrays} {roles : List ℕ} {r : Heard} (f : Final s a roles r) (lent : List ℕ) where
-  pub load-refused : {k : Refusal} {p : ℕ} → r ≡ heard.Refused k p → record { answer = loaded.Refused k p; bytes = lent } ≡ load lent s
+module _ {s : List ℕ} {a : Arrays} {roles : List ℕ} {r : Judgment} (f : Judged s a roles r) (lent : List ℕ) where
+  pub load-refused : {k : Refusal} {p : ℕ} → r ≡ judgment.Refused k p → record { answer = loaded.Refused k p; bytes = lent } ≡ load lent s
   unfolding load
-  load-refused e = rw (refused-is f e)
+  load-refused e = rw (refused-as f e)
 
-  pub load-stored : {n : ℕ} {o : Outcome} → r ≡ heard.Tokens n → o ≡ by-verdict lent (accept (said-from s a roles 0 n)) → o ≡ load lent s
+  pub load-stored : {n : ℕ} {o : Outcome} → r ≡ judgment.Tokens n → o ≡ by-verdict lent (accept (said-from s a roles 0 n)) → o ≡ load lent s
   unfolding load
-  load-stored e g = g ∙ sym (ap (by-verdict lent) (said-is f e))
+  load-stored e g = g ∙ sym (ap (by-verdict lent) (accepted-as f e))
 
 pub load-long : (lent s : List ℕ) → most-bytes < length s → record { answer = loaded.Refused FileTooLong 0; bytes = lent } ≡ load lent s
 unfolding load
@@ -158,7 +106,7 @@ module _ {t lent c : List ℕ} {r : Written} (w : Wrote t lent c r) where
 
 module _ (s : List ℕ) (a : Arrays) (roles : List ℕ) (n : ℕ) (lent : List ℕ) {uags hags : List ℕ} (u : uags ≡ indices 1 roles 0 n) (h : hags ≡ indices 3 roles 0 n) {c : List ℕ} {r : Written} (w : Wrote (table-told s (a .starts) (a .ends) roles n uags hags) lent c r) where
   pub stored-done :
-      {size count : ℕ} {b d e f : List ℕ} {skip : ℕ} → r ≡ written.Done size → Told (told s (a .places) (a .starts) (a .ends) roles n) skip b d e f count
+      {size count : ℕ} {b d e f : List ℕ} {skip : ℕ} → r ≡ written.Done size → Filled (warnings-of s (a .places) (a .starts) (a .ends) roles n) skip b d e f count
       → record { answer = loaded.Accepted size count; bytes = c } ≡ by-verdict lent (accept (said-from s a roles 0 n))
   stored-done e t = let d = done w e in stored-all s a roles n lent (is-table-of s a roles n u h) (d .0) (d .1) (d .2) (t .count)
 

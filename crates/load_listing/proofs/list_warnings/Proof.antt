@@ -1,7 +1,7 @@
-use Rattle.loader.specs.Outcome.{listed-long}
+use Rattle.load_listing.specs.laws.Listing.{listed-long}
 use borrow.Author.Needs.{needs}
-use Rattle.loader.proofs.list_warnings.Statement.{statement}
-use Rattle.loader.proofs.list_warnings.Tie as tie
+use Rattle.load_listing.proofs.list_warnings.Statement.{statement}
+use Rattle.load_listing.proofs.list_warnings.Tie as tie
 
 list-short-requires : tie.Need-list-short-requires
 list-short-requires c κs = search needs
