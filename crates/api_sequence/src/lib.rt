@@ -26,7 +26,7 @@ fn call_reading(
     if what == 1 {
         let mut numbers = [0u8; 64];
         let mut at = [0u16; 64];
-        return Reply::Listed(loader::list_warnings(a, 0, &mut numbers, &mut at));
+        return Reply::Listed(load_listing::list_warnings(a, 0, &mut numbers, &mut at));
     }
     if what == 2 {
         return Reply::Valued(evaluate::value(a, rs));

@@ -28,7 +28,7 @@ pub extern "C" fn hrazvanut_list_warnings(
         Lists (listing skip (now (numbers .entry)) (now (places .entry)) (now (text .entry))) (now (numbers .exit)) (now (places .exit)) r
         ⌝ }
 {
-    api_numbers::listed_number(loader::list_warnings(text, skip, numbers, places))
+    api_numbers::listed_number(load_listing::list_warnings(text, skip, numbers, places))
 }
 
 #[no_mangle]

@@ -1,4 +1,1 @@
-pub mod Cause
-pub mod Outcome
-pub mod Over
-pub mod Heard
+pub mod laws

@@ -98,7 +98,7 @@ fn put_warnings(numbers: [u8; ROOM], at: [u16; ROOM], n: usize)
 fn put_part(text: &[u8], skip: usize) -> usize {
     let mut numbers = [0u8; ROOM];
     let mut at = [0u16; ROOM];
-    match loader::list_warnings(text, skip, &mut numbers, &mut at) {
+    match load_listing::list_warnings(text, skip, &mut numbers, &mut at) {
         Listed::Refused { refusal, place } => {
             put_refusal(refusal, place);
             0

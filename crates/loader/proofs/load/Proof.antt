@@ -1,4 +1,4 @@
-use Rattle.loader.specs.Outcome.{load-long}
+use Rattle.loader.specs.laws.Outcome.{load-long}
 use borrow.Author.Needs.{needs}
 use Rattle.loader.proofs.load.Statement.{statement}
 use Rattle.loader.proofs.load.Tie as tie

@@ -1,10 +1,11 @@
-use Rattle.loader.specs.Outcome.{ready, table-short, load-refused, load-stored}
+use Rattle.load_judge.specs.laws.Bounded.{bounded}
+use Rattle.loader.specs.laws.Outcome.{table-short, load-refused, load-stored}
 use borrow.Author.Needs.{needs}
 use Rattle.loader.proofs.load_in.Statement.{statement}
 use Rattle.loader.proofs.load_in.Tie as tie
 
-hear-requires : tie.Need-hear-requires
-hear-requires c κs = search needs
+judge-requires : tie.Need-judge-requires
+judge-requires c κs = search needs
 
 enum-known-k : tie.Need-enum-known-k
 enum-known-k c = search needs
@@ -13,7 +14,7 @@ enum-known-n : tie.Need-enum-known-n
 enum-known-n c = search needs
 
 store-requires : tie.Need-store-requires
-store-requires c κs = (ready (c .before .before .before .before .before .before .before .before .before .before .before .before .before .before .before .before .before .before .before .before .hear .ensures) (c .before .before .before .before .before .before .n .given .1), table-short (c .before .before .before .before .before .before .before .before .before .before .before .before .before .before .before .before .before .before .before .before .hear .ensures) (c .before .before .before .before .before .before .n .given .1))
+store-requires c κs = (bounded (c .before .before .before .before .before .before .before .before .before .before .before .before .before .before .before .before .before .before .before .before .judge .ensures) (c .before .before .before .before .before .before .n .given .1), table-short (c .before .before .before .before .before .before .before .before .before .before .before .before .before .before .before .before .before .before .before .before .judge .ensures) (c .before .before .before .before .before .before .n .given .1))
 
 same-length : tie.Need-same-length
 same-length c = search needs
@@ -34,7 +35,7 @@ same-length-6 : tie.Need-same-length-6
 same-length-6 c = search needs
 
 returns : tie.Need-returns
-returns c = load-refused (c .before .before .before .before .before .before .before .before .before .before .before .before .before .before .before .hear .ensures) (c .before .before .before .before .before .before .before .before .before .before .before .before .before .before .before .before .before .before .before .before .before .before .before .before .before .before .before .before .before .before .args .lent .now) (c .before .k .given .1)
+returns c = load-refused (c .before .before .before .before .before .before .before .before .before .before .before .before .before .before .before .judge .ensures) (c .before .before .before .before .before .before .before .before .before .before .before .before .before .before .before .before .before .before .before .before .before .before .before .before .before .before .before .before .before .before .args .lent .now) (c .before .k .given .1)
 
 same-length-7 : tie.Need-same-length-7
 same-length-7 c = search needs
@@ -58,13 +59,13 @@ same-length-13 : tie.Need-same-length-13
 same-length-13 c = search needs
 
 returns-2 : tie.Need-returns-2
-returns-2 c = load-stored (c .before .before .before .before .before .before .before .before .before .before .before .before .before .before .before .before .before .before .before .before .before .before .before .hear .ensures) (c .before .before .before .before .before .before .before .before .before .before .before .before .before .before .before .before .before .before .before .before .before .before .before .before .before .before .before .before .before .before .before .before .before .before .before .before .before .before .args .lent .now) (c .before .before .before .before .before .before .before .before .before .n .given .1) (c .before .before .store .ensures _)
+returns-2 c = load-stored (c .before .before .before .before .before .before .before .before .before .before .before .before .before .before .before .before .before .before .before .before .before .before .before .judge .ensures) (c .before .before .before .before .before .before .before .before .before .before .before .before .before .before .before .before .before .before .before .before .before .before .before .before .before .before .before .before .before .before .before .before .before .before .before .before .before .before .args .lent .now) (c .before .before .before .before .before .before .before .before .before .n .given .1) (c .before .before .store .ensures _)
 
 pub load-in-spec : {M : Type 1} → statement M
 load-in-spec =
     tie.close
     (tie.spec
-    hear-requires
+    judge-requires
     enum-known-k
     enum-known-n
     store-requires

@@ -4,7 +4,7 @@ use lib.Seq.{length-take-le}
 use lib.ListN.{length}
 use mathlib.Core.List.{List}
 use Prim.Native.Nat.{ℕ}
-use Rattle.loader.specs.Outcome.{stored-done, stored-undone}
+use Rattle.loader.specs.laws.Outcome.{stored-done, stored-undone}
 use Rattle.kept.specs.Stores.{kept-in}
 use Rattle.texts.specs.Lies.{All-lie}
 use Rattle.texts.specs.Listed.{indices-length, listed-names, listed-length, listed-lie}

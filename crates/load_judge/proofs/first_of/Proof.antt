@@ -1,0 +1,121 @@
+use Rattle.load_judge.specs.laws.Cause.{first-never}
+use Rattle.load_judge.specs.Cause.{applies}
+use Rattle.file.specs.Refusal.{Context}
+use Rattle.file.specs.declared.Refusal.the-variants.{StringTooLong, TooMany, GivenAgain, BadLevel, UnknownWord, BadCalculation}
+use Rattle.file.specs.declared.Refusal.the-variants.{FileTooLong, BadByte, TooDeep, Ungrammatical, NoRoom}
+use Rattle.file.specs.declared.Refusal.{Refusal}
+use Rattle.file.proofs.Refusal.{the-type}
+use types.Run.{OneOf}
+use denote.Enum.Declared.{tagOf}
+use native.Mathlib.Omega.{arith}
+use Prim.Native.Nat.{ℕ, _≤_, _<_}
+use mathlib.Core.List.{[], _∷_}
+use mathlib.Core.Bool.{false}
+use mathlib.Core.Logic.{⊎-elim}
+use mathlib.Core.Path.{_≡_, refl}
+use borrow.Author.Needs.{needs}
+use Rattle.load_judge.proofs.first_of.Statement.{statement}
+use Rattle.load_judge.proofs.first_of.Tie as tie
+
+-- the tags of the refusals that are no cause
+no-tag : {x : ℕ} → OneOf (0 ∷ 1 ∷ 2 ∷ 3 ∷ 10 ∷ []) x → 4 ≤ x → x < 10 → ⊥
+no-tag h a b =
+    ⊎-elim (λ e. omega arith) (⊎-elim (λ e. omega arith) (⊎-elim (λ e. omega arith) (⊎-elim (λ e. omega arith) (λ e. omega arith)))) h
+
+no-cause : (r : Refusal) → OneOf (0 ∷ 1 ∷ 2 ∷ 3 ∷ 10 ∷ []) (tagOf the-type r) → (c : Context) → applies r c ≡ false
+no-cause FileTooLong h c = refl
+no-cause BadByte h c = refl
+no-cause TooDeep h c = refl
+no-cause Ungrammatical h c = refl
+no-cause StringTooLong h c = absurd (no-tag h (omega arith) (omega arith))
+no-cause TooMany h c = absurd (no-tag h (omega arith) (omega arith))
+no-cause GivenAgain h c = absurd (no-tag h (omega arith) (omega arith))
+no-cause BadLevel h c = absurd (no-tag h (omega arith) (omega arith))
+no-cause UnknownWord h c = absurd (no-tag h (omega arith) (omega arith))
+no-cause BadCalculation h c = absurd (no-tag h (omega arith) (omega arith))
+no-cause NoRoom h c = refl
+
+enum-told : tie.Need-enum-told
+enum-told c = search needs
+
+too-long-requires : tie.Need-too-long-requires
+too-long-requires c κs = search needs
+
+enum-told-2 : tie.Need-enum-told-2
+enum-told-2 c = search needs
+
+too-many-requires : tie.Need-too-many-requires
+too-many-requires c κs = search needs
+
+enum-told-3 : tie.Need-enum-told-3
+enum-told-3 c = search needs
+
+given-again-requires : tie.Need-given-again-requires
+given-again-requires c κs = search needs
+
+enum-told-4 : tie.Need-enum-told-4
+enum-told-4 c = search needs
+
+bad-level-requires : tie.Need-bad-level-requires
+bad-level-requires c κs = search needs
+
+enum-told-5 : tie.Need-enum-told-5
+enum-told-5 c = search needs
+
+unknown-word-requires : tie.Need-unknown-word-requires
+unknown-word-requires c κs = search needs
+
+enum-told-6 : tie.Need-enum-told-6
+enum-told-6 c = search needs
+
+bad-calculation-requires : tie.Need-bad-calculation-requires
+bad-calculation-requires c κs = search needs
+
+returns : tie.Need-returns
+returns c = rw (c .before .enum-told .given .1) (c .too-long .ensures)
+
+returns-2 : tie.Need-returns-2
+returns-2 c = rw (c .before .enum-told2 .given .1) (c .too-many .ensures)
+
+same-length : tie.Need-same-length
+same-length c = search needs
+
+returns-3 : tie.Need-returns-3
+returns-3 c = rw (c .before .before .before .before .enum-told3 .given .1) (c .before .before .given-again .ensures)
+
+returns-4 : tie.Need-returns-4
+returns-4 c = rw (c .before .enum-told4 .given .1) (c .bad-level .ensures)
+
+returns-5 : tie.Need-returns-5
+returns-5 c = rw (c .before .enum-told5 .given .1) (c .unknown-word .ensures)
+
+returns-6 : tie.Need-returns-6
+returns-6 c = rw (c .before .enum-told6 .given .1) (c .bad-calculation .ensures)
+
+returns-7 : tie.Need-returns-7
+returns-7 c = first-never (applies (c .before .before .before .before .before .before .args .cause)) (no-cause (c .before .before .before .before .before .before .args .cause) (c .match .keys7)) _ _ _ _ _
+
+pub first-of-spec : {M : Type 1} → statement M
+first-of-spec =
+    tie.close
+    (tie.spec
+    enum-told
+    too-long-requires
+    enum-told-2
+    too-many-requires
+    enum-told-3
+    given-again-requires
+    enum-told-4
+    bad-level-requires
+    enum-told-5
+    unknown-word-requires
+    enum-told-6
+    bad-calculation-requires
+    returns
+    returns-2
+    same-length
+    returns-3
+    returns-4
+    returns-5
+    returns-6
+    returns-7)

@@ -1,0 +1,27 @@
+-- The causes 5 to 10 by their refusals.
+use mathlib.Core.Bool.{Bool, false}
+use mathlib.Core.List.{map}
+use Prim.Native.Nat.{ℕ}
+use lib.ListN.{getD}
+use Rattle.file.specs.declared.Refusal.{Refusal}
+use Rattle.file.specs.declared.Refusal.the-variants.{FileTooLong, BadByte, TooDeep, Ungrammatical, NoRoom}
+use Rattle.file.specs.declared.Refusal.the-variants.{StringTooLong, TooMany, GivenAgain, BadLevel, UnknownWord, BadCalculation}
+use Rattle.file.specs.Refusal.{Context, too-long, too-many, given-again, bad-level, unknown-word, bad-calculation, causes}
+
+-- the refusal of the k-th cause, the last one's behind the last
+abbrev pub cause-at : ℕ → Refusal
+cause-at k = getD (map (λ c. c .refusal) causes) k BadCalculation
+
+-- the cause of a refusal; the others have none that a token shows
+abbrev pub applies : Refusal → Context → Bool
+applies FileTooLong c = false
+applies BadByte c = false
+applies TooDeep c = false
+applies Ungrammatical c = false
+applies StringTooLong c = too-long c
+applies TooMany c = too-many c
+applies GivenAgain c = given-again c
+applies BadLevel c = bad-level c
+applies UnknownWord c = unknown-word c
+applies BadCalculation c = bad-calculation c
+applies NoRoom c = false

@@ -1,0 +1,54 @@
+-- The tokens of an accepted file define few groups.
+use mathlib.Core.Path.{_≡_, ap, _∙_}
+use mathlib.Core.List.{List, [], _∷_}
+use Prim.Native.Nat.{ℕ, _≤_}
+use native.Mathlib.Omega.{arith}
+use Rattle.lists.specs.Sums.{sum, length-sum}
+use Rattle.grammar.specs.declared.Role.the-variants.{UagName, HagName}
+use Rattle.kept.specs.Kept.{Arrays, said-from}
+use Rattle.file.specs.Limit.{user-groups, host-groups}
+use Rattle.file.specs.Contents.{texts}
+use Rattle.file.specs.Refusal.{contexts}
+use Rattle.file.specs.Counted.{once, clear, sum-texts, counted-roles}
+use Rattle.file.specs.declared.Refusal.{Refusal}
+use Rattle.file.specs.Load.{refuse, accept, verdict}
+use Rattle.file.specs.Theorem.{accepted-is, unanswered}
+use Rattle.texts.specs.Rolls.{tally, tally-is}
+use Rattle.load_syntax.specs.declared.Judgment.{Judgment}
+use Rattle.load_syntax.specs.declared.Judgment.the-variants.{Tokens, Refused}
+use Rattle.load_syntax.specs.Syntax.{count, final-verdict}
+use Rattle.load_warnings.specs.Bounded.{Bounded}
+use Rattle.load_judge.specs.Judged.{Judged}
+
+module _ (s : List ℕ) (a : Arrays) (roles : List ℕ) (n : ℕ) (e : verdict s ≡ accept (said-from s a roles 0 n)) where
+  few-users : tally 1 roles 0 n ≤ 64
+  unfolding sum
+  few-users =
+      let xs = said-from s a roles 0 n in
+      let c = clear (contexts xs) (unanswered (contexts xs) (accepted-is s xs e .uncaused)) .few in
+      omega (arith, tally-is s a roles 1 0 n (record { some = omega arith; known = omega arith }), length-sum (texts UagName xs), sum-texts UagName (λ t. 1) xs, counted-roles user-groups (UagName ∷ []) (λ x. once x .user-group) xs c)
+
+  few-hosts : tally 3 roles 0 n ≤ 64
+  unfolding sum
+  few-hosts =
+      let xs = said-from s a roles 0 n in
+      let c = clear (contexts xs) (unanswered (contexts xs) (accepted-is s xs e .uncaused)) .few in
+      omega (arith, tally-is s a roles 3 0 n (record { some = omega arith; known = omega arith }), length-sum (texts HagName xs), sum-texts HagName (λ t. 1) xs, counted-roles host-groups (HagName ∷ []) (λ x. once x .host-group) xs c)
+
+module _ {s : List ℕ} {a : Arrays} {roles : List ℕ} {r : Judgment} (f : Judged s a roles r) where
+  pub accepted-as : {n : ℕ} → r ≡ Tokens n → verdict s ≡ accept (said-from s a roles 0 n)
+  accepted-as e = f .same ∙ ap (final-verdict s a roles) e
+
+  pub refused-as : {k : Refusal} {p : ℕ} → r ≡ Refused k p → verdict s ≡ refuse k p
+  refused-as e = f .same ∙ ap (final-verdict s a roles) e
+
+  pub bounded : {n : ℕ} → r ≡ Tokens n → Bounded s (a .places) (a .starts) (a .ends) roles n
+  bounded {n} e =
+      let v = accepted-as e in
+      let k : count r ≡ n = ap count e in
+      record {
+        lie = rw k at (f .lie);
+        has-places = rw k at (f .places);
+        user-groups = few-users s a roles n v;
+        host-groups = few-hosts s a roles n v;
+      }

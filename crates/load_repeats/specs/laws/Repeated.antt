@@ -1,0 +1,106 @@
+-- A token is given again if it is so in one of the five roles.
+use mathlib.Core.Path.{_≡_, refl, ap, _∙_}
+use mathlib.Core.Bool.{Bool, true, false, not, _&&_, _||_}
+use mathlib.Core.List.{List, [], _∷_}
+use Prim.Native.Nat.{ℕ, min}
+use Rattle.lists.specs.Select.{any, run}
+use Rattle.token.specs.Token.{Token}
+use Rattle.grammar.specs.declared.Role.{Role}
+use Rattle.grammar.specs.declared.Role.the-variants.{Mute, UagName, User, HagName, Host, AsgName, Input, Pvname, RuleWord, Level, Permission}
+use Rattle.grammar.specs.declared.Role.the-variants.{LogOption, UagNamed, HagNamed, CalcWord, Calculation, UnknownItem, UnknownPredicate}
+use Rattle.grammar.specs.Role.{same-role}
+use Rattle.grammar.specs.Reading.{Said}
+use Rattle.file.specs.Contents.{says, until}
+use Rattle.file.specs.Refusal.{Context, given-again}
+use Rattle.file.specs.Counted.{role-is}
+use Rattle.texts.specs.Rolls.{arrays, tokens}
+use Rattle.texts.specs.Seek.{seek-same, seek-either}
+use Rattle.load_tokens.specs.Search.{first-of}
+use Rattle.load_repeats.specs.Repeated.{since, repeated, name-repeated}
+
+module _ {A : Type 0} (p q : A → Bool) (e : (x : A) → p x ≡ q x) where
+  pub run-same : (xs : List A) → run p xs ≡ run q xs
+  run-same [] = refl
+  run-same (x ∷ xs) = rw (e x, run-same xs)
+
+  pub any-same : (xs : List A) → any p xs ≡ any q xs
+  any-same [] = refl
+  any-same (x ∷ xs) = rw (e x, any-same xs)
+
+run-all : {A : Type 0} (xs : List A) → run (λ x. true) xs ≡ xs
+run-all [] = refl
+run-all (x ∷ xs) = ap (λ (l : List _). x ∷ l) (run-all xs)
+
+-- nothing ends the scope of a name
+since-ever : (q : Role) (xs : List Said) → since q q xs ≡ xs
+since-ever q xs = run-same _ (λ x. true) (λ x. go (says q x)) xs ∙ run-all xs
+  where
+    go : (b : Bool) → not (not b && b) ≡ true
+    go true = refl
+    go false = refl
+
+-- the scope of a token of another role reaches back to the last token of the role stop
+since-until : (q stop : Role) → same-role stop q ≡ false → (xs : List Said) → since q stop xs ≡ until stop xs
+since-until q stop d xs = run-same _ _ (λ x. go x (says stop x) refl) xs
+  where
+    other : (b : Bool) → not (not b && false) ≡ true
+    other true = refl
+    other false = refl
+
+    go : (x : Said) (b : Bool) → says stop x ≡ b → not (not (says q x) && b) ≡ not b
+    go x true e = rw (ap (λ (r : Role). same-role r q) (role-is stop x e), d)
+    go x false e = other (says q x)
+
+-- the roles of 7, each with the role that ends its scope
+abbrev repeated-any : Context → Bool
+repeated-any c = name-repeated c || (repeated Input AsgName c || repeated CalcWord RuleWord c)
+
+or-false : (b : Bool) → b ≡ b || false
+or-false true = refl
+or-false false = refl
+
+-- what is given again is given again in one of them
+by-role :
+    (b : List Said) (t : Token) (q : Role) (f : List Said)
+    → given-again (record { before = b; here = record { token = t; role = q }; behind = f })
+    ≡ repeated-any (record { before = b; here = record { token = t; role = q }; behind = f })
+by-role b t Mute f = refl
+by-role b t UagName f = rw (since-ever UagName b) (or-false _ ∙ or-false _)
+by-role b t User f = refl
+by-role b t HagName f = rw (since-ever HagName b) (or-false _ ∙ or-false _)
+by-role b t Host f = refl
+by-role b t AsgName f = rw (since-ever AsgName b) (or-false _)
+by-role b t Input f = rw (since-until Input AsgName refl b) (or-false _)
+by-role b t Pvname f = refl
+by-role b t RuleWord f = refl
+by-role b t Level f = refl
+by-role b t Permission f = refl
+by-role b t LogOption f = refl
+by-role b t UagNamed f = refl
+by-role b t HagNamed f = refl
+by-role b t CalcWord f = rw (since-until CalcWord RuleWord refl b)
+by-role b t Calculation f = refl
+by-role b t UnknownItem f = refl
+by-role b t UnknownPredicate f = refl
+
+module _ (s starts ends roles : List ℕ) (n : ℕ) where
+  -- the first of a file's tokens to which p applies
+  abbrev first : (Context → Bool) → ℕ
+  first p = first-of p s starts ends roles n
+
+  -- the first name given again is the first of the three firsts
+  pub first-name : first name-repeated ≡ min (first (repeated UagName UagName)) (min (first (repeated HagName HagName)) (first (repeated AsgName AsgName)))
+  first-name =
+      rw (
+        seek-either (repeated UagName UagName) (λ c. repeated HagName HagName c || repeated AsgName AsgName c) [] (tokens s (arrays starts ends) roles 0 n),
+        seek-either (repeated HagName HagName) (repeated AsgName AsgName) [] (tokens s (arrays starts ends) roles 0 n),
+      )
+
+  -- the first token given again is the first of the names, the letters and the CALCs
+  pub first-again : first given-again ≡ min (first name-repeated) (min (first (repeated Input AsgName)) (first (repeated CalcWord RuleWord)))
+  first-again =
+      seek-same given-again repeated-any (λ c. by-role (c .before) (c .here .token) (c .here .role) (c .behind)) [] (tokens s (arrays starts ends) roles 0 n)
+      ∙ rw (
+        seek-either name-repeated (λ c. repeated Input AsgName c || repeated CalcWord RuleWord c) [] (tokens s (arrays starts ends) roles 0 n),
+        seek-either (repeated Input AsgName) (repeated CalcWord RuleWord) [] (tokens s (arrays starts ends) roles 0 n),
+      )

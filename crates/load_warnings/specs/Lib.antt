@@ -1,0 +1,4 @@
+pub mod Code
+pub mod Filled
+pub mod Bounded
+pub mod laws

@@ -1,0 +1,81 @@
+-- Causes 8 and 9: a level, a permission or a log option that is none.
+use mathlib.Core.Path.{_≡_, refl, sym, ap, _∙_}
+use mathlib.Core.Bool.{Bool, true, false, _&&_, _||_}
+use mathlib.Core.Option.{Option, none, some}
+use Prim.Native.Nat.{ℕ}
+use native.Mathlib.Omega.{arith}
+use Rattle.lists.specs.Select.{missing}
+use Rattle.grammar.specs.declared.Role.the-variants as role
+use Rattle.grammar.specs.Role.{same-role}
+use Rattle.rule.specs.declared.Access.{Access}
+use Rattle.kept.specs.Kept.{role-of-number}
+use Rattle.words_known.specs.declared.Level.{Level}
+use Rattle.words_known.specs.declared.Level.the-variants as level
+use Rattle.words_known.specs.declared.Permission.{Permission}
+use Rattle.words_known.specs.declared.Permission.the-variants as permission
+use Rattle.words_known.specs.declared.Log.{Log}
+use Rattle.words_known.specs.declared.Log.the-variants as log
+use Rattle.words_known.specs.Known.{level-told, permission-told, log-told}
+use Rattle.texts.specs.Rolls.{Telling}
+use Rattle.load_tokens.specs.laws.Role.{role-same, role-other}
+
+-- ---- the answers of words_known
+
+abbrev pub no-level : Level → Bool
+no-level level.No = true
+no-level (level.Is n) = false
+
+abbrev pub no-permission : Permission → Bool
+no-permission permission.No = true
+no-permission (permission.Is a) = false
+
+abbrev pub no-log : Log → Bool
+no-log log.No = true
+no-log (log.Is b) = false
+
+level-missing : (o : Option ℕ) → no-level (level-told o) ≡ missing o
+level-missing none = refl
+level-missing (some n) = refl
+
+permission-missing : (o : Option Access) → no-permission (permission-told o) ≡ missing o
+permission-missing none = refl
+permission-missing (some a) = refl
+
+log-missing : (o : Option Bool) → no-log (log-told o) ≡ missing o
+log-missing none = refl
+log-missing (some b) = refl
+
+pub level-known : (o : Option ℕ) {r v : Level} → r ≡ level-told o → r ≡ v → no-level v ≡ missing o
+level-known o h g = ap no-level (sym g ∙ h) ∙ level-missing o
+
+pub permission-known : (o : Option Access) {r v : Permission} → r ≡ permission-told o → r ≡ v → no-permission v ≡ missing o
+permission-known o h g = ap no-permission (sym g ∙ h) ∙ permission-missing o
+
+pub log-known : (o : Option Bool) {r v : Log} → r ≡ log-told o → r ≡ v → no-log v ≡ missing o
+log-known o h g = ap no-log (sym g ∙ h) ∙ log-missing o
+
+-- ---- the words of a rule
+
+or-false : (b : Bool) → b ≡ b || false
+or-false true = refl
+or-false false = refl
+
+telling-permission : Telling 10
+telling-permission = record { some = omega arith; known = omega arith }
+
+telling-log : Telling 11
+telling-log = record { some = omega arith; known = omega arith }
+
+-- x: the permission is none; y: the log option is none
+module _ {q : ℕ} (x y : Bool) where
+  pub permission-here : q ≡ 10 → x ≡ same-role (role-of-number q) role.Permission && x || same-role (role-of-number q) role.LogOption && y
+  permission-here h =
+      rw (role-same 10 telling-permission h, role-other {q = q} 11 telling-log (λ g. omega arith)) (or-false x)
+
+  pub log-here : q ≡ 11 → y ≡ same-role (role-of-number q) role.Permission && x || same-role (role-of-number q) role.LogOption && y
+  log-here h =
+      rw (role-other {q = q} 10 telling-permission (λ g. omega arith), role-same 11 telling-log h)
+
+  pub no-word-here : (q ≡ 10 → ⊥) → (q ≡ 11 → ⊥) → false ≡ same-role (role-of-number q) role.Permission && x || same-role (role-of-number q) role.LogOption && y
+  no-word-here h g =
+      rw (role-other 10 telling-permission h, role-other 11 telling-log g)
