@@ -1,7 +1,7 @@
+use calc_value::Worth;
 use calculation::Reading;
 use decision::Answer;
 use decision::Found;
-use evaluate::Worth;
 use load::Listed;
 use load::Loaded;
 ghost use mathlib.Core.Path.{_≡_};

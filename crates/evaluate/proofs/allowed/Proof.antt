@@ -1,5 +1,5 @@
 use Rattle.calculation.specs.Reader.{tree-of}
-use Rattle.evaluate.proofs.Answers.{allowed-yes, allowed-no}
+use Rattle.evaluate.specs.laws.Answers.{allowed-yes, allowed-no}
 use borrow.Author.Needs.{needs}
 use Rattle.evaluate.proofs.allowed.Statement.{statement}
 use Rattle.evaluate.proofs.allowed.Tie as tie

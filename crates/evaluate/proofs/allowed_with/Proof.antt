@@ -1,4 +1,4 @@
-use Rattle.evaluate.proofs.Answers.{with-yes, with-no}
+use Rattle.evaluate.specs.laws.Answers.{with-yes, with-no}
 use borrow.Author.Needs.{needs}
 use Rattle.evaluate.proofs.allowed_with.Statement.{statement}
 use Rattle.evaluate.proofs.allowed_with.Tie as tie

@@ -1,5 +1,5 @@
-use Rattle.evaluate.proofs.Answers.{letter-given, no-letter-given}
-use Rattle.evaluate.specs.Scan.{Class-ok}
+use Rattle.evaluate.specs.laws.Answers.{letter-given, no-letter-given}
+use Rattle.calc_symbol.specs.Scan.{Class-ok}
 use mathlib.Core.Path.{refl, subst}
 use borrow.Author.Needs.{needs}
 use Rattle.evaluate.proofs.byte_given.Statement.{statement}

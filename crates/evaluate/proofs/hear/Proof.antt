@@ -1,7 +1,7 @@
 use Prim.Native.Nat.{_-_}
 use mathlib.Core.Path.{refl}
 use native.Mathlib.Omega.{arith}
-use Rattle.evaluate.proofs.Answers.{Heard-to, heard-none, heard-more, heard-all}
+use Rattle.evaluate.specs.laws.Answers.{Heard-to, heard-none, heard-more, heard-all}
 use borrow.Author.Needs.{needs}
 use Rattle.evaluate.proofs.hear.Statement.{statement}
 use Rattle.evaluate.proofs.hear.Tie as tie

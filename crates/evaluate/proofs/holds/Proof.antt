@@ -1,5 +1,5 @@
 use Rattle.calculation.specs.Reader.{tree-of}
-use Rattle.evaluate.proofs.Answers.{holds-is}
+use Rattle.evaluate.specs.laws.Answers.{holds-is}
 use borrow.Author.Needs.{needs}
 use Rattle.evaluate.proofs.holds.Statement.{statement}
 use Rattle.evaluate.proofs.holds.Tie as tie

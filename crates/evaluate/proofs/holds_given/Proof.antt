@@ -1,4 +1,4 @@
-use Rattle.evaluate.proofs.Answers.{given-yes, given-no}
+use Rattle.evaluate.specs.laws.Answers.{given-yes, given-no}
 use borrow.Author.Needs.{needs}
 use Rattle.evaluate.proofs.holds_given.Statement.{statement}
 use Rattle.evaluate.proofs.holds_given.Tie as tie

@@ -1,4 +1,4 @@
-use Rattle.evaluate.proofs.Bytes.{finite-lt}
+use Rattle.evaluate.specs.laws.Finite.{finite-lt}
 use Rattle.evaluate.proofs.is_finite.Statement.{statement}
 use Rattle.evaluate.proofs.is_finite.Tie as tie
 

@@ -1,5 +1,5 @@
 use borrow.Author.Tests.{not-true, not-false}
-use Rattle.evaluate.proofs.Answers.{letters-on, letters-off, letters-end}
+use Rattle.evaluate.specs.laws.Answers.{letters-on, letters-off, letters-end}
 use Rattle.evaluate.specs.Answer.{given-letter, byte-letters}
 use Rattle.lists.specs.Select.{all}
 use native.Mathlib.Omega.{arith}

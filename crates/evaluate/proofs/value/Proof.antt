@@ -1,5 +1,5 @@
 use Rattle.calculation.specs.Reader.{tree-of}
-use Rattle.evaluate.proofs.Answers.{worth-heard}
+use Rattle.evaluate.specs.laws.Answers.{worth-heard}
 use borrow.Author.Needs.{needs}
 use Rattle.evaluate.proofs.value.Statement.{statement}
 use Rattle.evaluate.proofs.value.Tie as tie
