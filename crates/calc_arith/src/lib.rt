@@ -1,14 +1,16 @@
 ghost use mathlib.Core.Path.{_≡_};
 ghost use mathlib.Core.Bool.{not, cond};
-ghost use Rattle.calculation.specs.Value.{truth, is-true, apply};
+ghost use Rattle.calculation.specs.Value.{truth, is-true, apply, finite, near-one};
 use calculation::Operator;
 
+// Comparisons and logic give 1 or 0.
 fn truth_of(b: bool) -> f64
     ensures { λ r. ⌜ r ≡ truth b ⌝ }
 {
     if b { 1.0 } else { 0.0 }
 }
 
+// Anything but 0 is true as an operand.
 fn is_true_value(x: f64) -> bool
     ensures { λ r. ⌜ r ≡ is-true x ⌝ }
 {
@@ -35,18 +37,21 @@ fn both(x: f64, y: f64) -> f64
     }
 }
 
+// Not x.
 pub fn denied(x: f64) -> f64
     ensures { λ r. ⌜ r ≡ truth (not (is-true x)) ⌝ }
 {
     if is_true_value(x) { 0.0 } else { 1.0 }
 }
 
+// The value of `c ? x : y`.
 pub fn chosen(c: f64, x: f64, y: f64) -> f64
     ensures { λ r. ⌜ r ≡ cond (is-true c) x y ⌝ }
 {
     if is_true_value(c) { x } else { y }
 }
 
+// The operator o between x and y.
 pub fn applied(o: Operator, x: f64, y: f64) -> f64
     ensures { λ r. ⌜ r ≡ apply o x y ⌝ }
 {
@@ -64,4 +69,19 @@ pub fn applied(o: Operator, x: f64, y: f64) -> f64
         Operator::Times => x * y,
         Operator::Over => x / y,
     }
+}
+
+// Whether a value lies between the infinities: not-a-number is in no order.
+pub fn is_finite(x: f64) -> bool
+    ensures { λ r. ⌜ r ≡ finite x ⌝ }
+{
+    let infinity = 1.0 / 0.0;
+    -infinity < x && x < infinity
+}
+
+// Whether a value counts as true at the end of a calculation.
+pub fn near_one(x: f64) -> bool
+    ensures { λ r. ⌜ r ≡ near-one x ⌝ }
+{
+    0.99 < x && x < 1.01
 }

@@ -1,25 +1,25 @@
 ghost use mathlib.Core.Path.{_≡_};
 ghost use mathlib.Core.Bool.{true};
-ghost use mathlib.Core.List.{List};
-ghost use Prim.Native.Nat.{ℕ, _+_, _-_, _*_, _^_, _≤_, _<_};
+ghost use mathlib.Core.List.{List, [], _∷_};
+ghost use Prim.Native.Nat.{ℕ, _+_, _-_, _^_, _≤_, _<_};
 ghost use lib.ListN.{length, getD};
 ghost use Rattle.lists.specs.Text.{digit, whole};
 ghost use Rattle.calculation.specs.Symbol.{decimal, numeral-byte};
 ghost use Rattle.calc_numeral.specs.Numeral.{Counts, Fraction, Numbered};
 
-// Digits: the number they make, the place behind them, and how many more were allowed.
+// Digits: the number they make, the offset behind them, and how many more were allowed.
 pub enum Digits {
     Are(u64, usize, usize),
     TooMany,
 }
 
-// A number, and the place behind it.
+// A number, and the offset behind it.
 pub enum Figure {
     Is(f64, usize),
     Wrong,
 }
 
-// The byte at a place, or 0 past the end: no calculation has a byte 0.
+// The byte at an offset, or 0 past the end: no calculation has a byte 0.
 pub fn peek(s: &[u8], at: usize) -> u8
     ensures { λ r. ⌜ r ≡ getD (now (s .entry)) at 0 ⌝ }
 {
@@ -65,20 +65,20 @@ fn is_digit(b: u8) -> bool
     ensures { λ r. ⌜ r ≡ digit b ⌝ }
 {
     match b {
-        48..=57 => true,
+        b'0'..=b'9' => true,
         _ => false,
     }
 }
 
 // The number n with the digit b behind it.
 fn pushed(n: u64, b: u8) -> u64
-    requires { ⌜ (n < 10 ^ 15) × (48 ≤ b) ⌝ }
-    ensures { λ r. ⌜ r ≡ n * 10 + (b - 48) ⌝ }
+    requires { ⌜ (n < 10 ^ 15) × (digit b ≡ true) ⌝ }
+    ensures { λ r. ⌜ r ≡ whole n (b ∷ []) ⌝ }
 {
-    n * 10 + ((b - 48) as u64)
+    n * 10 + ((b - b'0') as u64)
 }
 
-// The digits from a place on, `left` of them at most, behind those that make up n.
+// The digits from an offset on, `left` of them at most, behind those that make up n.
 fn digits_at(s: &[u8], at: usize, left: usize, n: u64) -> Digits
     requires { ⌜ (at ≤ length (now s)) × (left ≤ 15) × (n < 10 ^ (15 - left)) ⌝ }
     ensures { λ r. ⌜ Counts (now (s .entry)) at left n r ⌝ }
@@ -116,7 +116,7 @@ fn fraction_at(s: &[u8], at: usize, left: usize, n: u64) -> Figure
     }
 }
 
-// The number that begins at a byte. Callers have seen a digit or a point there.
+// The number that begins at an offset. calc_symbol and lines call it where they have seen a digit or a point.
 pub fn number_at(s: &[u8], at: usize) -> Figure
     requires { ⌜ (at < length (now s)) × (numeral-byte (getD (now s) at 0) ≡ true) ⌝ }
     ensures { λ r. ⌜ Numbered (now (s .entry)) at r ⌝ }

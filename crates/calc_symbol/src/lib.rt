@@ -1,12 +1,13 @@
 ghost use mathlib.Core.Path.{_≡_};
 ghost use mathlib.Core.List.{List, [], _∷_};
 ghost use Prim.Native.Nat.{ℕ, _+_, _≤_, _<_};
-ghost use lib.ListN.{length, getD, drop};
-ghost use Rattle.lists.specs.Text.{among};
+ghost use lib.ListN.{length};
+ghost use Rattle.lists.specs.Text.{bytes, among};
 ghost use Rattle.calculation.specs.Symbol.{wrong, start};
 ghost use Rattle.calculation.specs.Expression.{level};
-ghost use Rattle.calc_symbol.specs.Scan.{symbol-of, spelling, single, started, Class-ok, spelled-as, Pair-ok, Then, Signs, Skips};
-ghost use Rattle.calc_symbol.specs.Lookahead.{Begins, Joins, Colon-at, Close-at, Is-end};
+ghost use Rattle.calc_symbol.specs.Scan.{symbol-of, spelling, single, started, Class-ok, spelled-as, Pair-ok};
+ghost use Rattle.calc_symbol.specs.Scan.{Sign-only, Symbol-at, Sign-at, Blanks-to};
+ghost use Rattle.calc_symbol.specs.Lookahead.{Begins, Joins, Mark-at, Is-end};
 use calc_numeral::Figure;
 use calculation::Operator;
 
@@ -34,13 +35,13 @@ pub enum Spelled {
     Nothing,
 }
 
-// A sign, and the place behind it.
+// A sign, and the offset behind it.
 pub enum Next {
     Is(Sign, usize),
     Wrong,
 }
 
-// What an operand begins with, and the place behind that.
+// What an operand begins with, and the offset behind that.
 pub enum First {
     Number(f64, usize),
     Letter(usize, usize),
@@ -50,27 +51,42 @@ pub enum First {
     Nothing,
 }
 
-// What goes on behind an operand.
+// What continues behind an operand, and the offset behind that.
 pub enum Joint {
     By(Operator, usize),
     Choice(usize),
     End,
 }
 
+// The offset behind a sign that is looked for.
 pub enum Place {
     At(usize),
     Missing,
 }
 
+// The class of a byte: enough to see a letter without reading the symbols before it.
 pub fn class_of(b: u8) -> Class
     ensures { λ r. ⌜ ((s : List ℕ) → start b s ≡ started r b s) × Class-ok r ⌝ }
 {
     match b {
-        9 | 32 => Class::Blank,
-        46 | 48..=57 => Class::Figure,
-        65..=85 => Class::Letter((b - 65) as usize),
-        97..=117 => Class::Letter((b - 97) as usize),
+        b'\t' | b' ' => Class::Blank,
+        b'.' | b'0'..=b'9' => Class::Figure,
+        b'A'..=b'U' => Class::Letter((b - b'A') as usize),
+        b'a'..=b'u' => Class::Letter((b - b'a') as usize),
         _ => Class::Other,
+    }
+}
+
+// The signs of two bytes of which the second is `=`.
+fn before_equals(b: u8) -> Spelled
+    ensures { λ r. ⌜ spelled-as r 1 (single b) ≡ spelling b (bytes "=") ⌝ }
+{
+    match b {
+        b'<' => Spelled::As(Sign::Operator(Operator::AtMost)),
+        b'>' => Spelled::As(Sign::Operator(Operator::AtLeast)),
+        b'=' => Spelled::As(Sign::Operator(Operator::Equal)),
+        b'!' => Spelled::As(Sign::Operator(Operator::Differs)),
+        _ => Spelled::Nothing,
     }
 }
 
@@ -78,13 +94,22 @@ pub fn class_of(b: u8) -> Class
 fn pair_of(b: u8, d: u8) -> Spelled
     ensures { λ r. ⌜ (spelled-as r 1 (single b) ≡ spelling b (d ∷ [])) × Pair-ok d r ⌝ }
 {
-    match (b as u16) * 256 + (d as u16) {
-        0x7c7c => Spelled::As(Sign::Operator(Operator::Or)),
-        0x2626 => Spelled::As(Sign::Operator(Operator::And)),
-        0x3c3d => Spelled::As(Sign::Operator(Operator::AtMost)),
-        0x3e3d => Spelled::As(Sign::Operator(Operator::AtLeast)),
-        0x3d3d => Spelled::As(Sign::Operator(Operator::Equal)),
-        0x213d => Spelled::As(Sign::Operator(Operator::Differs)),
+    match d {
+        b'=' => before_equals(b),
+        b'|' => {
+            if b == b'|' {
+                Spelled::As(Sign::Operator(Operator::Or))
+            } else {
+                Spelled::Nothing
+            }
+        }
+        b'&' => {
+            if b == b'&' {
+                Spelled::As(Sign::Operator(Operator::And))
+            } else {
+                Spelled::Nothing
+            }
+        }
         _ => Spelled::Nothing,
     }
 }
@@ -111,10 +136,10 @@ fn single_of(b: u8) -> Spelled
     }
 }
 
-// The sign at a place, the longest first.
+// The sign at an offset, the longest first.
 fn sign_at(s: &[u8], at: usize) -> Next
     requires { ⌜ at ≤ length (now s) ⌝ }
-    ensures { λ r. ⌜ Signs (now (s .entry)) at r ⌝ }
+    ensures { λ r. ⌜ Sign-at (now (s .entry)) at r ⌝ }
 {
     let b = calc_numeral::peek(s, at);
     match pair_of(b, calc_numeral::peek(s, at + 1)) {
@@ -130,15 +155,15 @@ fn is_blank(b: u8) -> bool
     ensures { λ r. ⌜ r ≡ among " \t" b ⌝ }
 {
     match b {
-        9 | 32 => true,
+        b'\t' | b' ' => true,
         _ => false,
     }
 }
 
-// The first place from here on that is not blank. What stands there is seen by its bytes, without making a symbol of it.
+// The first offset from here on that is not blank. What stands there is seen by its bytes, without making a symbol of it.
 fn skip_blanks(s: &[u8], at: usize) -> usize
     requires { ⌜ at ≤ length (now s) ⌝ }
-    ensures { λ r. ⌜ Skips (now (s .entry)) at r ⌝ }
+    ensures { λ r. ⌜ Blanks-to (now (s .entry)) at r ⌝ }
 {
     let mut p = at;
     while is_blank(calc_numeral::peek(s, p)) {
@@ -147,6 +172,7 @@ fn skip_blanks(s: &[u8], at: usize) -> usize
     p
 }
 
+// How tight an operator is; a conditional is looser than all of them.
 pub fn level_of(o: Operator) -> usize
     ensures { λ r. ⌜ r ≡ level o ⌝ }
 {
@@ -168,7 +194,7 @@ pub fn level_of(o: Operator) -> usize
 
 // An operand's first sign; != is none.
 fn first_other(s: &[u8], at: usize) -> First
-    requires { ⌜ (at < length (now s)) × (start (getD (now s) at 0) (drop (at + 1) (now s)) ≡ spelling (getD (now s) at 0) (drop (at + 1) (now s))) ⌝ }
+    requires { ⌜ (at < length (now s)) × Sign-only (now s) at ⌝ }
     ensures { λ r. ⌜ Begins (now (s .entry)) at r ⌝ }
 {
     match s[at] {
@@ -185,6 +211,7 @@ fn first_other(s: &[u8], at: usize) -> First
     }
 }
 
+// What begins an operand from an offset on. calc_value calls it, and the next two, at 0 or behind what it has read.
 pub fn first_at(s: &[u8], at: usize) -> First
     requires { ⌜ at ≤ length (now s) ⌝ }
     ensures { λ r. ⌜ Begins (now (s .entry)) at r ⌝ }
@@ -204,9 +231,9 @@ pub fn first_at(s: &[u8], at: usize) -> First
     }
 }
 
-// A conditional is looser than all operators.
+// What a sign does behind an operand, for a reader at level l.
 fn joint_sign(x: Sign, p: usize, l: usize) -> Joint
-    ensures { λ r. ⌜ ((s : List ℕ) (at : ℕ) → Then s at (symbol-of x) p → Joins s at l r) ⌝ }
+    ensures { λ r. ⌜ ((s : List ℕ) (at : ℕ) → Symbol-at s at (symbol-of x) p → Joins s at l r) ⌝ }
 {
     match x {
         Sign::Operator(o) => {
@@ -221,6 +248,7 @@ fn joint_sign(x: Sign, p: usize, l: usize) -> Joint
     }
 }
 
+// What continues behind an operand, for a reader at level l.
 pub fn joint_at(s: &[u8], at: usize, l: usize) -> Joint
     requires { ⌜ at ≤ length (now s) ⌝ }
     ensures { λ r. ⌜ Joins (now (s .entry)) at l r ⌝ }
@@ -232,30 +260,20 @@ pub fn joint_at(s: &[u8], at: usize, l: usize) -> Joint
     }
 }
 
-pub fn colon_at(s: &[u8], at: usize) -> Place
-    requires { ⌜ at ≤ length (now s) ⌝ }
-    ensures { λ r. ⌜ Colon-at (now (s .entry)) at r ⌝ }
+// The offset behind the byte b, if b comes next. calc_value looks so for the `:` and the `)` that it awaits.
+pub fn mark_at(s: &[u8], at: usize, b: u8) -> Place
+    requires { ⌜ (at ≤ length (now s)) × (0 < b) ⌝ }
+    ensures { λ r. ⌜ Mark-at (now (s .entry)) at b r ⌝ }
 {
     let p = skip_blanks(s, at);
-    if calc_numeral::peek(s, p) == b':' {
+    if calc_numeral::peek(s, p) == b {
         Place::At(p + 1)
     } else {
         Place::Missing
     }
 }
 
-pub fn close_at(s: &[u8], at: usize) -> Place
-    requires { ⌜ at ≤ length (now s) ⌝ }
-    ensures { λ r. ⌜ Close-at (now (s .entry)) at r ⌝ }
-{
-    let p = skip_blanks(s, at);
-    if calc_numeral::peek(s, p) == b')' {
-        Place::At(p + 1)
-    } else {
-        Place::Missing
-    }
-}
-
+// Whether only blanks are left. calc_value calls it behind what it has read.
 pub fn is_end(s: &[u8], at: usize) -> bool
     requires { ⌜ at ≤ length (now s) ⌝ }
     ensures { λ r. ⌜ Is-end (now (s .entry)) at r ⌝ }

@@ -4,7 +4,7 @@ ghost use mathlib.Core.List.{[], map};
 ghost use lib.ListN.{length, getD};
 ghost use Rattle.lists.specs.Select.{all, missing, holds-of};
 ghost use Rattle.calculation.specs.Symbol.{start};
-ghost use Rattle.calculation.specs.Value.{heard, good, letters, finite, near-one};
+ghost use Rattle.calculation.specs.Value.{heard, good, letters};
 ghost use Rattle.calculation.specs.Reader.{tree-of};
 ghost use Rattle.rule.specs.Rule.{true-tree};
 ghost use Rattle.calc_value.specs.Answer.{worth};
@@ -74,18 +74,11 @@ fn value_of(r: Reading) -> f64
     }
 }
 
-fn is_finite(x: f64) -> bool
-    ensures { λ r. ⌜ r ≡ finite x ⌝ }
-{
-    let top = 1.0 / 0.0;
-    -top < x && x < top
-}
-
 fn is_good(r: Reading) -> bool
     ensures { λ v. ⌜ v ≡ good r ⌝ }
 {
     match r {
-        Reading::Value(x) => is_finite(x),
+        Reading::Value(x) => calc_arith::is_finite(x),
         Reading::NeverHeard => false,
         Reading::Invalid => false,
     }
@@ -115,17 +108,11 @@ pub fn value(s: &[u8], rs: [Reading; 21]) -> Worth
     calc_value::worth_of(s, &vs)
 }
 
-fn near_one(x: f64) -> bool
-    ensures { λ r. ⌜ r ≡ near-one x ⌝ }
-{
-    0.99 < x && x < 1.01
-}
-
 fn near(w: Worth) -> bool
     ensures { λ r. ⌜ r ≡ near-worth w ⌝ }
 {
     match w {
-        Worth::Is(v) => near_one(v),
+        Worth::Is(v) => calc_arith::near_one(v),
         Worth::NoCalculation => false,
     }
 }

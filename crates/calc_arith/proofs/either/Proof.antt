@@ -15,7 +15,9 @@ returns : tie.Need-returns
 returns c = rw (← c .before .is-true-value .ensures, c .if1 .taken)
 
 returns-2 : tie.Need-returns-2
-returns-2 c = rw (← c .before .before .before .is-true-value .ensures, c .before .before .if1 .left, ← c .before .is-true-value2 .ensures) (c .truth-of .ensures)
+returns-2 c =
+    rw (← c .before .before .before .is-true-value .ensures, c .before .before .if1 .left, ← c .before .is-true-value2 .ensures)
+    (c .truth-of .ensures)
 
 pub either-spec : {M : Type 1} → statement M
 either-spec =

@@ -18,22 +18,49 @@ peek-requires : tie.Need-peek-requires
 peek-requires c κs = search needs
 
 sub-decimal-of : tie.Need-sub-decimal-of
-sub-decimal-of c = let a = (c .before .before .before .before .before .before .before .before) in let k = counted (a .args .s .now) (a .args .at) (a .args .left) (a .args .n) (c .before .before .before .before .before .before .digits-at .ensures) (c .before .before .before .before .m .given .1) in omega (arith, k .room)
+sub-decimal-of c =
+    let a = (c .before .before .before .before .before .before .before .before) in
+    let k = counted (a .args .s .now) (a .args .at) (a .args .left) (a .args .n)
+    (c .before .before .before .before .before .before .digits-at .ensures) (c .before .before .before .before .m .given .1) in
+    omega (arith, k .room)
 
 decimal-of-requires : tie.Need-decimal-of-requires
-decimal-of-requires c κs = let a = (c .before .before .before .before .before .before .before .before) in let k = counted (a .args .s .now) (a .args .at) (a .args .left) (a .args .n) (c .before .before .before .before .before .before .digits-at .ensures) (c .before .before .before .before .m .given .1) in omega (arith, k .room)
+decimal-of-requires c κs =
+    let a = (c .before .before .before .before .before .before .before .before) in
+    let k = counted (a .args .s .now) (a .args .at) (a .args .left) (a .args .n)
+    (c .before .before .before .before .before .before .digits-at .ensures) (c .before .before .before .before .m .given .1) in
+    omega (arith, k .room)
 
 returns : tie.Need-returns
-returns c = let a = (c .before .before .before .before) in λ w lw ew. fraction-many (a .args .s .now) (a .args .at) (a .args .left) (a .args .n) w lw ew (too-many (a .args .s .now) (a .args .at) (a .args .left) (a .args .n) (c .before .before .digits-at .ensures) (c .enum-told .given .1))
+returns c =
+    let a = (c .before .before .before .before) in
+    λ w lw ew. fraction-many (a .args .s .now) (a .args .at) (a .args .left) (a .args .n) w lw ew
+    (too-many (a .args .s .now) (a .args .at) (a .args .left) (a .args .n) (c .before .before .digits-at .ensures) (c .enum-told .given .1))
 
 returns-2 : tie.Need-returns-2
-returns-2 c = let a = (c .before .before .before .before .before .before) in λ w lw ew. fraction-none (a .args .s .now) (a .args .at) (a .args .left) (a .args .n) w lw ew (counted (a .args .s .now) (a .args .at) (a .args .left) (a .args .n) (c .before .before .before .before .digits-at .ensures) (c .before .before .m .given .1)) (c .if1 .taken)
+returns-2 c =
+    let a = (c .before .before .before .before .before .before) in
+    λ w lw ew. fraction-none (a .args .s .now) (a .args .at) (a .args .left) (a .args .n) w lw ew
+    (counted (a .args .s .now) (a .args .at) (a .args .left) (a .args .n) (c .before .before .before .before .digits-at .ensures)
+    (c .before .before .m .given .1))
+    (c .if1 .taken)
 
 returns-3 : tie.Need-returns-3
-returns-3 c = let a = (c .before .before .before .before .before .before .before .before) in λ w lw ew. fraction-point (a .args .s .now) (a .args .at) (a .args .left) (a .args .n) w lw ew (counted (a .args .s .now) (a .args .at) (a .args .left) (a .args .n) (c .before .before .before .before .before .before .digits-at .ensures) (c .before .before .before .before .m .given .1)) (c .before .peek .ensures) (c .if2 .taken)
+returns-3 c =
+    let a = (c .before .before .before .before .before .before .before .before) in
+    λ w lw ew. fraction-point (a .args .s .now) (a .args .at) (a .args .left) (a .args .n) w lw ew
+    (counted (a .args .s .now) (a .args .at) (a .args .left) (a .args .n)
+    (c .before .before .before .before .before .before .digits-at .ensures) (c .before .before .before .before .m .given .1))
+    (c .before .peek .ensures) (c .if2 .taken)
 
 returns-4 : tie.Need-returns-4
-returns-4 c = let a = (c .before .before .before .before .before .before .before .before .before) in λ w lw ew. fraction-is (a .args .s .now) (a .args .at) (a .args .left) (a .args .n) w lw ew (counted (a .args .s .now) (a .args .at) (a .args .left) (a .args .n) (c .before .before .before .before .before .before .before .digits-at .ensures) (c .before .before .before .before .before .m .given .1)) (c .before .before .peek .ensures) (c .before .if2 .left) (c .before .before .before .if1 .left) (c .decimal-of .ensures)
+returns-4 c =
+    let a = (c .before .before .before .before .before .before .before .before .before) in
+    λ w lw ew. fraction-is (a .args .s .now) (a .args .at) (a .args .left) (a .args .n) w lw ew
+    (counted (a .args .s .now) (a .args .at) (a .args .left) (a .args .n)
+    (c .before .before .before .before .before .before .before .digits-at .ensures)
+    (c .before .before .before .before .before .m .given .1))
+    (c .before .before .peek .ensures) (c .before .if2 .left) (c .before .before .before .if1 .left) (c .decimal-of .ensures)
 
 pub fraction-at-spec : {M : Type 1} → statement M
 fraction-at-spec =

@@ -18,22 +18,43 @@ peek-requires : tie.Need-peek-requires
 peek-requires c κs = search needs
 
 add-fraction-at : tie.Need-add-fraction-at
-add-fraction-at c = let a = (c .before .before .before .before .before .before .before) in let i = point-inside (a .args .s .now) (c .before .before .before .n .given .0 .1 .0) (c .before .peek .ensures) (c .if1 .taken) in omega arith
+add-fraction-at c =
+    let a = (c .before .before .before .before .before .before .before) in
+    let i = point-inside (a .args .s .now) (c .before .before .before .n .given .0 .1 .0) (c .before .peek .ensures) (c .if1 .taken) in
+    omega arith
 
 fraction-at-requires : tie.Need-fraction-at-requires
-fraction-at-requires c κs = let a = (c .before .before .before .before .before .before .before) in let k = counted (a .args .s .now) (a .args .at) 15 0 (c .before .before .before .before .before .digits-at .ensures) (c .before .before .before .n .given .1) in let i = point-inside (a .args .s .now) (c .before .before .before .n .given .0 .1 .0) (c .before .peek .ensures) (c .if1 .taken) in (omega arith, omega (arith, k .room), k .small)
+fraction-at-requires c κs =
+    let a = (c .before .before .before .before .before .before .before) in
+    let k = counted (a .args .s .now) (a .args .at) 15 0 (c .before .before .before .before .before .digits-at .ensures)
+    (c .before .before .before .n .given .1) in
+    let i = point-inside (a .args .s .now) (c .before .before .before .n .given .0 .1 .0) (c .before .peek .ensures) (c .if1 .taken) in
+    (omega arith, omega (arith, k .room), k .small)
 
 decimal-of-requires : tie.Need-decimal-of-requires
 decimal-of-requires c κs = omega arith
 
 returns : tie.Need-returns
-returns c = let a = (c .before .before .before .before) in number-many (a .args .s .now) (a .args .at) (too-many (a .args .s .now) (a .args .at) 15 0 (c .before .before .digits-at .ensures) (c .enum-told .given .1))
+returns c =
+    let a = (c .before .before .before .before) in
+    number-many (a .args .s .now) (a .args .at)
+    (too-many (a .args .s .now) (a .args .at) 15 0 (c .before .before .digits-at .ensures) (c .enum-told .given .1))
 
 returns-2 : tie.Need-returns-2
-returns-2 c = let a = (c .before .before .before .before .before .before .before .before) in number-point (a .args .s .now) (a .args .at) (counted (a .args .s .now) (a .args .at) 15 0 (c .before .before .before .before .before .before .digits-at .ensures) (c .before .before .before .before .n .given .1)) (c .before .before .peek .ensures) (c .before .if1 .taken) (c .fraction-at .result) (c .fraction-at .ensures)
+returns-2 c =
+    let a = (c .before .before .before .before .before .before .before .before) in
+    number-point (a .args .s .now) (a .args .at)
+    (counted (a .args .s .now) (a .args .at) 15 0 (c .before .before .before .before .before .before .digits-at .ensures)
+    (c .before .before .before .before .n .given .1))
+    (c .before .before .peek .ensures) (c .before .if1 .taken) (c .fraction-at .result) (c .fraction-at .ensures)
 
 returns-3 : tie.Need-returns-3
-returns-3 c = let a = (c .before .before .before .before .before .before .before .before) in number-whole (a .args .s .now) (a .args .at) (counted (a .args .s .now) (a .args .at) 15 0 (c .before .before .before .before .before .before .digits-at .ensures) (c .before .before .before .before .n .given .1)) (a .pre .1) (c .before .before .peek .ensures) (c .before .if1 .left) (c .decimal-of .ensures)
+returns-3 c =
+    let a = (c .before .before .before .before .before .before .before .before) in
+    number-whole (a .args .s .now) (a .args .at)
+    (counted (a .args .s .now) (a .args .at) 15 0 (c .before .before .before .before .before .before .digits-at .ensures)
+    (c .before .before .before .before .n .given .1))
+    (a .pre .1) (c .before .before .peek .ensures) (c .before .if1 .left) (c .decimal-of .ensures)
 
 pub number-at-spec : {M : Type 1} → statement M
 number-at-spec =

@@ -34,7 +34,7 @@ room-for left n d l h a e = subst (λ (k : ℕ). n * 10 + d < 10 ^ k) step (omeg
 pub small : (left n : ℕ) → n < 10 ^ (15 - left) → n < 10 ^ 15
 small left n a = omega (arith, pow-le-pow-right {n = 10} (omega arith) {i = 15 - left} {j = 15} (omega arith))
 
--- b is the byte at a place, and d whether it is a digit
+-- b is the byte at an offset, and d whether it is a digit
 module _ (s : List ℕ) (at left n : ℕ) {b : ℕ} {d : Bool} (eb : b ≡ getD s at 0) (ed : d ≡ digit b) where
   tested : (t : Bool) → d ≡ t → digit (getD s at 0) ≡ t
   tested t e = ap digit (sym eb) ∙ (sym ed ∙ e)
@@ -42,8 +42,8 @@ module _ (s : List ℕ) (at left n : ℕ) {b : ℕ} {d : Bool} (eb : b ≡ getD 
   pub digit-inside : d ≡ true → at < length s
   digit-inside e = passed-inside digit s at refl (tested true e)
 
-  pub digit-least : d ≡ true → 48 ≤ b
-  digit-least e = digit-low b (sym ed ∙ e)
+  pub digit-read : {c : ℕ} → c ≡ getD s at 0 → d ≡ true → digit c ≡ true
+  digit-read q e = ap digit q ∙ tested true e
 
   pub digit-room : {m : ℕ} → d ≡ true → 1 ≤ left → left ≤ 15 → n < 10 ^ (15 - left) → m ≡ n * 10 + (b - 48) → m < 10 ^ (15 - (left - 1))
   digit-room e l h a q = let z = digit-high b (sym ed ∙ e) in rw q (room-for left n (b - 48) l h a (omega arith))
@@ -54,13 +54,13 @@ module _ (s : List ℕ) (at left n : ℕ) {b : ℕ} {d : Bool} (eb : b ≡ getD 
   pub digits-stop : d ≡ false → at ≤ length s → n < 10 ^ (15 - left) → Counted s at left n n at left
   digits-stop e h a =
       let z = stops digit s at (tested false e) in
-      record { place = rw (z .0) (omega arith); room = rw (z .0) (omega arith); within = h; makes = rw (z .0); small = a; behind = z .1 }
+      record { offset = rw (z .0) (omega arith); room = rw (z .0) (omega arith); within = h; makes = rw (z .0); small = a; behind = z .1 }
 
   pub digits-more : (m : ℕ) (r : Digits) → d ≡ true → 1 ≤ left → m ≡ n * 10 + (b - 48) → Counts s (at + 1) (left - 1) m r → Counts s at left n r
   digits-more m (Are a p l) e h q k =
       let z = run-more digit s at (tested true e) (digit-inside e) in
       record {
-        place = rw z (omega (arith, k .place));
+        offset = rw z (omega (arith, k .offset));
         room = rw z (omega (arith, k .room));
         within = k .within;
         makes = rw z (subst (λ (x : ℕ). a ≡ whole x (run digit (drop (at + 1) s))) (q ∙ ap (λ (y : ℕ). n * 10 + (y - 48)) eb) (k .makes));

@@ -14,7 +14,7 @@ use Rattle.calculation.specs.Symbol.{decimal, numeral-byte, pointed, within-dig
 use Rattle.calc_numeral.specs.declared.Figure.{Figure}
 use Rattle.calc_numeral.specs.declared.Figure.the-variants.{Is, Wrong}
 use Rattle.calc_numeral.specs.Numeral.{Counted, Fraction, Numbered}
-use Rattle.calc_numeral.specs.laws.Runs.{clash, all-run, after-head, head-at, passed-inside, run-more, after-more, stops}
+use Rattle.calc_numeral.specs.laws.Runs.{absurd-bool, all-run, after-head, head-at, passed-inside, run-more, after-more, stops}
 
 -- ---- figures are digits, and then points and digits
 
@@ -30,7 +30,7 @@ run-digit-run (b ∷ y) = go (numeral-byte b) (digit b) refl refl (run-digit-run
         → run digit (keep-if t b (run numeral-byte y)) ≡ keep-if u b (run digit y)
     go true true e f h = rw (f, h)
     go true false e f h = rw f
-    go false true e f h = clash (sym (figure-of b f) ∙ e)
+    go false true e f h = absurd-bool (sym (figure-of b f) ∙ e)
     go false false e f h = refl
 
 after-digit-run : (y : List ℕ) → after digit (run numeral-byte y) ≡ run numeral-byte (after digit y)
@@ -42,7 +42,7 @@ after-digit-run (b ∷ y) = go (numeral-byte b) (digit b) refl refl (after-digit
         → after digit (keep-if t b (run numeral-byte y)) ≡ run numeral-byte (skip-if u (after digit y) (b ∷ y))
     go true true e f h = rw f h
     go true false e f h = rw (e, f)
-    go false true e f h = clash (sym (figure-of b f) ∙ e)
+    go false true e f h = absurd-bool (sym (figure-of b f) ∙ e)
     go false false e f h = rw e
 
 after-after : (y : List ℕ) → after numeral-byte y ≡ after numeral-byte (after digit y)
@@ -132,7 +132,7 @@ module _ (s : List ℕ) (at left n : ℕ) (w : List ℕ) (lw : length w + left �
 
   module _ {m p l : ℕ} (k : Counted s at left n m p l) where
     pub fraction-none : p ≡ at → Fraction s at w Wrong
-    fraction-none e = none-behind w (run numeral-byte (drop at s)) (go (run numeral-byte (drop at s)) (run-digit-run (drop at s)) (omega (arith, k .place)))
+    fraction-none e = none-behind w (run numeral-byte (drop at s)) (go (run numeral-byte (drop at s)) (run-digit-run (drop at s)) (omega (arith, k .offset)))
       where
         go : (y : List ℕ) → run digit y ≡ run digit (drop at s) → length (run digit (drop at s)) ≡ 0 → digit (getD y 0 0) ≡ false
         go [] f h = refl
@@ -153,11 +153,15 @@ module _ (s : List ℕ) (at left n : ℕ) (w : List ℕ) (lw : length w + left �
         let z = stops numeral-byte s p (no-figure s at p (k .behind) (λ e. nb (eb ∙ e))) in
         let f = run digit (drop at s) in
         let q : run numeral-byte (drop at s) ≡ run digit (drop at s) = parts ∙ rw (z .0) (append-nil (run digit (drop at s))) in (
-          record { later = omega (arith, k .place, np); within = k .within; behind = after-after (drop at s) ∙ rw (k .behind) (z .1) },
+          record { later = omega (arith, k .offset, np); within = k .within; behind = after-after (drop at s) ∙ rw (k .behind) (z .1) },
           rw q
-              (digits-behind w (run digit (drop at s)) (omega (arith, k .place, np)) (all-run digit (drop at s))
+              (digits-behind w (run digit (drop at s)) (omega (arith, k .offset, np)) (all-run digit (drop at s))
               ∙ within-some w (run digit (drop at s)) (omega (arith, k .room))
-              ∙ ap some (sym (ev ∙ rw (k .makes, ew, ← whole-append 0 w (run digit (drop at s))) (ap (decimal (whole 0 (w ++ run digit (drop at s)))) (omega (arith, k .room)))))),
+              ∙ ap some
+              (sym
+              (ev
+              ∙ rw (k .makes, ew, ← whole-append 0 w (run digit (drop at s)))
+              (ap (decimal (whole 0 (w ++ run digit (drop at s)))) (omega (arith, k .room)))))),
         )
 
 -- ---- number_at
@@ -180,7 +184,7 @@ module _ (s : List ℕ) (at : ℕ) where
         let z = h (run digit (drop at s)) (k .room) (k .makes) in
         let i = point-inside s p eb e in (
           record {
-            later = omega (arith, z .0 .later, k .place);
+            later = omega (arith, z .0 .later, k .offset);
             within = z .0 .within;
             behind = after-after (drop at s) ∙ rw (k .behind) (after-more numeral-byte s p (rw (← eb, e) refl) i ∙ z .0 .behind);
           },
@@ -192,8 +196,10 @@ module _ (s : List ℕ) (at : ℕ) where
     number-whole {b} {v} e eb nb ev =
         let g = no-figure s at p (k .behind) (λ q. nb (eb ∙ q)) in
         let z = stops numeral-byte s p g in
-        let np : p ≡ at → ⊥ = λ q. clash (sym e ∙ rw (← q) g) in (
-          record { later = omega (arith, k .place, np); within = k .within; behind = after-after (drop at s) ∙ rw (k .behind) (z .1) },
+        let np : p ≡ at → ⊥ = λ q. absurd-bool (sym e ∙ rw (← q) g) in (
+          record { later = omega (arith, k .offset, np); within = k .within; behind = after-after (drop at s) ∙ rw (k .behind) (z .1) },
           behind-is
-              ∙ rw (z .0) (within-some (run digit (drop at s)) [] (omega (arith, k .room)) ∙ ap some (sym (ev ∙ rw (k .makes, append-nil (run digit (drop at s)))))),
+              ∙ rw (z .0)
+              (within-some (run digit (drop at s)) [] (omega (arith, k .room))
+              ∙ ap some (sym (ev ∙ rw (k .makes, append-nil (run digit (drop at s)))))),
         )

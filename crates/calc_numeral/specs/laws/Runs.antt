@@ -11,10 +11,10 @@ use lib.ListN.{length, getD, drop, List·getD-eq-default}
 use lib.Seq.{drop-cons, getD-drop}
 use Rattle.lists.specs.Select.{all, run, after, keep-if, skip-if}
 
-pub clash : {A : Type 0} → true ≡ false → A
-clash e = let z : _≡_ {A = ℕ} 0 1 = cc in absurd (omega arith)
+pub absurd-bool : {A : Type 0} → true ≡ false → A
+absurd-bool e = let z : _≡_ {A = ℕ} 0 1 = cc in absurd (omega arith)
 
--- ---- a run from a place on, of a test that 0 does not pass
+-- ---- a run from an offset on, of a test that 0 does not pass
 
 module _ (p : ℕ → Bool) where
   pub run-stop : (y : List ℕ) → p (getD y 0 0) ≡ false → (run p y ≡ []) × (after p y ≡ y)
@@ -45,7 +45,7 @@ module _ (p : ℕ → Bool) where
     passed-inside z e = go (leb (length s) at) refl
       where
         go : (t : Bool) → leb (length s) at ≡ t → at < length s
-        go true h = clash (sym e ∙ ap p (List·getD-eq-default s 0 (leb-true (length s) at h)) ∙ z)
+        go true h = absurd-bool (sym e ∙ ap p (List·getD-eq-default s 0 (leb-true (length s) at h)) ∙ z)
         go false h = leb-false (length s) at h
 
     pub run-more : p (getD s at 0) ≡ true → at < length s → run p (drop at s) ≡ getD s at 0 ∷ run p (drop (at + 1) s)

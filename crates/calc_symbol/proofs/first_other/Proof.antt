@@ -32,13 +32,21 @@ returns-2 : tie.Need-returns-2
 returns-2 c = let a = c .before .before .before in is-byte (a .args .s .now) (a .args .at) (a .pre .0) 40 (c .match .keys2) refl
 
 returns-3 : tie.Need-returns-3
-returns-3 c = let a = c .before .before .before .before .before in no-prefix (a .args .s .now) (a .args .at) (syms (a .args .s .now) (a .args .at + 1 + 1)) (is-differs (a .args .s .now) (a .args .at) (a .pre .0) (c .before .before .match .keys3) (c .before .peek .ensures) (c .if1 .taken))
+returns-3 c =
+    let a = c .before .before .before .before .before in
+    no-prefix (a .args .s .now) (a .args .at) (syms (a .args .s .now) (a .args .at + 1 + 1))
+    (is-differs (a .args .s .now) (a .args .at) (a .pre .0) (c .before .before .match .keys3) (c .before .peek .ensures) (c .if1 .taken))
 
 returns-4 : tie.Need-returns-4
-returns-4 c = let a = c .before .before .before .before .before in is-not (a .args .s .now) (a .args .at) (a .pre .0) (c .before .before .match .keys3) (c .before .peek .ensures) (c .if1 .left)
+returns-4 c =
+    let a = c .before .before .before .before .before in
+    is-not (a .args .s .now) (a .args .at) (a .pre .0) (c .before .before .match .keys3) (c .before .peek .ensures) (c .if1 .left)
 
 returns-5 : tie.Need-returns-5
-returns-5 c = let a = c .before .before .before in no-operand (a .args .s .now) (a .args .at) (signed-at (a .args .s .now) (a .args .at) (a .pre .0) (a .pre .1)) (c .match .rest .0 .0 .1) (c .match .rest .0 .1) (c .match .rest .1)
+returns-5 c =
+    let a = c .before .before .before in
+    no-operand (a .args .s .now) (a .args .at) (signed-at (a .args .s .now) (a .args .at) (a .pre .0) (a .pre .1)) (c .match .rest .0 .0 .1)
+    (c .match .rest .0 .1) (c .match .rest .1)
 
 pub first-other-spec : {M : Type 1} → statement M
 first-other-spec =

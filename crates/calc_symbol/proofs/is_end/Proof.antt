@@ -11,7 +11,9 @@ returns : tie.Need-returns
 returns c = let a = c .before .before .before .args in end-here (a .s .now) (a .at) (c .before .skip-blanks .ensures) (omega (arith, c .if1 .taken))
 
 returns-2 : tie.Need-returns-2
-returns-2 c = let a = c .before .before .before .args in end-missing (a .s .now) (a .at) (c .before .skip-blanks .ensures) (omega (arith, c .before .skip-blanks .ensures .within, c .if1 .left))
+returns-2 c =
+    let a = c .before .before .before .args in
+    end-missing (a .s .now) (a .at) (c .before .skip-blanks .ensures) (omega (arith, c .before .skip-blanks .ensures .within, c .if1 .left))
 
 pub is-end-spec : {M : Type 1} → statement M
 is-end-spec = tie.close (tie.spec skip-blanks-requires returns returns-2)

@@ -23,7 +23,12 @@ enum-known-x : tie.Need-enum-known-x
 enum-known-x c = search needs
 
 add-t10 : tie.Need-add-t10
-add-t10 c = let a = (c .before .before .before .before .before .before .before) in let i = nonzero-inside (a .args .s .now) (a .args .at + 1) (c .before .before .before .before .peek2 .ensures) (subst (Pair-ok (c .before .before .before .before .peek2 .result)) (c .before .x .given .1) (c .before .before .before .pair-of .ensures .1)) in omega arith
+add-t10 c =
+    let a = (c .before .before .before .before .before .before .before) in
+    let i = nonzero-inside (a .args .s .now) (a .args .at + 1) (c .before .before .before .before .peek2 .ensures)
+    (subst (Pair-ok (c .before .before .before .before .peek2 .result)) (c .before .x .given .1) (c .before .before .before .pair-of .ensures .1))
+    in
+    omega arith
 
 enum-told : tie.Need-enum-told
 enum-told c = search needs
@@ -41,13 +46,28 @@ enum-told-2 : tie.Need-enum-told-2
 enum-told-2 c = search needs
 
 returns : tie.Need-returns
-returns c = let a = (c .before .before .before .before .before .before .before) in sign-two (a .args .s .now) (a .args .at) (c .before .before .before .before .before .peek .ensures) (c .before .before .before .before .peek2 .ensures) (c .before .before .before .pair-of .result) (c .before .before .before .pair-of .ensures .0) (c .before .x .given .1) (c .before .before .before .pair-of .ensures .1)
+returns c =
+    let a = (c .before .before .before .before .before .before .before) in
+    sign-two (a .args .s .now) (a .args .at) (c .before .before .before .before .before .peek .ensures)
+    (c .before .before .before .before .peek2 .ensures) (c .before .before .before .pair-of .result)
+    (c .before .before .before .pair-of .ensures .0) (c .before .x .given .1) (c .before .before .before .pair-of .ensures .1)
 
 returns-2 : tie.Need-returns-2
-returns-2 c = let a = (c .before .before .before .before .before .before .before .before .before .before) in sign-one (a .args .s .now) (a .args .at) (c .before .before .before .before .before .before .before .before .peek .ensures) (c .before .before .before .before .before .before .before .peek2 .ensures) (c .before .before .before .before .before .before .pair-of .result) (c .before .before .before .before .before .before .pair-of .ensures .0) (c .before .before .before .before .enum-told .given .1) (c .before .before .before .single-of .result) (c .before .before .before .single-of .ensures) (c .before .x2 .given .1)
+returns-2 c =
+    let a = (c .before .before .before .before .before .before .before .before .before .before) in
+    sign-one (a .args .s .now) (a .args .at) (c .before .before .before .before .before .before .before .before .peek .ensures)
+    (c .before .before .before .before .before .before .before .peek2 .ensures)
+    (c .before .before .before .before .before .before .pair-of .result)
+    (c .before .before .before .before .before .before .pair-of .ensures .0) (c .before .before .before .before .enum-told .given .1)
+    (c .before .before .before .single-of .result) (c .before .before .before .single-of .ensures) (c .before .x2 .given .1)
 
 returns-3 : tie.Need-returns-3
-returns-3 c = let a = (c .before .before .before .before .before .before .before .before .before) in sign-none (a .args .s .now) (a .args .at) (c .before .before .before .before .before .before .before .peek .ensures) (c .before .before .before .before .before .before .peek2 .ensures) (c .before .before .before .before .before .pair-of .result) (c .before .before .before .before .before .pair-of .ensures .0) (c .before .before .before .enum-told .given .1) (c .before .before .single-of .result) (c .before .before .single-of .ensures) (c .enum-told2 .given .1)
+returns-3 c =
+    let a = (c .before .before .before .before .before .before .before .before .before) in
+    sign-none (a .args .s .now) (a .args .at) (c .before .before .before .before .before .before .before .peek .ensures)
+    (c .before .before .before .before .before .before .peek2 .ensures) (c .before .before .before .before .before .pair-of .result)
+    (c .before .before .before .before .before .pair-of .ensures .0) (c .before .before .before .enum-told .given .1)
+    (c .before .before .single-of .result) (c .before .before .single-of .ensures) (c .enum-told2 .given .1)
 
 pub sign-at-spec : {M : Type 1} → statement M
 sign-at-spec =

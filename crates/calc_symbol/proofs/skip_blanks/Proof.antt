@@ -24,16 +24,37 @@ is-blank-requires : tie.Need-is-blank-requires Inv-loop μ-loop
 is-blank-requires c κs = search needs
 
 add-p : tie.Need-add-p Inv-loop μ-loop
-add-p c = let a = c .before .before .before .before .before .args in let i = c .before .before .before .loop in omega (arith, blank-inside (a .s .now) (a .at) (i .p) (i .inv .2) (c .before .before .peek .ensures) (c .before .is-blank .ensures) (c .if1 .taken))
+add-p c =
+    let a = c .before .before .before .before .before .args in
+    let i = c .before .before .before .loop in
+    omega
+    (arith, blank-inside (a .s .now) (a .at) (i .p) (i .inv .2) (c .before .before .peek .ensures) (c .before .is-blank .ensures) (c .if1 .taken))
 
 loop-less : tie.Need-loop-less Inv-loop μ-loop
-loop-less c = let a = c .before .before .before .before .before .args in let i = c .before .before .before .loop in omega (arith, blank-inside (a .s .now) (a .at) (i .p) (i .inv .2) (c .before .before .peek .ensures) (c .before .is-blank .ensures) (c .if1 .taken))
+loop-less c =
+    let a = c .before .before .before .before .before .args in
+    let i = c .before .before .before .loop in
+    omega
+    (arith, blank-inside (a .s .now) (a .at) (i .p) (i .inv .2) (c .before .before .peek .ensures) (c .before .is-blank .ensures) (c .if1 .taken))
 
 loop-again : tie.Need-loop-again Inv-loop μ-loop
-loop-again c = let a = c .before .before .before .before .before .args in let i = c .before .before .before .loop in let h = blank-inside (a .s .now) (a .at) (i .p) (i .inv .2) (c .before .before .peek .ensures) (c .before .is-blank .ensures) (c .if1 .taken) in (omega arith, omega arith, blank-on (a .s .now) (a .at) (i .p) (i .inv .2) (c .before .before .peek .ensures) (c .before .is-blank .ensures) (c .if1 .taken))
+loop-again c =
+    let a = c .before .before .before .before .before .args in
+    let i = c .before .before .before .loop in
+    let h = blank-inside (a .s .now) (a .at) (i .p) (i .inv .2) (c .before .before .peek .ensures) (c .before .is-blank .ensures)
+    (c .if1 .taken) in (
+      omega arith,
+      omega arith,
+      blank-on (a .s .now) (a .at) (i .p) (i .inv .2) (c .before .before .peek .ensures)
+          (c .before .is-blank .ensures) (c .if1 .taken),
+    )
 
 returns : tie.Need-returns Inv-loop μ-loop
-returns c = let a = c .before .before .before .before .before .args in let i = c .before .before .before .loop in blank-off (a .s .now) (a .at) (i .p) (i .inv .2) (c .before .before .peek .ensures) (c .before .is-blank .ensures) (c .if1 .left) (i .inv .0) (i .inv .1)
+returns c =
+    let a = c .before .before .before .before .before .args in
+    let i = c .before .before .before .loop in
+    blank-off (a .s .now) (a .at) (i .p) (i .inv .2) (c .before .before .peek .ensures) (c .before .is-blank .ensures) (c .if1 .left)
+    (i .inv .0) (i .inv .1)
 
 pub skip-blanks-spec : {M : Type 1} → statement M
 skip-blanks-spec =

@@ -13,10 +13,17 @@ use Rattle.lists.specs.Select.{all, first, first-if}
 use Rattle.lists.specs.Both.{both}
 use Rattle.calculation.specs.declared.Operator.{Operator}
 use Rattle.calculation.specs.declared.Operator.the-variants as op
-use Rattle.calculation.specs.Symbol.{Symbol, number, letter, operator, not-sign, question, colon, open-paren, close-paren, Spelling, spellings, blank, figure, sign, sign-of, wrong, start, numeral-byte}
-use Rattle.calc_symbol.specs.Scan.{spelling, single}
-use Rattle.calc_numeral.specs.laws.Runs.{clash}
+use Rattle.calculation.specs.Symbol.{Symbol, number, letter, operator, not-sign, question, colon, open-paren, close-paren, Spelling, spellings, Start, blank}
+use Rattle.calculation.specs.Symbol.{figure, sign, sign-of, wrong, start, numeral-byte}
+use Rattle.calc_symbol.specs.declared.Spelled.{Spelled}
+use Rattle.calc_symbol.specs.declared.Spelled.the-variants.{As, Nothing}
+use Rattle.calc_symbol.specs.Scan.{spelling, single, Pair-ok}
+use Rattle.calc_numeral.specs.laws.Runs.{absurd-bool}
 use Rattle.calc_numeral.specs.laws.Range.{above, inside}
+
+-- what a byte begins: a blank, a number, a capital letter, a small letter, or else x
+abbrev pub start-by : Bool → Bool → Bool → Bool → ℕ → Start → Start
+start-by p q u v b x = cond p blank (cond q figure (cond u (sign (letter (b - 65)) 0) (cond v (sign (letter (b - 97)) 0) x)))
 
 -- what a byte begins that is neither blank nor part of a number
 module _ (b : ℕ) (n9 : b ≡ 9 → ⊥) (n32 : b ≡ 32 → ⊥) where
@@ -29,7 +36,14 @@ module _ (b : ℕ) (n9 : b ≡ 9 → ⊥) (n32 : b ≡ 32 → ⊥) where
 
     pub start-lower : (s : List ℕ) → 97 ≤ b → b ≤ 117 → start b s ≡ sign (letter (b - 97)) 0
     start-lower s l h =
-        rw (ne-eqb b 32 n32, ne-eqb b 9 n9, above 48 57 b (omega arith) (omega arith), ne-eqb b 46 n46, above 65 85 b (omega arith) (omega arith), inside 97 117 b l h)
+        rw (
+          ne-eqb b 32 n32,
+          ne-eqb b 9 n9,
+          above 48 57 b (omega arith) (omega arith),
+          ne-eqb b 46 n46,
+          above 65 85 b (omega arith) (omega arith),
+          inside 97 117 b l h,
+        )
 
     pub start-other : (s : List ℕ) → digit b ≡ false → within 65 85 b ≡ false → within 97 117 b ≡ false → start b s ≡ spelling b s
     unfolding spelling
@@ -37,22 +51,38 @@ module _ (b : ℕ) (n9 : b ≡ 9 → ⊥) (n32 : b ≡ 32 → ⊥) where
 
 -- ---- spellings
 
-both-false : (x y b d : ℕ) → (b * 256 + d ≡ x * 256 + y → ⊥) → (eqb x b && (eqb y d && true)) ≡ false
+-- two bytes are not the spelling of x and y
+both-false : (x y b d : ℕ) → (b ≡ x → d ≡ y → ⊥) → (eqb x b && (eqb y d && true)) ≡ false
 both-false x y b d n = go (eqb x b) (eqb y d) refl refl
   where
     go : (p q : Bool) → eqb x b ≡ p → eqb y d ≡ q → (p && (q && true)) ≡ false
-    go true true e f = absurd (n (omega (arith, eqb-true x b e, eqb-true y d f)))
+    go true true e f = absurd (n (sym (eqb-true x b e)) (sym (eqb-true y d f)))
     go true false e f = refl
     go false q e f = refl
 
 -- no spelling of two bytes
 pub no-pair :
     (b d : ℕ)
-    → (b * 256 + d ≡ 0x7c7c → ⊥) → (b * 256 + d ≡ 0x2626 → ⊥) → (b * 256 + d ≡ 0x3c3d → ⊥)
-    → (b * 256 + d ≡ 0x3e3d → ⊥) → (b * 256 + d ≡ 0x3d3d → ⊥) → (b * 256 + d ≡ 0x213d → ⊥) → single b ≡ spelling b (d ∷ [])
+    → (b ≡ 124 → d ≡ 124 → ⊥) → (b ≡ 38 → d ≡ 38 → ⊥) → (b ≡ 60 → d ≡ 61 → ⊥)
+    → (b ≡ 62 → d ≡ 61 → ⊥) → (b ≡ 61 → d ≡ 61 → ⊥) → (b ≡ 33 → d ≡ 61 → ⊥) → single b ≡ spelling b (d ∷ [])
 unfolding spelling single
 no-pair b d n1 n2 n3 n4 n5 n6 =
-    rw (both-false 124 124 b d n1, both-false 38 38 b d n2, both-false 60 61 b d n3, both-false 62 61 b d n4, both-false 61 61 b d n5, both-false 33 61 b d n6)
+    rw (
+      both-false 124 124 b d n1,
+      both-false 38 38 b d n2,
+      both-false 60 61 b d n3,
+      both-false 62 61 b d n4,
+      both-false 61 61 b d n5,
+      both-false 33 61 b d n6,
+    )
+
+-- no spelling of two bytes that ends with d, which is not `=`
+pub no-second : (b d : ℕ) → (d ≡ 61 → ⊥) → (b ≡ 124 → d ≡ 124 → ⊥) → (b ≡ 38 → d ≡ 38 → ⊥) → single b ≡ spelling b (d ∷ [])
+no-second b d n n1 n2 = no-pair b d n1 n2 (λ _. n) (λ _. n) (λ _. n) (λ _. n)
+
+pub pair-ok : (d : ℕ) (r : Spelled) → 0 < d → Pair-ok d r
+pair-ok d (As x) h = h
+pair-ok d Nothing h = tt
 
 -- a spelling looks at two bytes at most
 pub two-bytes : (b : ℕ) (s : List ℕ) → spelling b s ≡ spelling b (getD s 0 0 ∷ [])
@@ -67,8 +97,24 @@ pub no-single :
     → (b ≡ 47 → ⊥) → (b ≡ 33 → ⊥) → (b ≡ 63 → ⊥) → (b ≡ 58 → ⊥) → (b ≡ 40 → ⊥) → (b ≡ 41 → ⊥) → wrong ≡ single b
 unfolding single
 no-single b n1 n2 n3 n4 n5 n6 n7 n8 n9 n10 n11 n12 n13 =
-    rw
-    (ne-eqb 60 b (λ e. n1 (sym e)), ne-eqb 62 b (λ e. n2 (sym e)), ne-eqb 61 b (λ e. n3 (sym e)), ne-eqb 35 b (λ e. n4 (sym e)), ne-eqb 43 b (λ e. n5 (sym e)), ne-eqb 45 b (λ e. n6 (sym e)), ne-eqb 42 b (λ e. n7 (sym e)), ne-eqb 47 b (λ e. n8 (sym e)), ne-eqb 33 b (λ e. n9 (sym e)), ne-eqb 63 b (λ e. n10 (sym e)), ne-eqb 58 b (λ e. n11 (sym e)), ne-eqb 40 b (λ e. n12 (sym e)), ne-eqb 41 b (λ e. n13 (sym e)))
+    rw (
+      other 60 n1,
+      other 62 n2,
+      other 61 n3,
+      other 35 n4,
+      other 43 n5,
+      other 45 n6,
+      other 42 n7,
+      other 47 n8,
+      other 33 n9,
+      other 63 n10,
+      other 58 n11,
+      other 40 n12,
+      other 41 n13,
+    )
+  where
+    other : (x : ℕ) → (b ≡ x → ⊥) → eqb x b ≡ false
+    other x n = ne-eqb x b (λ e. n (sym e))
 
 -- ---- the first byte of a sign
 
@@ -76,7 +122,9 @@ pub first-all : {A : Type 0} (q p : A → Bool) (xs : List A) {x : A} → all q 
 first-all q p [] h e = let z : _≡_ {A = ℕ} 0 1 = cc in absurd (omega arith)
 first-all {A} q p (y ∷ ys) {x} h e = let k = both (q y) (all q ys) h in go (p y) refl (k .0) (first-all q p ys (k .1)) e
   where
-    go : (t : Bool) → p y ≡ t → q y ≡ true → (first p ys ≡ some x → (q x ≡ true) × (p x ≡ true)) → first-if t y (first p ys) ≡ some x → (q x ≡ true) × (p x ≡ true)
+    go :
+        (t : Bool) → p y ≡ t → q y ≡ true → (first p ys ≡ some x → (q x ≡ true) × (p x ≡ true)) → first-if t y (first p ys) ≡ some x
+        → (q x ≡ true) × (p x ≡ true)
     go true g k f e = let z : y ≡ x = cc in subst (λ (w : A). (q w ≡ true) × (p w ≡ true)) z (k, g)
     go false g k f e = f e
 
@@ -96,15 +144,15 @@ minus-byte op.Times b = true
 minus-byte op.Over b = true
 
 -- a byte that a sign can begin with
-abbrev pub led : Symbol → ℕ → Bool
-led (number v) b = false
-led (letter i) b = false
-led (operator o) b = minus-byte o b
-led not-sign b = eqb b 33
-led question b = eqb b 63
-led colon b = eqb b 58
-led open-paren b = eqb b 40
-led close-paren b = eqb b 41
+abbrev pub begins-with : Symbol → ℕ → Bool
+begins-with (number v) b = false
+begins-with (letter i) b = false
+begins-with (operator o) b = minus-byte o b
+begins-with not-sign b = eqb b 33
+begins-with question b = eqb b 63
+begins-with colon b = eqb b 58
+begins-with open-paren b = eqb b 40
+begins-with close-paren b = eqb b 41
 
 abbrev sign-byte : ℕ → Bool
 sign-byte b = ltb 0 b && (not (among " \t" b) && (not (numeral-byte b) && (not (within 65 85 b) && not (within 97 117 b))))
@@ -113,11 +161,11 @@ abbrev head-passes : (ℕ → Bool) → List ℕ → Bool
 head-passes p [] = false
 head-passes p (c ∷ w) = p c
 
-abbrev well-led : Spelling → Bool
-well-led x = head-passes (λ c. led (x .symbol) c && sign-byte c) (x .spelled)
+abbrev first-byte-ok : Spelling → Bool
+first-byte-ok x = head-passes (λ c. begins-with (x .symbol) c && sign-byte c) (x .spelled)
 
-all-led : all well-led spellings ≡ true
-all-led = refl
+all-first-bytes-ok : all first-byte-ok spellings ≡ true
+all-first-bytes-ok = refl
 
 sign-byte-start : (b : ℕ) (s : List ℕ) → sign-byte b ≡ true → start b s ≡ spelling b s
 unfolding spelling
@@ -125,40 +173,42 @@ sign-byte-start b s h = go (among " \t" b) (numeral-byte b) (within 65 85 b) (wi
   where
     go :
         (p q u v : Bool) → ltb 0 b && (not p && (not q && (not u && not v))) ≡ true
-        → cond p blank (cond q figure (cond u (sign (letter (b - 65)) 0) (cond v (sign (letter (b - 97)) 0) (spelling b s)))) ≡ spelling b s
-    go true q u v h = clash (sym (both (ltb 0 b) false h .1))
-    go false true u v h = clash (sym (both (ltb 0 b) false h .1))
-    go false false true v h = clash (sym (both (ltb 0 b) false h .1))
-    go false false false true h = clash (sym (both (ltb 0 b) false h .1))
+        → start-by p q u v b (spelling b s) ≡ spelling b s
+    go true q u v h = absurd-bool (sym (both (ltb 0 b) false h .1))
+    go false true u v h = absurd-bool (sym (both (ltb 0 b) false h .1))
+    go false false true v h = absurd-bool (sym (both (ltb 0 b) false h .1))
+    go false false false true h = absurd-bool (sym (both (ltb 0 b) false h .1))
     go false false false false h = refl
 
 module _ (b : ℕ) (s : List ℕ) {x : Symbol} {m : ℕ} (e : spelling b s ≡ sign x m) where
-  first-byte : (led x b ≡ true) × (sign-byte b ≡ true)
+  first-byte : (begins-with x b ≡ true) × (sign-byte b ≡ true)
   unfolding spelling
   first-byte = go (first (λ x. same (x .spelled) (take (length (x .spelled)) (b ∷ s))) spellings) refl e
     where
       head :
-          (y : Symbol) (w : List ℕ) → head-passes (λ c. led y c && sign-byte c) w ≡ true → same w (take (length w) (b ∷ s)) ≡ true
-          → (led y b ≡ true) × (sign-byte b ≡ true)
-      head y [] h g = clash (sym h)
+          (y : Symbol) (w : List ℕ) → head-passes (λ c. begins-with y c && sign-byte c) w ≡ true → same w (take (length w) (b ∷ s)) ≡ true
+          → (begins-with y b ≡ true) × (sign-byte b ≡ true)
+      head y [] h g = absurd-bool (sym h)
       head y (c ∷ w) h g =
           let z = eqb-true c b (both (eqb c b) (same w (take (length w) s)) g .0) in
-          subst (λ (n : ℕ). (led y n ≡ true) × (sign-byte n ≡ true)) z (both (led y c) (sign-byte c) h)
+          subst (λ (n : ℕ). (begins-with y n ≡ true) × (sign-byte n ≡ true)) z (both (begins-with y c) (sign-byte c) h)
 
       go :
           (o : Option Spelling) → first (λ x. same (x .spelled) (take (length (x .spelled)) (b ∷ s))) spellings ≡ o → sign-of o ≡ sign x m
-          → (led x b ≡ true) × (sign-byte b ≡ true)
+          → (begins-with x b ≡ true) × (sign-byte b ≡ true)
       go none q g = let z : _≡_ {A = ℕ} 0 1 = cc in absurd (omega arith)
       go (some y) q g =
-          let k = first-all well-led (λ x. same (x .spelled) (take (length (x .spelled)) (b ∷ s))) spellings all-led q in
+          let k = first-all first-byte-ok (λ x. same (x .spelled) (take (length (x .spelled)) (b ∷ s))) spellings all-first-bytes-ok q in
           let ex : y .symbol ≡ x = cc in
-          subst (λ (z : Symbol). (led z b ≡ true) × (sign-byte b ≡ true)) ex (head (y .symbol) (y .spelled) (k .0) (k .1))
+          subst (λ (z : Symbol). (begins-with z b ≡ true) × (sign-byte b ≡ true)) ex (head (y .symbol) (y .spelled) (k .0) (k .1))
 
-  pub sign-led : led x b ≡ true
-  sign-led = first-byte .0
+  pub sign-begins-with : begins-with x b ≡ true
+  sign-begins-with = first-byte .0
 
   pub sign-nonzero : 0 < b
-  sign-nonzero = ltb-true 0 b (both (ltb 0 b) (not (among " \t" b) && (not (numeral-byte b) && (not (within 65 85 b) && not (within 97 117 b)))) (first-byte .1) .0)
+  sign-nonzero =
+      ltb-true 0 b
+      (both (ltb 0 b) (not (among " \t" b) && (not (numeral-byte b) && (not (within 65 85 b) && not (within 97 117 b)))) (first-byte .1) .0)
 
   pub sign-start : start b s ≡ sign x m
   sign-start = sign-byte-start b s (first-byte .1) ∙ e

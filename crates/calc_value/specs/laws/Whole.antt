@@ -14,9 +14,9 @@ use Rattle.calc_value.specs.declared.Parsed.the-variants as parsed
 use Rattle.calc_value.specs.declared.Worth.the-variants as worths
 use Rattle.calc_symbol.specs.Scan.{syms}
 use Rattle.calc_symbol.specs.Lookahead.{from, Is-end}
-use Rattle.calc_value.specs.Parse.{Follows}
+use Rattle.calc_value.specs.Parse.{Parses-as}
 use Rattle.calc_value.specs.Answer.{worth}
-use Rattle.calc_value.specs.laws.Steps.{comes-is, fails-is}
+use Rattle.calc_value.specs.laws.Steps.{parses-is, fails-is}
 
 -- ---- a whole text
 
@@ -28,7 +28,7 @@ tree-start s = go (symbols s)
     go none = refl
     go (some ss) = refl
 
-module _ (vs : List Float) (s : List ℕ) (r : Parsed) (f : Follows vs s wanted 0 0 1 r) where
+module _ (vs : List Float) (s : List ℕ) (r : Parsed) (f : Parses-as vs s wanted 0 0 1 r) where
   pub worth-bad : r ≡ parsed.Bad → worths.NoCalculation ≡ worth (map readings.Value vs) (tree-of s)
   worth-bad e = rw (tree-start s, fails-is vs s wanted 0 0 1 r f e [] (omega arith))
 
@@ -36,12 +36,12 @@ module _ (vs : List Float) (s : List ℕ) (r : Parsed) (f : Follows vs s wanted 
     pub worth-end : b ≡ true → worths.Is v ≡ worth (map readings.Value vs) (tree-of s)
     unfolding run reduce
     worth-end q =
-        let z = comes-is vs s wanted 0 0 1 r f e in
+        let z = parses-is vs s wanted 0 0 1 r f e in
         let y : tree-of s ≡ some (z .tree) = tree-start s ∙ (z .reads [] (omega arith) ∙ rw (subst (Is-end s n) q k)) in
         rw (y, z .valued)
 
     pub worth-more : b ≡ false → worths.NoCalculation ≡ worth (map readings.Value vs) (tree-of s)
     worth-more q =
-        let z = comes-is vs s wanted 0 0 1 r f e in
+        let z = parses-is vs s wanted 0 0 1 r f e in
         let y : tree-of s ≡ none = tree-start s ∙ (z .reads [] (omega arith) ∙ subst (Is-end s n) q k (z .tree) (z .loose)) in
         rw y

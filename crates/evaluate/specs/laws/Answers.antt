@@ -26,7 +26,7 @@ use Rattle.calc_symbol.specs.declared.Class.the-variants as class
 use Rattle.calc_value.specs.declared.Worth.{Worth}
 use Rattle.calc_value.specs.declared.Worth.the-variants as worths
 use Rattle.calc_symbol.specs.Scan.{started}
-use Rattle.calc_value.specs.Parse.{amount}
+use Rattle.calc_value.specs.Parse.{value-with}
 use Rattle.calc_value.specs.Answer.{worth}
 use Rattle.evaluate.specs.Answer.{given-letter, letter-begun, byte-letters, true-given, near-worth}
 use Rattle.calc_symbol.proofs.Class as class-type
@@ -73,7 +73,9 @@ module _ (given : List Bool) (s : List ℕ) (at : ℕ) where
   unfolding byte-letters
   from-at h = rw (add-one at, drop-cons s at 0 h) (all-append (given-letter given) (letter-begun (start (getD s at 0) [])) (byte-letters (drop (suc at) s)))
 
-  module _ (h : at < length s) {b t : Bool} (e : b ≡ all (given-letter given) (byte-letters (drop at s))) (et : t ≡ all (given-letter given) (letter-begun (start (getD s at 0) []))) where
+  module _
+      (h : at < length s) {b t : Bool} (e : b ≡ all (given-letter given) (byte-letters (drop at s)))
+      (et : t ≡ all (given-letter given) (letter-begun (start (getD s at 0) []))) where
     pub letters-on : t ≡ true → b ≡ all (given-letter given) (byte-letters (drop (at + 1) s))
     letters-on q = e ∙ (from-at h ∙ rw (← et, q))
 
@@ -106,7 +108,7 @@ heard-reading [] i = refl
 heard-reading (r ∷ rs) zero = refl
 heard-reading (r ∷ rs) (suc i) = heard-reading rs i
 
-amount-heard : (rs : List Reading) (t : Tree) → amount (map heard rs) t ≡ value rs t
+amount-heard : (rs : List Reading) (t : Tree) → value-with (map heard rs) t ≡ value rs t
 unfolding value
 amount-heard rs (number-tree x) = refl
 amount-heard rs (letter-tree i) = heard-reading rs i
@@ -122,16 +124,18 @@ worth-heard rs vs (some t) e h = h ∙ (rw e (ap worths.Is (amount-heard rs t)))
 -- ---- truth
 
 module _ (s : List ℕ) (values : List Float) (goods : List Bool) {b : Bool} (eb : b ≡ all (given-letter goods) (byte-letters s)) where
-  given-is : true-given values goods (tree-of s) ≡ b && holds-of (tree-of s) (λ t. near-one (amount values t))
-  given-is = given-tree s goods (λ t. near-one (amount values t)) ∙ rw (← eb)
+  given-is : true-given values goods (tree-of s) ≡ b && holds-of (tree-of s) (λ t. near-one (value-with values t))
+  given-is = given-tree s goods (λ t. near-one (value-with values t)) ∙ rw (← eb)
 
-  pub given-yes : {w : Worth} {r : Bool} → b ≡ true → w ≡ worth (map readings.Value values) (tree-of s) → r ≡ near-worth w → r ≡ true-given values goods (tree-of s)
+  pub given-yes :
+      {w : Worth} {r : Bool} → b ≡ true → w ≡ worth (map readings.Value values) (tree-of s) → r ≡ near-worth w
+      → r ≡ true-given values goods (tree-of s)
   given-yes {w} {r} e ew er =
-      let x : near-worth w ≡ holds-of (tree-of s) (λ t. near-one (amount values t)) = rw ew (go (tree-of s)) in
-      let y : true-given values goods (tree-of s) ≡ holds-of (tree-of s) (λ t. near-one (amount values t)) = given-is ∙ rw e in
+      let x : near-worth w ≡ holds-of (tree-of s) (λ t. near-one (value-with values t)) = rw ew (go (tree-of s)) in
+      let y : true-given values goods (tree-of s) ≡ holds-of (tree-of s) (λ t. near-one (value-with values t)) = given-is ∙ rw e in
       er ∙ (x ∙ sym y)
     where
-      go : (o : Option Tree) → near-worth (worth (map readings.Value values) o) ≡ holds-of o (λ t. near-one (amount values t))
+      go : (o : Option Tree) → near-worth (worth (map readings.Value values) o) ≡ holds-of o (λ t. near-one (value-with values t))
       go none = refl
       go (some t) = refl
 
@@ -145,7 +149,9 @@ all-good : (rs : List Reading) (ls : List ℕ) → all (given-letter (map good r
 all-good rs [] = refl
 all-good rs (i ∷ ls) = rw (good-letter rs i, all-good rs ls)
 
-pub holds-is : (rs : List Reading) (values : List Float) (goods : List Bool) (o : Option Tree) {r : Bool} → values ≡ map heard rs → goods ≡ map good rs → r ≡ true-given values goods o → r ≡ true-tree rs o
+pub holds-is :
+    (rs : List Reading) (values : List Float) (goods : List Bool) (o : Option Tree) {r : Bool} → values ≡ map heard rs → goods ≡ map good rs
+    → r ≡ true-given values goods o → r ≡ true-tree rs o
 holds-is rs values goods none ev eg e = e
 holds-is rs values goods (some t) ev eg e = e ∙ rw (ev, eg, all-good rs (letters t), amount-heard rs t)
 
@@ -186,8 +192,12 @@ value-at [] j h = absurd (omega arith)
 value-at (r ∷ rs) zero h = refl
 value-at (r ∷ rs) (suc j) h = value-at rs j (omega arith)
 
-pub heard-all : (rs : List Reading) (values : List Float) (goods : List Bool) (i : ℕ) → length rs ≡ 21 → Heard-to rs values goods i → 21 ≤ i → (values ≡ map heard rs) × (goods ≡ map good rs)
+pub heard-all :
+    (rs : List Reading) (values : List Float) (goods : List Bool) (i : ℕ) → length rs ≡ 21 → Heard-to rs values goods i → 21 ≤ i
+    → (values ≡ map heard rs) × (goods ≡ map good rs)
 heard-all rs values goods i e k h = (
-  ext-getD nan values (map heard rs) (k .values-many ∙ sym (length-map rs heard ∙ e)) (λ j l. k .valued j (omega (arith, k .values-many)) ∙ sym (value-at rs j (omega (arith, k .values-many)))),
-  ext-getD false goods (map good rs) (k .goods-many ∙ sym (length-map rs good ∙ e)) (λ j l. k .judged j (omega (arith, k .goods-many)) ∙ sym (List·getD-map good rs j readings.NeverHeard)),
+  ext-getD nan values (map heard rs) (k .values-many ∙ sym (length-map rs heard ∙ e))
+      (λ j l. k .valued j (omega (arith, k .values-many)) ∙ sym (value-at rs j (omega (arith, k .values-many)))),
+  ext-getD false goods (map good rs) (k .goods-many ∙ sym (length-map rs good ∙ e))
+      (λ j l. k .judged j (omega (arith, k .goods-many)) ∙ sym (List·getD-map good rs j readings.NeverHeard)),
 )

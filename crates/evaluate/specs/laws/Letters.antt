@@ -12,15 +12,17 @@ use lib.Ieee.{Float}
 use Rattle.lists.specs.Text.{same, among, within}
 use Rattle.lists.specs.Select.{all, first, run, after, skip-if, holds-of}
 use Rattle.lists.specs.Both.{both}
-use Rattle.calculation.specs.Symbol.{Symbol, number, letter, Spelling, spellings, Start, blank, figure, wrong, sign, sign-of, start, then, then-number, numeral, numeral-byte, symbols-in}
-use Rattle.calculation.specs.Expression.{Tree, Expression, plain, conditional, Joined, tighter, join, prefixed, Operand, negated, denied, a-number, a-letter, parenthesised}
+use Rattle.calculation.specs.Symbol.{Symbol, number, letter, Spelling, spellings, Start, blank, figure, wrong, sign, sign-of, start, then}
+use Rattle.calculation.specs.Symbol.{then-number, numeral, numeral-byte, symbols-in}
+use Rattle.calculation.specs.Expression.{Tree, Expression, plain, conditional, Joined, tighter, join, prefixed, Operand, negated, denied, a-number}
+use Rattle.calculation.specs.Expression.{a-letter, parenthesised}
 use Rattle.calculation.specs.Value.{letters}
 use Rattle.calculation.specs.Reader.{tree-of}
 use Rattle.calculation.specs.Theorem.{says-sound}
 use Rattle.calc_symbol.specs.Scan.{syms, spelling}
 use Rattle.evaluate.specs.Answer.{given-letter, letter-of, letters-in, letter-begun, byte-letters, symbols-given}
-use Rattle.calc_numeral.specs.laws.Runs.{clash}
-use Rattle.calc_symbol.specs.laws.Bytes.{first-all}
+use Rattle.calc_numeral.specs.laws.Runs.{absurd-bool}
+use Rattle.calc_symbol.specs.laws.Bytes.{start-by, first-all}
 
 -- ---- the bytes'
 
@@ -30,7 +32,7 @@ nothing (i ∷ is) = false
 
 nothing-is : (is : List ℕ) → nothing is ≡ true → is ≡ []
 nothing-is [] e = refl
-nothing-is (i ∷ is) e = clash (sym e)
+nothing-is (i ∷ is) e = absurd-bool (sym e)
 
 abbrev no-letter : ℕ → Bool
 no-letter b = nothing (letter-begun (start b []))
@@ -49,7 +51,7 @@ letter-none b s e = rw (nothing-is (letter-begun (start b [])) e)
 -- the bytes behind a sign's first
 behind-sign : (w s : List ℕ) → all no-letter w ≡ true → same w (take (length w) s) ≡ true → byte-letters s ≡ byte-letters (drop (length w) s)
 behind-sign [] s h e = refl
-behind-sign (c ∷ w) [] h e = clash (sym e)
+behind-sign (c ∷ w) [] h e = absurd-bool (sym e)
 behind-sign (c ∷ w) (d ∷ s) h e =
     let z = both (eqb c d) (same w (take (length w) s)) e in
     let k = both (no-letter c) (all no-letter w) h in
@@ -94,8 +96,7 @@ module _ (b : ℕ) (s : List ℕ) where
     where
       go :
           (p q u v : Bool)
-          → letter-begun (cond p blank (cond q figure (cond u (sign (letter (b - 65)) 0) (cond v (sign (letter (b - 97)) 0) (spelling b s)))))
-          ≡ letter-begun (cond p blank (cond q figure (cond u (sign (letter (b - 65)) 0) (cond v (sign (letter (b - 97)) 0) (spelling b [])))))
+          → letter-begun (start-by p q u v b (spelling b s)) ≡ letter-begun (start-by p q u v b (spelling b []))
       go true q u v = refl
       go false true u v = refl
       go false false true v = refl
@@ -107,7 +108,7 @@ module _ (b : ℕ) (s : List ℕ) where
   begun-sign {x} {m} = go (among " \t" b) (numeral-byte b) (within 65 85 b) (within 97 117 b)
     where
       go :
-          (p q u v : Bool) → cond p blank (cond q figure (cond u (sign (letter (b - 65)) 0) (cond v (sign (letter (b - 97)) 0) (spelling b s)))) ≡ sign x m
+          (p q u v : Bool) → start-by p q u v b (spelling b s) ≡ sign x m
           → byte-letters s ≡ byte-letters (drop m s)
       go true q u v e = let z : _≡_ {A = ℕ} 0 1 = cc in absurd (omega arith)
       go false true u v e = let z : _≡_ {A = ℕ} 0 1 = cc in absurd (omega arith)
@@ -116,9 +117,10 @@ module _ (b : ℕ) (s : List ℕ) where
       go false false false false e = signed b s e .1
 
 figure-none : (b : ℕ) → numeral-byte b ≡ true → no-letter b ≡ true
+unfolding spelling
 figure-none b e = go (among " \t" b) (numeral-byte b) e
   where
-    go : (p q : Bool) → q ≡ true → nothing (letter-begun (cond p blank (cond q figure (cond (within 65 85 b) (sign (letter (b - 65)) 0) (cond (within 97 117 b) (sign (letter (b - 97)) 0) (sign-of (first (λ x. same (x .spelled) (take (length (x .spelled)) (b ∷ []))) spellings))))))) ≡ true
+    go : (p q : Bool) → q ≡ true → nothing (letter-begun (start-by p q (within 65 85 b) (within 97 117 b) b (spelling b []))) ≡ true
     go true q e = refl
     go false q e = rw e
 
@@ -126,7 +128,9 @@ figures-none : (s : List ℕ) → byte-letters s ≡ byte-letters (after numeral
 figures-none [] = refl
 figures-none (b ∷ s) = go (numeral-byte b) refl (figures-none s)
   where
-    go : (t : Bool) → numeral-byte b ≡ t → byte-letters s ≡ byte-letters (after numeral-byte s) → byte-letters (b ∷ s) ≡ byte-letters (skip-if t (after numeral-byte s) (b ∷ s))
+    go :
+        (t : Bool) → numeral-byte b ≡ t → byte-letters s ≡ byte-letters (after numeral-byte s)
+        → byte-letters (b ∷ s) ≡ byte-letters (skip-if t (after numeral-byte s) (b ∷ s))
     go true e h = letter-none b s (figure-none b e) ∙ h
     go false e h = refl
 
@@ -154,7 +158,8 @@ agree-step n b s h blank e =
     rw (e, symbols-in) (agree-on (symbols-in n s) s (b ∷ s) (ap (λ (l : List ℕ). l ++ byte-letters s) (sym (begun-alone b s) ∙ ap letter-begun e)) (h s))
 agree-step n b s h figure e =
     rw (e, symbols-in)
-    (agree-number (numeral (run numeral-byte (b ∷ s))) (symbols-in n (after numeral-byte (b ∷ s))) (after numeral-byte (b ∷ s)) (b ∷ s) (figures-none (b ∷ s)) (h (after numeral-byte (b ∷ s))))
+    (agree-number (numeral (run numeral-byte (b ∷ s))) (symbols-in n (after numeral-byte (b ∷ s))) (after numeral-byte (b ∷ s)) (b ∷ s)
+    (figures-none (b ∷ s)) (h (after numeral-byte (b ∷ s))))
 agree-step n b s h wrong e = rw (e, symbols-in) tt
 agree-step n b s h (sign x m) e =
     rw (e, symbols-in)
@@ -186,7 +191,13 @@ mutual
   expression-letters (plain d) = joined-letters d
   expression-letters {r = r} (conditional {c = c} {x = x} {y = y} d₁ d₂ d₃) =
       joined-letters d₁
-      ∙ (rw (expression-letters d₂, expression-letters d₃, append-assoc (letters c) (letters x ++ letters y) (letters-in r), append-assoc (letters x) (letters y) (letters-in r)) refl)
+      ∙ rw (
+        expression-letters d₂,
+        expression-letters d₃,
+        append-assoc (letters c) (letters x ++ letters y) (letters-in r),
+        append-assoc (letters x) (letters y) (letters-in r),
+      )
+      refl
 
   joined-letters : {l : ℕ} {s r : List Symbol} {t : Tree} → Joined l s r t → letters-in s ≡ letters t ++ letters-in r
   joined-letters (tighter d) = joined-letters d
@@ -206,11 +217,15 @@ letters-same s t e given =
     let y = says-sound s t e in
     ap (symbols-given given) (y .spelling) ∙ ap (all (given-letter given)) (expression-letters (y .derived) ∙ append-nil (letters t))
 
-pub bytes-same : (s : List ℕ) (t : Tree) → tree-of s ≡ some t → (given : List Bool) → all (given-letter given) (byte-letters s) ≡ all (given-letter given) (letters t)
+pub bytes-same :
+    (s : List ℕ) (t : Tree) → tree-of s ≡ some t → (given : List Bool)
+    → all (given-letter given) (byte-letters s) ≡ all (given-letter given) (letters t)
 unfolding letters-in
 bytes-same s t e given =
     let y = says-sound s t e in
-    ap (all (given-letter given)) (sym (subst (λ (o : Option (List Symbol)). agree o s) (y .spelling) (agreed (length s) s)) ∙ (expression-letters (y .derived) ∙ append-nil (letters t)))
+    ap (all (given-letter given))
+    (sym (subst (λ (o : Option (List Symbol)). agree o s) (y .spelling) (agreed (length s) s))
+    ∙ (expression-letters (y .derived) ∙ append-nil (letters t)))
 
 -- what holds of the bytes and of the tree holds of the tree
 pub given-tree :
@@ -218,7 +233,9 @@ pub given-tree :
     → holds-of (tree-of s) (λ t. all (given-letter given) (letters t) && p t) ≡ all (given-letter given) (byte-letters s) && holds-of (tree-of s) p
 given-tree s given p = go (tree-of s) refl
   where
-    go : (o : Option Tree) → tree-of s ≡ o → holds-of o (λ t. all (given-letter given) (letters t) && p t) ≡ all (given-letter given) (byte-letters s) && holds-of o p
+    go :
+        (o : Option Tree) → tree-of s ≡ o
+        → holds-of o (λ t. all (given-letter given) (letters t) && p t) ≡ all (given-letter given) (byte-letters s) && holds-of o p
     go none e = sym (and-false (all (given-letter given) (byte-letters s)))
       where
         and-false : (b : Bool) → (b && false) ≡ false

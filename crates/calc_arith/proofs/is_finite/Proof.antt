@@ -1,6 +1,6 @@
-use Rattle.evaluate.specs.laws.Finite.{finite-lt}
-use Rattle.evaluate.proofs.is_finite.Statement.{statement}
-use Rattle.evaluate.proofs.is_finite.Tie as tie
+use Rattle.calc_arith.specs.laws.Finite.{finite-lt}
+use Rattle.calc_arith.proofs.is_finite.Statement.{statement}
+use Rattle.calc_arith.proofs.is_finite.Tie as tie
 
 returns : tie.Need-returns
 returns c = rw (c .if1 .taken) at (finite-lt (c .before .args .x))

@@ -5,10 +5,10 @@ use lib.Ieee.{Float, nan, inf, fin, binary64, ofBits, div, neg, lt}
 use Rattle.calculation.specs.Value.{finite}
 
 -- 1 / 0
-abbrev pub top : Float
-top = div binary64 (ofBits binary64 0x3ff0_0000_0000_0000) (ofBits binary64 0)
+abbrev pub infinity : Float
+infinity = div binary64 (ofBits binary64 0x3ff0_0000_0000_0000) (ofBits binary64 0)
 
-pub finite-lt : (x : Float) → (lt (neg top) x && lt x top) ≡ finite x
+pub finite-lt : (x : Float) → (lt (neg infinity) x && lt x infinity) ≡ finite x
 unfolding lt neg div ofBits
 finite-lt nan = refl
 finite-lt (inf true) = refl

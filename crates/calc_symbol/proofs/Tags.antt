@@ -9,7 +9,7 @@ use Rattle.calculation.specs.declared.Operator.{Operator}
 use Rattle.calculation.specs.Reader.{ends}
 use Rattle.calc_symbol.specs.declared.Sign.{Sign}
 use Rattle.calc_symbol.specs.declared.Sign.the-variants as code
-use Rattle.calc_symbol.specs.Scan.{syms, symbol-of, Then}
+use Rattle.calc_symbol.specs.Scan.{syms, symbol-of, Symbol-at}
 use Rattle.calc_symbol.specs.Lookahead.{ends-of}
 use Rattle.calc_symbol.specs.laws.Lookaheads.{ends-at}
 
@@ -19,7 +19,7 @@ no-join = 1 ∷ 3 ∷ 4 ∷ 5 ∷ []
 
 pub no-joint :
     (x : Sign) → OneOf no-join (tagOf sign-type.the-type x)
-    → (s : List ℕ) (at l : ℕ) {p : ℕ} → Then s at (symbol-of x) p → ends-of (syms s at) ≤ l
+    → (s : List ℕ) (at l : ℕ) {p : ℕ} → Symbol-at s at (symbol-of x) p → ends-of (syms s at) ≤ l
 no-joint x h s at l y = let e = ends-at s at y in let z = go x h in omega arith
   where
     go : (x : Sign) → OneOf no-join (tagOf sign-type.the-type x) → ends (symbol-of x) ≤ 0

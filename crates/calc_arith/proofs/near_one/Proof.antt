@@ -1,5 +1,5 @@
-use Rattle.evaluate.proofs.near_one.Statement.{statement}
-use Rattle.evaluate.proofs.near_one.Tie as tie
+use Rattle.calc_arith.proofs.near_one.Statement.{statement}
+use Rattle.calc_arith.proofs.near_one.Tie as tie
 
 returns : tie.Need-returns
 returns c = rw (c .if1 .taken)
