@@ -8,7 +8,7 @@ use Rattle.load.specs.Load.{load}
 use Rattle.load.specs.Listing.{listing}
 use Rattle.decision.specs.Decision.{decide}
 use Rattle.decision.specs.LookUp.{look-up}
-use Rattle.evaluate.specs.Answer.{worth}
+use Rattle.calc_value.specs.Answer.{worth}
 use Rattle.demand.specs.Calls.{Call, load-text, list-warnings, calculate, check-table, ask, look-up-input, after-call}
 use Rattle.api_script.specs.declared.Reply.{Reply}
 use Rattle.api_script.specs.declared.Reply.the-variants as reply

@@ -1,7 +1,7 @@
 // A script of calls in numbers: its words and texts, and what its calls answer.
 use decision::Answer;
 use decision::Found;
-use evaluate::Worth;
+use calc_value::Worth;
 use load::Listed;
 use load::Loaded;
 ghost use mathlib.Core.Path.{_≡_};

@@ -158,7 +158,7 @@ fn say(text: &[u8], line: &[u8], at: usize)
     let third = behind(line, at, b'\t');
     let fourth = behind(line, third, b'\t');
     let rs = readings(line, fourth);
-    let evaluate::Worth::Is(x) = evaluate::value(text, rs) else {
+    let calc_value::Worth::Is(x) = evaluate::value(text, rs) else {
         put(b"none\n");
         return;
     };

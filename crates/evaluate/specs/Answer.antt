@@ -1,24 +1,19 @@
 -- What the crate answers.
 use mathlib.Core.Bool.{Bool, false, _&&_}
 use mathlib.Core.List.{List, [], _∷_, _++_}
-use mathlib.Core.Option.{Option, none, some}
+use mathlib.Core.Option.{Option}
 use Prim.Native.Nat.{ℕ}
 use lib.ListN.{getD}
 use lib.Ieee.{Float}
 use Rattle.lists.specs.Select.{all, holds-of}
-use Rattle.calculation.specs.declared.Reading.{Reading}
-use Rattle.calculation.specs.Symbol.{Symbol, number, letter, operator, not-sign, question, colon, open-paren, close-paren, Start, blank, figure, wrong, sign, start}
+use Rattle.calculation.specs.Symbol.{Symbol, number, letter, operator, not-sign, question, colon, open-paren, close-paren, Start, blank, figure}
+use Rattle.calculation.specs.Symbol.{wrong, sign, start}
 use Rattle.calculation.specs.Expression.{Tree}
-use Rattle.calculation.specs.Value.{value, letters, near-one}
+use Rattle.calculation.specs.Value.{letters, near-one}
 use Rattle.evaluate.specs.declared.Heard.{Heard}
-use Rattle.evaluate.specs.declared.Worth.{Worth}
-use Rattle.evaluate.specs.declared.Worth.the-variants as worths
-use Rattle.evaluate.specs.Follow.{amount}
-
--- the value of a calculation, if there is one
-abbrev pub worth : List Reading → Option Tree → Worth
-worth rs none = worths.NoCalculation
-worth rs (some t) = worths.Is (value rs t)
+use Rattle.calc_value.specs.declared.Worth.{Worth}
+use Rattle.calc_value.specs.declared.Worth.the-variants as worths
+use Rattle.calc_value.specs.Parse.{value-with}
 
 -- a letter is among those given
 abbrev pub given-letter : List Bool → ℕ → Bool
@@ -57,7 +52,7 @@ symbols-given given o = holds-of o (λ ss. all (given-letter given) (letters-in 
 
 -- a calculation is true of the letters' values and of which are good
 abbrev pub true-given : List Float → List Bool → Option Tree → Bool
-true-given values goods o = holds-of o (λ t. all (given-letter goods) (letters t) && near-one (amount values t))
+true-given values goods o = holds-of o (λ t. all (given-letter goods) (letters t) && near-one (value-with values t))
 
 -- a calculation is true of readings already heard
 abbrev pub true-heard : Heard → Option Tree → Bool

@@ -1,3 +1,2 @@
-pub mod Scan
-pub mod Follow
 pub mod Answer
+pub mod laws

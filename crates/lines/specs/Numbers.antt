@@ -14,9 +14,9 @@ use Rattle.lists.specs.Text.{among, within, digit}
 use Rattle.lists.specs.Select.{all, run, after, keep-if, skip-if}
 use Rattle.lists.specs.Both.{both}
 use Rattle.calculation.specs.Symbol.{numeral, numeral-byte, pointed, within-digits}
-use Rattle.evaluate.specs.declared.Figure.{Figure}
-use Rattle.evaluate.specs.declared.Figure.the-variants.{Is, Wrong}
-use Rattle.evaluate.specs.Scan.{Ends, Numbered}
+use Rattle.calc_numeral.specs.declared.Figure.{Figure}
+use Rattle.calc_numeral.specs.declared.Figure.the-variants.{Is, Wrong}
+use Rattle.calc_numeral.specs.Numeral.{Ends, Numbered}
 use Rattle.lines.specs.Line.{number}
 
 pub clash : {A : Type 0} → true ≡ false → A

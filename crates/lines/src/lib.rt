@@ -9,9 +9,9 @@ ghost use Rattle.lines.specs.Told.{amounts, hears, Says, Follows, Levels
 ghost use Rattle.lines.specs.Given.{fine, none-given};
 ghost use Rattle.lines.specs.Words.{access-word, log-word, answer-text, refused-line, decimal-digits, placed, refusal-text, warning-text};
 ghost use Rattle.lines.specs.Put.{Put};
+use calc_numeral::Figure;
 use calculation::Reading;
 use decision::Answer;
-use evaluate::Figure;
 use rule::Access;
 
 // The number that a text is.
@@ -123,7 +123,7 @@ fn number(s: &[u8]) -> Amount
     if !is_figure(s[0]) {
         return Amount::Nothing;
     }
-    match evaluate::number_at(s, 0) {
+    match calc_numeral::number_at(s, 0) {
         Figure::Wrong => Amount::Nothing,
         Figure::Is(v, p) => {
             if p == s.len() {

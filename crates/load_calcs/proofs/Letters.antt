@@ -13,9 +13,9 @@ use Rattle.calculation.specs.Value.{letters}
 use Rattle.calculation.specs.Reader.{tree-of}
 use Rattle.calculation.specs.Theorem.{says-sound}
 use Rattle.file.specs.Refusal.{letters-among}
-use Rattle.evaluate.specs.Scan.{syms}
+use Rattle.calc_symbol.specs.Scan.{syms}
 use Rattle.evaluate.specs.Answer.{symbols-given}
-use Rattle.evaluate.proofs.Letters.{letters-same}
+use Rattle.evaluate.specs.laws.Letters.{letters-same}
 use Rattle.load_calcs.specs.laws.Letter.{small, text-small}
 
 small-below : (i : ℕ) → small i ≡ true → i < 21

@@ -6,7 +6,7 @@ use Rattle.rule.specs.Rule.{true-tree}
 use Rattle.calculation.specs.Reader.{tree-of}
 use native.Mathlib.Omega.{arith}
 use mathlib.Core.Path.{sym, ap, _∙_}
-use Rattle.evaluate.proofs.Answers.{holds-is}
+use Rattle.evaluate.specs.laws.Answers.{holds-is}
 use borrow.Author.Needs.{needs}
 use Rattle.ask_rule.proofs.calculation_true.Statement.{statement}
 use Rattle.ask_rule.proofs.calculation_true.Tie as tie

@@ -1,4 +1,4 @@
-use Rattle.evaluate.proofs.Answers.{with-yes, with-no}
+use Rattle.evaluate.specs.laws.Answers.{with-yes, with-no}
 use borrow.Author.Needs.{needs}
 use Rattle.evaluate.proofs.allowed_with.Statement.{statement}
 use Rattle.evaluate.proofs.allowed_with.Tie as tie
@@ -10,7 +10,9 @@ allowed-requires : tie.Need-allowed-requires
 allowed-requires c κs = search needs
 
 returns : tie.Need-returns
-returns c = let a = (c .before .before .before .before .before) in with-yes (a .args .t2) (a .args .s .now) (c .before .before .letters-given .ensures) (c .before .if1 .taken) (c .allowed .ensures)
+returns c =
+    let a = (c .before .before .before .before .before) in
+    with-yes (a .args .t2) (a .args .s .now) (c .before .before .letters-given .ensures) (c .before .if1 .taken) (c .allowed .ensures)
 
 returns-2 : tie.Need-returns-2
 returns-2 c = let a = (c .before .before .before .before) in with-no (a .args .t2) (a .args .s .now) (c .before .letters-given .ensures) (c .if1 .left)

@@ -1,5 +1,5 @@
-use Rattle.evaluate.proofs.Answers.{letter-given, no-letter-given}
-use Rattle.evaluate.specs.Scan.{Class-ok}
+use Rattle.evaluate.specs.laws.Answers.{letter-given, no-letter-given}
+use Rattle.calc_symbol.specs.Scan.{Class-ok}
 use mathlib.Core.Path.{refl, subst}
 use borrow.Author.Needs.{needs}
 use Rattle.evaluate.proofs.byte_given.Statement.{statement}
@@ -15,10 +15,15 @@ element-copy-out-result : tie.Need-element-copy-out-result
 element-copy-out-result c = subst Class-ok (c .before .i .given .1) (c .before .before .before .class-of .ensures .1)
 
 returns : tie.Need-returns
-returns c = let a = c .before .before .before .before .before .args in letter-given (a .given .now) (a .b) (c .before .before .before .before .class-of .result) (c .before .before .before .before .class-of .ensures .0) (c .before .before .i .given .1) refl
+returns c =
+    let a = c .before .before .before .before .before .args in
+    letter-given (a .given .now) (a .b) (c .before .before .before .before .class-of .result)
+    (c .before .before .before .before .class-of .ensures .0) (c .before .before .i .given .1) refl
 
 returns-2 : tie.Need-returns-2
-returns-2 c = let a = c .before .before .args in no-letter-given (a .given .now) (a .b) (c .before .class-of .result) (c .before .class-of .ensures .0) (c .match .keys2)
+returns-2 c =
+    let a = c .before .before .args in
+    no-letter-given (a .given .now) (a .b) (c .before .class-of .result) (c .before .class-of .ensures .0) (c .match .keys2)
 
 pub byte-given-spec : {M : Type 1} → statement M
 byte-given-spec =

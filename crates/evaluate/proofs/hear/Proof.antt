@@ -1,7 +1,7 @@
 use Prim.Native.Nat.{_-_}
 use mathlib.Core.Path.{refl}
 use native.Mathlib.Omega.{arith}
-use Rattle.evaluate.proofs.Answers.{Heard-to, heard-none, heard-more, heard-all}
+use Rattle.evaluate.specs.laws.Answers.{Heard-to, heard-none, heard-more, heard-all}
 use borrow.Author.Needs.{needs}
 use Rattle.evaluate.proofs.hear.Statement.{statement}
 use Rattle.evaluate.proofs.hear.Tie as tie
@@ -43,10 +43,15 @@ loop-less : tie.Need-loop-less Inv-loop μ-loop
 loop-less c = omega arith
 
 loop-again : tie.Need-loop-again Inv-loop μ-loop
-loop-again c = let a = c .before .before .before .before in heard-more (a .before .args .t1) (a .loop .values) (a .loop .good) (a .loop .i) (a .loop .inv) (c .before .before .before .loop-test .taken) (c .before .value-of .ensures) (c .is-good .ensures)
+loop-again c =
+    let a = c .before .before .before .before in
+    heard-more (a .before .args .t1) (a .loop .values) (a .loop .good) (a .loop .i) (a .loop .inv)
+    (c .before .before .before .loop-test .taken) (c .before .value-of .ensures) (c .is-good .ensures)
 
 returns : tie.Need-returns Inv-loop μ-loop
-returns c = let a = c .before in heard-all (a .before .args .t1) (a .loop .values) (a .loop .good) (a .loop .i) (search needs) (a .loop .inv) (c .loop-test .left)
+returns c =
+    let a = c .before in
+    heard-all (a .before .args .t1) (a .loop .values) (a .loop .good) (a .loop .i) (search needs) (a .loop .inv) (c .loop-test .left)
 
 pub hear-spec : {M : Type 1} → statement M
 hear-spec =

@@ -1,4 +1,4 @@
-use Rattle.evaluate.proofs.Answers.{given-yes, given-no}
+use Rattle.evaluate.specs.laws.Answers.{given-yes, given-no}
 use borrow.Author.Needs.{needs}
 use Rattle.evaluate.proofs.holds_given.Statement.{statement}
 use Rattle.evaluate.proofs.holds_given.Tie as tie
@@ -13,10 +13,15 @@ near-requires : tie.Need-near-requires
 near-requires c κs = search needs
 
 returns : tie.Need-returns
-returns c = let a = c .before .before .before .before .before .args in given-yes (a .s .now) (a .values .now) (a .goods .now) (c .before .before .before .letters-given .ensures) (c .before .before .if1 .taken) (c .before .worth-of .ensures) (c .near .ensures)
+returns c =
+    let a = c .before .before .before .before .before .args in
+    given-yes (a .s .now) (a .values .now) (a .goods .now) (c .before .before .before .letters-given .ensures)
+    (c .before .before .if1 .taken) (c .before .worth-of .ensures) (c .near .ensures)
 
 returns-2 : tie.Need-returns-2
-returns-2 c = let a = c .before .before .before .args in given-no (a .s .now) (a .values .now) (a .goods .now) (c .before .letters-given .ensures) (c .if1 .left)
+returns-2 c =
+    let a = c .before .before .before .args in
+    given-no (a .s .now) (a .values .now) (a .goods .now) (c .before .letters-given .ensures) (c .if1 .left)
 
 pub holds-given-spec : {M : Type 1} → statement M
 holds-given-spec =

@@ -1,5 +1,5 @@
 use borrow.Author.Tests.{not-true, not-false}
-use Rattle.evaluate.proofs.Answers.{letters-on, letters-off, letters-end}
+use Rattle.evaluate.specs.laws.Answers.{letters-on, letters-off, letters-end}
 use Rattle.evaluate.specs.Answer.{given-letter, byte-letters}
 use Rattle.lists.specs.Select.{all}
 use native.Mathlib.Omega.{arith}
@@ -26,7 +26,11 @@ byte-given-requires : tie.Need-byte-given-requires Inv-loop μ-loop
 byte-given-requires c κs = search needs
 
 returns : tie.Need-returns Inv-loop μ-loop
-returns c = let a = c .before .before .before .before .before .before .args in letters-off (a .given .now) (a .s .now) (c .before .before .before .before .loop .at) (c .before .before .before .loop-test .taken) (c .before .before .before .before .loop .inv) (c .before .byte-given .ensures) (not-true (c .before .byte-given .result) (c .if1 .taken))
+returns c =
+    let a = c .before .before .before .before .before .before .args in
+    letters-off (a .given .now) (a .s .now) (c .before .before .before .before .loop .at) (c .before .before .before .loop-test .taken)
+    (c .before .before .before .before .loop .inv) (c .before .byte-given .ensures)
+    (not-true (c .before .byte-given .result) (c .if1 .taken))
 
 add-at : tie.Need-add-at Inv-loop μ-loop
 add-at c = search needs
@@ -35,10 +39,16 @@ loop-less : tie.Need-loop-less Inv-loop μ-loop
 loop-less c = omega arith
 
 loop-again : tie.Need-loop-again Inv-loop μ-loop
-loop-again c = let a = c .before .before .before .before .before .before .args in letters-on (a .given .now) (a .s .now) (c .before .before .before .before .loop .at) (c .before .before .before .loop-test .taken) (c .before .before .before .before .loop .inv) (c .before .byte-given .ensures) (not-false (c .before .byte-given .result) (c .if1 .left))
+loop-again c =
+    let a = c .before .before .before .before .before .before .args in
+    letters-on (a .given .now) (a .s .now) (c .before .before .before .before .loop .at) (c .before .before .before .loop-test .taken)
+    (c .before .before .before .before .loop .inv) (c .before .byte-given .ensures)
+    (not-false (c .before .byte-given .result) (c .if1 .left))
 
 returns-2 : tie.Need-returns-2 Inv-loop μ-loop
-returns-2 c = let a = c .before .before .before .args in letters-end (a .given .now) (a .s .now) (c .before .loop .at) (c .loop-test .left) (c .before .loop .inv)
+returns-2 c =
+    let a = c .before .before .before .args in
+    letters-end (a .given .now) (a .s .now) (c .before .loop .at) (c .loop-test .left) (c .before .loop .inv)
 
 pub letters-given-spec : {M : Type 1} → statement M
 letters-given-spec =

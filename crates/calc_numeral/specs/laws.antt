@@ -1,0 +1,5 @@
+pub mod Runs
+pub mod Range
+pub mod Digits
+pub mod Numerals
+pub mod Table

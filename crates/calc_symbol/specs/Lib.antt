@@ -1,0 +1,3 @@
+pub mod Scan
+pub mod Lookahead
+pub mod laws
