@@ -21,7 +21,7 @@ use Rattle.braces.specs.Deep.{answer}
 use Rattle.reader.specs.declared.Outcome as reading
 use Rattle.reader.specs.declared.Outcome.the-variants as reader
 use Rattle.reader.specs.Reads.{Answers}
-use Rattle.reader.specs.Theorem.{read-is}
+use Rattle.reader.specs.laws.Theorem.{read-is}
 use Rattle.hear.specs.declared.Heard.{Heard}
 use Rattle.hear.specs.declared.Heard.the-variants as heard
 
