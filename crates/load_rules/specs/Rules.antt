@@ -6,24 +6,11 @@ use Rattle.token.specs.declared.Kind.the-variants as kind
 use Rattle.grammar.specs.declared.Role.the-variants as role
 use Rattle.grammar.specs.Production.{_says_}
 use Rattle.grammar.specs.Reader.{Stack, once, token, mute, string, log-option}
-use Rattle.load_elements.specs.Reads.{expected}
 use Rattle.load_blocks.specs.Blocks.{is-name}
 
 -- the kind that a name must have, where x stands
 abbrev pub name-or-string : ℕ → ℕ
 name-or-string x = cond (is-name x) x 8
-
--- l between a token that opens and one that closes
-abbrev pub enclosed : ℕ → ℕ → (Stack → Stack) → Stack
-enclosed first last l = expected first 0 ∷ l (expected last 0 ∷ [])
-
--- "{" l "}"
-abbrev pub in-braces : (Stack → Stack) → Stack
-in-braces = enclosed 11 12
-
--- "(" l ")"
-abbrev pub in-parens : (Stack → Stack) → Stack
-in-parens = enclosed 9 10
 
 -- what follows the level in a rule_head
 abbrev pub permission : Stack

@@ -1,4 +1,4 @@
-// A rule of an access security group, and the strings in parentheses and braces that rules and items share.
+// A rule of an access security group.
 // Each function asks that there are as many roles as kinds: reader::read cuts both slices to one length, and its callees hand them on.
 // A kind that is expected is a constant, or one that was seen.
 use load_blocks::block;
@@ -7,16 +7,19 @@ use load_elements::Cursor;
 use load_elements::expect;
 use load_elements::head;
 use load_elements::kind_at;
+use load_strings::named;
+use load_strings::strings_in;
 ghost use mathlib.Core.Path.{_≡_};
 ghost use mathlib.Core.List.{[], _∷_, _++_};
 ghost use Prim.Native.Nat.{_<_};
 ghost use lib.ListN.{length};
 ghost use Rattle.grammar.specs.declared.Role.the-variants as role;
 ghost use Rattle.grammar.specs.Role.{role-number};
-ghost use Rattle.grammar.specs.Reader.{once, perhaps, often, named, string-list, headed, block, inner, log-option, rule-item, rule-block};
+ghost use Rattle.grammar.specs.Reader.{once, perhaps, often, string-list, headed, block, inner, log-option, rule-item, rule-block};
 ghost use Rattle.kept.specs.Kept.{role-of-number};
 ghost use Rattle.load_elements.specs.Reads.{expected, Reads};
-ghost use Rattle.load_rules.specs.Rules.{name-or-string, enclosed, in-braces, in-parens, permission, rule-head};
+ghost use Rattle.load_strings.specs.Enclosed.{in-braces, in-parens};
+ghost use Rattle.load_rules.specs.Rules.{name-or-string, permission, rule-head};
 
 // kind-number
 const UAG: u8 = 0;
@@ -61,50 +64,6 @@ const CALC_WORD: u8 = 14;
 const CALCULATION: u8 = 15;
 
 const UNKNOWN_PREDICATE: u8 = 17;
-
-// A word that says this, and "(" STRING ")".
-pub fn named(kinds: &[u8], roles: &mut [u8], s: Cursor, word: u8, says: u8, role: u8) -> Cursor
-    requires { ⌜ (length (now roles) ≡ length (now kinds)) × (word < 14) ⌝ }
-    ensures { λ r. ⌜ Reads 1 (expected word says ∷ named (role-of-number role) []) (now (kinds .entry)) (now (roles .entry)) s (now (roles .exit)) r ⌝ }
-{
-    let behind = expect(kinds, roles, s, word, says);
-    let open = expect(kinds, roles, behind, OPEN_PAREN, MUTE);
-    let at = expect(kinds, roles, open, STRING, role);
-    expect(kinds, roles, at, CLOSE_PAREN, MUTE)
-}
-
-// STRING { "," STRING }
-fn strings(kinds: &[u8], roles: &mut [u8], s: Cursor, role: u8) -> Cursor
-    requires { ⌜ length (now roles) ≡ length (now kinds) ⌝ }
-    ensures { λ r. ⌜ Reads 1 (string-list (role-of-number role) []) (now (kinds .entry)) (now (roles .entry)) s (now (roles .exit)) r ⌝ }
-{
-    let mut at = expect(kinds, roles, s, STRING, role);
-    while kind_at(kinds, at) == COMMA {
-        at = expect(kinds, roles, at, COMMA, MUTE);
-        at = expect(kinds, roles, at, STRING, role);
-    }
-    at
-}
-
-// The same between two tokens.
-pub fn strings_in(
-    kinds: &[u8],
-    roles: &mut [u8],
-    s: Cursor,
-    first: u8,
-    last: u8,
-    role: u8,
-) -> Cursor
-    requires { ⌜ (length (now roles) ≡ length (now kinds)) × (first < 14) × (last < 14) ⌝ }
-    ensures { λ r. ⌜
-        Reads 1 (enclosed first last (string-list (role-of-number role)))
-        (now (kinds .entry)) (now (roles .entry)) s (now (roles .exit)) r
-        ⌝ }
-{
-    let inside = expect(kinds, roles, s, first, MUTE);
-    let at = strings(kinds, roles, inside, role);
-    expect(kinds, roles, at, last, MUTE)
-}
 
 // The end of a rule_head, with or without rule_log_option.
 fn log_option(kinds: &[u8], roles: &mut [u8], s: Cursor) -> Cursor

@@ -5,9 +5,9 @@ use load_elements::Cursor;
 use load_elements::expect;
 use load_elements::head;
 use load_elements::kind_at;
-use load_rules::named;
 use load_rules::rule;
-use load_rules::strings_in;
+use load_strings::named;
+use load_strings::strings_in;
 ghost use mathlib.Core.Path.{_≡_};
 ghost use mathlib.Core.List.{[], _∷_};
 ghost use Prim.Native.Nat.{_≤_, _<_};
@@ -17,7 +17,7 @@ ghost use Rattle.grammar.specs.declared.Role.the-variants as role;
 ghost use Rattle.grammar.specs.Reader.{Part, once, perhaps, often, mute, string, named, headed, block, top, asg-block, asg-item, item};
 ghost use Rattle.load_elements.specs.Parse.{parse};
 ghost use Rattle.load_elements.specs.Reads.{Reads};
-ghost use Rattle.load_rules.specs.Rules.{in-braces};
+ghost use Rattle.load_strings.specs.Enclosed.{in-braces};
 ghost use Rattle.reader.specs.Reads.{group, Members, ended, Answers};
 
 // kind-number

@@ -1,5 +1,5 @@
 use Rattle.load_elements.specs.laws.Stacks.{then, unread}
-use Rattle.load_rules.specs.laws.Rules.{braces-come, no-braces-come}
+use Rattle.load_strings.specs.laws.Enclosed.{braces-come, no-braces-come}
 use Rattle.grammar.specs.Reader.{once, often, rule-item, rule-block}
 use mathlib.Core.List.{_∷_}
 use native.Mathlib.Omega.{arith}

@@ -1,17 +1,11 @@
--- Names that a rule asks for, and parts in braces that need not come.
+-- The kinds of the names that a rule asks for.
 use mathlib.Core.Path.{_≡_, refl}
 use mathlib.Core.Bool.{Bool, true, false, cond}
-use mathlib.Core.List.{List, [], _∷_, _++_}
 use Prim.Native.Nat.{ℕ, _<_}
 use native.Mathlib.Omega.{arith}
-use Rattle.grammar.specs.Reader.{Stack, Part, perhaps, rules, braced}
-use Rattle.load_elements.specs.declared.Cursor.{Cursor}
-use Rattle.load_elements.specs.Parse.{Parsed}
-use Rattle.load_elements.specs.Reads.{kind-at, Leads}
-use Rattle.load_elements.specs.laws.Stacks.{at, unless}
 use Rattle.load_blocks.specs.Blocks.{is-name}
 use Rattle.load_blocks.specs.laws.Blocks.{is-name-low}
-use Rattle.load_rules.specs.Rules.{name-or-string, in-braces}
+use Rattle.load_rules.specs.Rules.{name-or-string}
 
 pub name-or-low : (x : ℕ) → name-or-string x < 14
 name-or-low x = go (is-name x) refl
@@ -19,12 +13,3 @@ name-or-low x = go (is-name x) refl
     go : (b : Bool) → is-name x ≡ b → cond b x 8 < 14
     go true e = is-name-low x e
     go false e = omega arith
-
--- the part p, "{" l "}", may come
-module _ (p : Part) (l : Stack → Stack) (e : rules p ≡ braced l) {kinds roles : List ℕ} {s : Cursor} {k : Stack} {z : Parsed} {x : ℕ} where
-  pub braces-come : x ≡ kind-at kinds s → x ≡ 11 → Leads kinds roles s (in-braces l ++ k) z → Leads kinds roles s (perhaps p ∷ k) z
-  braces-come c h v = at 11 c h v (rw e)
-
-  pub no-braces-come : x ≡ kind-at kinds s → (x ≡ 11 → ⊥) → Leads kinds roles s k z → Leads kinds roles s (perhaps p ∷ k) z
-  no-braces-come c h v =
-      unless 11 c h v (rw e, rw e, rw e, rw e, rw e, rw e, rw e, rw e, rw e, rw e, rw e, tt, rw e, rw e, refl)

@@ -2,7 +2,7 @@ use native.Mathlib.Omega.{arith}
 use mathlib.Core.Path.{refl}
 use mathlib.Core.List.{_∷_}
 use Rattle.grammar.specs.Reader.{once, often, asg-item, asg-block}
-use Rattle.load_rules.specs.laws.Rules.{braces-come, no-braces-come}
+use Rattle.load_strings.specs.laws.Enclosed.{braces-come, no-braces-come}
 use Rattle.load_elements.specs.laws.Stacks.{then, unread}
 use borrow.Author.Needs.{needs}
 use Rattle.reader.proofs.asg.Statement.{statement}

@@ -1,7 +1,7 @@
 use native.Mathlib.Omega.{arith}
 use Rattle.kept.specs.Kept.{role-of-number}
 use Rattle.grammar.specs.Reader.{string-list}
-use Rattle.load_rules.specs.laws.Rules.{braces-come, no-braces-come}
+use Rattle.load_strings.specs.laws.Enclosed.{braces-come, no-braces-come}
 use Rattle.load_elements.specs.laws.Stacks.{then, unread}
 use borrow.Author.Needs.{needs}
 use Rattle.reader.proofs.group.Statement.{statement}

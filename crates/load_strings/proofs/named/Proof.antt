@@ -1,8 +1,8 @@
 use native.Mathlib.Omega.{arith}
 use Rattle.load_elements.specs.laws.Stacks.{then}
 use borrow.Author.Needs.{needs}
-use Rattle.load_rules.proofs.named.Statement.{statement}
-use Rattle.load_rules.proofs.named.Tie as tie
+use Rattle.load_strings.proofs.named.Statement.{statement}
+use Rattle.load_strings.proofs.named.Tie as tie
 
 expect-requires : tie.Need-expect-requires
 expect-requires c κs = search needs

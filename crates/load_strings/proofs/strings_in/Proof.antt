@@ -1,8 +1,8 @@
 use Rattle.load_elements.specs.laws.Stacks.{then}
 use native.Mathlib.Omega.{arith}
 use borrow.Author.Needs.{needs}
-use Rattle.load_rules.proofs.strings_in.Statement.{statement}
-use Rattle.load_rules.proofs.strings_in.Tie as tie
+use Rattle.load_strings.proofs.strings_in.Statement.{statement}
+use Rattle.load_strings.proofs.strings_in.Tie as tie
 
 expect-requires : tie.Need-expect-requires
 expect-requires c κs = search needs

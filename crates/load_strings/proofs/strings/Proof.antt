@@ -8,8 +8,8 @@ use native.Mathlib.Omega.{arith}
 use mathlib.Core.List.{[], _∷_}
 use mathlib.Core.Path.{refl}
 use borrow.Author.Needs.{needs}
-use Rattle.load_rules.proofs.strings.Statement.{statement}
-use Rattle.load_rules.proofs.strings.Tie as tie
+use Rattle.load_strings.proofs.strings.Statement.{statement}
+use Rattle.load_strings.proofs.strings.Tie as tie
 
 abbrev Inv-loop : tie.InvT-loop
 Inv-loop kinds roles₀ role at₀ roles at = Loops (often (next-string (role-of-number role)) ∷ []) kinds roles₀ at₀ roles at
