@@ -1,3 +1,2 @@
-pub mod Marks
 pub mod Reads
-pub mod Theorem
+pub mod laws

@@ -20,7 +20,7 @@ use Rattle.braces.specs.Deep.{answer}
 use Rattle.reader.specs.declared.Outcome as reading
 use Rattle.reader.specs.declared.Outcome.the-variants as reader
 use Rattle.reader.specs.Reads.{Answers}
-use Rattle.reader.specs.Theorem.{read-is}
+use Rattle.reader.specs.laws.Theorem.{read-is}
 use Rattle.load_syntax.specs.declared.Judgment.{Judgment}
 use Rattle.load_syntax.specs.declared.Judgment.the-variants.{Tokens, Refused}
 use Rattle.load_syntax.specs.Syntax.{Capacity, Parsed, Read}

@@ -1,4 +1,4 @@
-use Rattle.reader.proofs.Laws.{answers-said, answers-stopped}
+use Rattle.reader.specs.laws.Answers.{answers-said, answers-stopped}
 use lib.Seq.{length-take-le, length-front}
 use mathlib.Core.Path.{sym, _∙_}
 use borrow.Author.Needs.{needs}

@@ -1,4 +1,4 @@
-use Rattle.reader.proofs.Laws.{then}
+use Rattle.load_elements.specs.laws.Stacks.{then}
 use native.Mathlib.Omega.{arith}
 use borrow.Author.Needs.{needs}
 use Rattle.reader.proofs.unknown_item.Statement.{statement}

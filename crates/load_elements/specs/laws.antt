@@ -1,0 +1,4 @@
+pub mod Kinds
+pub mod Cases
+pub mod Stacks
+pub mod Tokens

@@ -1,0 +1,21 @@
+-- What the functions say that read a rule, and the shapes that a rule shares with the items of a file.
+use mathlib.Core.Bool.{cond}
+use mathlib.Core.List.{[], _∷_}
+use Prim.Native.Nat.{ℕ}
+use Rattle.token.specs.declared.Kind.the-variants as kind
+use Rattle.grammar.specs.declared.Role.the-variants as role
+use Rattle.grammar.specs.Production.{_says_}
+use Rattle.grammar.specs.Reader.{Stack, once, token, mute, string, log-option}
+use Rattle.load_blocks.specs.Blocks.{is-name}
+
+-- the kind that a name must have, where x stands
+abbrev pub name-or-string : ℕ → ℕ
+name-or-string x = cond (is-name x) x 8
+
+-- what follows the level in a rule_head
+abbrev pub permission : Stack
+permission = mute kind.Comma ∷ string role.Permission ∷ once log-option ∷ []
+
+-- RULE and rule_head
+abbrev pub rule-head : Stack
+rule-head = once (token (kind.Rule says role.RuleWord)) ∷ mute kind.OpenParen ∷ once (token (kind.Int says role.Level)) ∷ permission

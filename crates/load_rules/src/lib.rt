@@ -1,0 +1,178 @@
+// A rule of an access security group.
+// Each function asks that there are as many roles as kinds: reader::read cuts both slices to one length, and its callees hand them on.
+// A kind that is expected is a constant, or one that was seen.
+use load_blocks::block;
+use load_blocks::is_name;
+use load_elements::Cursor;
+use load_elements::expect;
+use load_elements::head;
+use load_elements::kind_at;
+use load_strings::named;
+use load_strings::strings_in;
+ghost use mathlib.Core.Path.{_≡_};
+ghost use mathlib.Core.List.{[], _∷_, _++_};
+ghost use Prim.Native.Nat.{_<_};
+ghost use lib.ListN.{length};
+ghost use Rattle.grammar.specs.declared.Role.the-variants as role;
+ghost use Rattle.grammar.specs.Role.{role-number};
+ghost use Rattle.grammar.specs.Reader.{once, perhaps, often, string-list, headed, block, inner, log-option, rule-item, rule-block};
+ghost use Rattle.kept.specs.Kept.{role-of-number};
+ghost use Rattle.load_elements.specs.Reads.{expected, Reads};
+ghost use Rattle.load_strings.specs.Enclosed.{in-braces, in-parens};
+ghost use Rattle.load_rules.specs.Rules.{name-or-string, permission, rule-head};
+
+// kind-number
+const UAG: u8 = 0;
+
+const HAG: u8 = 1;
+
+const RULE: u8 = 3;
+
+const CALC: u8 = 4;
+
+const INT: u8 = 6;
+
+const STRING: u8 = 8;
+
+const OPEN_PAREN: u8 = 9;
+
+const CLOSE_PAREN: u8 = 10;
+
+const OPEN_BRACE: u8 = 11;
+
+const CLOSE_BRACE: u8 = 12;
+
+const COMMA: u8 = 13;
+
+// role-number
+const MUTE: u8 = 0;
+
+const RULE_WORD: u8 = 8;
+
+const LEVEL: u8 = 9;
+
+const PERMISSION: u8 = 10;
+
+const LOG_OPTION: u8 = 11;
+
+const UAG_NAMED: u8 = 12;
+
+const HAG_NAMED: u8 = 13;
+
+const CALC_WORD: u8 = 14;
+
+const CALCULATION: u8 = 15;
+
+const UNKNOWN_PREDICATE: u8 = 17;
+
+// The end of a rule_head, with or without rule_log_option.
+fn log_option(kinds: &[u8], roles: &mut [u8], s: Cursor) -> Cursor
+    requires { ⌜ length (now roles) ≡ length (now kinds) ⌝ }
+    ensures { λ r. ⌜ Reads 1 (once log-option ∷ []) (now (kinds .entry)) (now (roles .entry)) s (now (roles .exit)) r ⌝ }
+{
+    if kind_at(kinds, s) == COMMA {
+        let comma = expect(kinds, roles, s, COMMA, MUTE);
+        let at = expect(kinds, roles, comma, STRING, LOG_OPTION);
+        return expect(kinds, roles, at, CLOSE_PAREN, MUTE);
+    }
+    expect(kinds, roles, s, CLOSE_PAREN, MUTE)
+}
+
+// What follows the level in a rule_head.
+fn permission(kinds: &[u8], roles: &mut [u8], s: Cursor) -> Cursor
+    requires { ⌜ length (now roles) ≡ length (now kinds) ⌝ }
+    ensures { λ r. ⌜ Reads 1 permission (now (kinds .entry)) (now (roles .entry)) s (now (roles .exit)) r ⌝ }
+{
+    let comma = expect(kinds, roles, s, COMMA, MUTE);
+    let at = expect(kinds, roles, comma, STRING, PERMISSION);
+    log_option(kinds, roles, at)
+}
+
+// RULE and rule_head.
+fn rule_head(kinds: &[u8], roles: &mut [u8], s: Cursor) -> Cursor
+    requires { ⌜ length (now roles) ≡ length (now kinds) ⌝ }
+    ensures { λ r. ⌜ Reads 1 rule-head (now (kinds .entry)) (now (roles .entry)) s (now (roles .exit)) r ⌝ }
+{
+    let word = expect(kinds, roles, s, RULE, RULE_WORD);
+    let open = expect(kinds, roles, word, OPEN_PAREN, MUTE);
+    let level = expect(kinds, roles, open, INT, LEVEL);
+    permission(kinds, roles, level)
+}
+
+// UAG or HAG, and the groups that it names.
+fn groups(kinds: &[u8], roles: &mut [u8], s: Cursor, word: u8, role: u8) -> Cursor
+    requires { ⌜ (length (now roles) ≡ length (now kinds)) × (word < 14) ⌝ }
+    ensures { λ r. ⌜
+        Reads 1 (expected word 0 ∷ in-parens (string-list (role-of-number role)))
+        (now (kinds .entry)) (now (roles .entry)) s (now (roles .exit)) r
+        ⌝ }
+{
+    let at = expect(kinds, roles, s, word, MUTE);
+    strings_in(kinds, roles, at, OPEN_PAREN, CLOSE_PAREN, role)
+}
+
+// The token that a name must be.
+fn name_or_string(kind: u8) -> u8
+    ensures { λ r. ⌜ r ≡ name-or-string kind ⌝ }
+{
+    if is_name(kind) { kind } else { STRING }
+}
+
+// An unknown predicate with this name.
+fn predicate(kinds: &[u8], roles: &mut [u8], s: Cursor, word: u8) -> Cursor
+    requires { ⌜ (length (now roles) ≡ length (now kinds)) × (word < 14) ⌝ }
+    ensures { λ r. ⌜
+        Reads 1 (expected word (role-number role.UnknownPredicate) ∷ headed (perhaps (block inner) ∷ []))
+        (now (kinds .entry)) (now (roles .entry)) s (now (roles .exit)) r
+        ⌝ }
+{
+    let at = expect(kinds, roles, s, word, UNKNOWN_PREDICATE);
+    let behind = head(kinds, roles, at);
+    block(kinds, roles, behind)
+}
+
+// rule_list_item
+fn rule_item(kinds: &[u8], roles: &mut [u8], s: Cursor) -> Cursor
+    requires { ⌜ length (now roles) ≡ length (now kinds) ⌝ }
+    ensures { λ r. ⌜ Reads 1 (once rule-item ∷ []) (now (kinds .entry)) (now (roles .entry)) s (now (roles .exit)) r ⌝ }
+{
+    let kind = kind_at(kinds, s);
+    if kind == UAG {
+        return groups(kinds, roles, s, UAG, UAG_NAMED);
+    }
+    if kind == HAG {
+        return groups(kinds, roles, s, HAG, HAG_NAMED);
+    }
+    if kind == CALC {
+        return named(kinds, roles, s, CALC, CALC_WORD, CALCULATION);
+    }
+    predicate(kinds, roles, s, name_or_string(kind))
+}
+
+// rule_body
+fn rule_block(kinds: &[u8], roles: &mut [u8], s: Cursor) -> Cursor
+    requires { ⌜ length (now roles) ≡ length (now kinds) ⌝ }
+    ensures { λ r. ⌜
+        Reads 1 (in-braces (λ k. once rule-item ∷ often rule-item ∷ k))
+        (now (kinds .entry)) (now (roles .entry)) s (now (roles .exit)) r
+        ⌝ }
+{
+    let inside = expect(kinds, roles, s, OPEN_BRACE, MUTE);
+    let mut at = rule_item(kinds, roles, inside);
+    while kind_at(kinds, at) < CLOSE_BRACE {
+        at = rule_item(kinds, roles, at);
+    }
+    expect(kinds, roles, at, CLOSE_BRACE, MUTE)
+}
+
+// A rule.
+pub fn rule(kinds: &[u8], roles: &mut [u8], s: Cursor) -> Cursor
+    requires { ⌜ length (now roles) ≡ length (now kinds) ⌝ }
+    ensures { λ r. ⌜ Reads 1 (rule-head ++ (perhaps rule-block ∷ [])) (now (kinds .entry)) (now (roles .entry)) s (now (roles .exit)) r ⌝ }
+{
+    let at = rule_head(kinds, roles, s);
+    if kind_at(kinds, at) != OPEN_BRACE {
+        return at;
+    }
+    rule_block(kinds, roles, at)
+}

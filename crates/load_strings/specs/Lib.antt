@@ -1,0 +1,2 @@
+pub mod Enclosed
+pub mod laws
