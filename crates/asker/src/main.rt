@@ -7,7 +7,7 @@ ghost use Prim.Native.Nat.{_≤_};
 ghost use lib.ListN.{length};
 ghost use Rattle.io.specs.Counts.{Counts};
 ghost use Rattle.table.specs.Check.{is-table};
-ghost use Rattle.replies.specs.Held.{room};
+ghost use Rattle.prog_replies.specs.Pieces.{room};
 
 // More rounds than any input has bytes.
 const MOST: u64 = 4611686018427387904;
@@ -40,8 +40,8 @@ fn answer_pieces(table: &[u8], held: &mut [u8]) -> usize
         if n == 0 {
             return count;
         }
-        let p = replies::respond(table, &piece[..n], held, count, &mut out);
-        report::put(&out[..p.printed]);
+        let p = prog_replies::respond(table, &piece[..n], held, count, &mut out);
+        prog_output::put(&out[..p.printed]);
         count = p.count;
         rounds += 1;
     }
@@ -54,8 +54,8 @@ fn serve(table: &[u8])
     let mut held = [0u8; 256];
     let count = answer_pieces(table, &mut held);
     let mut out = [0u8; 18];
-    let n = replies::finish(table, &held, count, &mut out);
-    report::put(&out[..n]);
+    let n = prog_replies::finish(table, &held, count, &mut out);
+    prog_output::put(&out[..n]);
 }
 
 // One byte more than the longest file shows that it is too long.
@@ -64,7 +64,7 @@ fn main() {
     let n = rules(&mut text);
     let mut table = [0u8; 35108];
     match loader::load(&text[..n], &mut table) {
-        Loaded::Refused { refusal, place } => report::put_refusal(refusal, place),
+        Loaded::Refused { refusal, place } => prog_output::put_refusal(refusal, place),
         Loaded::Accepted { length, warnings } => serve(&table),
     }
 }

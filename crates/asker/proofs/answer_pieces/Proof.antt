@@ -3,7 +3,7 @@ use mathlib.Core.Path.{sym}
 use mathlib.Core.Path.{_≡_}
 use lib.ListN.{length}
 use Prim.Native.Nat.{_-_, _≤_}
-use Rattle.replies.specs.Held.{room}
+use Rattle.prog_replies.specs.Pieces.{room}
 use borrow.Author.Needs.{needs}
 use Rattle.asker.proofs.answer_pieces.Statement.{statement}
 use Rattle.asker.proofs.answer_pieces.Tie as tie
@@ -12,8 +12,8 @@ use Rattle.asker.proofs.answer_pieces.Lts as lts
 use Rattle.io.proofs.buffer.Reads as buffer-reads
 use Rattle.io.proofs.count.Reads as count-reads
 use Rattle.libc.proofs.read.Reads as read-reads
-use Rattle.replies.proofs.respond.Reads as respond-reads
-use Rattle.report.proofs.put.Reads as put-reads
+use Rattle.prog_replies.proofs.respond.Reads as respond-reads
+use Rattle.prog_output.proofs.put.Reads as put-reads
 
 abbrev Inv-loop : tie.InvT-loop
 Inv-loop table held₀ piece₀ out₀ count₀ rounds₀ held piece out count rounds = (length held ≡ room) × (length piece ≡ 4096) × (length out ≡ 73728) × (count ≤ room)

@@ -11,7 +11,7 @@ use Rattle.asker.proofs.main.Lts as lts
 use Rattle.asker.proofs.rules.Reads as rules-reads
 use Rattle.asker.proofs.serve.Reads as serve-reads
 use Rattle.loader.proofs.load.Reads as load-reads
-use Rattle.report.proofs.put_refusal.Reads as put-refusal-reads
+use Rattle.prog_output.proofs.put_refusal.Reads as put-refusal-reads
 
 slice-aggregate-rules : tie.Need-slice-aggregate-rules
 slice-aggregate-rules c = search needs

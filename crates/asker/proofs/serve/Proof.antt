@@ -6,8 +6,8 @@ use Rattle.asker.proofs.serve.Tie as tie
 use Rattle.asker.proofs.serve.Reads as reads
 use Rattle.asker.proofs.serve.Lts as lts
 use Rattle.asker.proofs.answer_pieces.Reads as answer-pieces-reads
-use Rattle.replies.proofs.finish.Reads as finish-reads
-use Rattle.report.proofs.put.Reads as put-reads
+use Rattle.prog_replies.proofs.finish.Reads as finish-reads
+use Rattle.prog_output.proofs.put.Reads as put-reads
 
 slice-aggregate-answer-pieces : tie.Need-slice-aggregate-answer-pieces
 slice-aggregate-answer-pieces c = search needs

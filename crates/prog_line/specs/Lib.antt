@@ -1,0 +1,4 @@
+pub mod Line
+pub mod Parts
+pub mod Meaning
+pub mod laws

@@ -1,0 +1,4 @@
+pub mod Parts
+pub mod Readings
+pub mod Question
+pub mod Examples

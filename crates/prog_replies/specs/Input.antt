@@ -1,0 +1,56 @@
+-- The asker's input, and what is printed for it. 01, "Two programs".
+use mathlib.Core.Bool.{Bool, cond}
+use mathlib.Core.List.{List, [], _∷_, _++_}
+use Prim.Native.Nat.{ℕ}
+use lib.Dec.{eqb}
+use Rattle.decision.specs.Decision.{decide}
+use Rattle.prog_line.specs.Line.{Line, refused, question, asks}
+use Rattle.prog_words.specs.Words.{answer-text, refused-line}
+
+-- the newline, which ends a line
+abbrev pub ends-line : ℕ → Bool
+ends-line b = eqb b 10
+
+-- the lines that a newline ends, and what stands behind the last of them
+pub record Parted : Type 0 where
+  pub lines : List (List ℕ)
+  pub rest : List ℕ
+
+-- a byte before all of it: in the first line
+abbrev pub in-first : ℕ → List (List ℕ) → List ℕ → Parted
+in-first b [] r = record { lines = []; rest = b ∷ r }
+in-first b (l ∷ ls) r = record { lines = (b ∷ l) ∷ ls; rest = r }
+
+unfoldable pub parted : List ℕ → Parted
+parted [] = record { lines = []; rest = [] }
+parted (b ∷ s) =
+    cond (ends-line b)
+    (record { lines = [] ∷ parted s .lines; rest = parted s .rest })
+    (in-first b (parted s .lines) (parted s .rest))
+
+-- 01: "the last may lack it". Nothing behind the last newline is no line.
+abbrev pub last-line : List ℕ → List (List ℕ)
+last-line [] = []
+last-line (b ∷ s) = (b ∷ s) ∷ []
+
+-- 01: "lines of standard input"
+abbrev pub lines-of : List ℕ → List (List ℕ)
+lines-of s = parted s .lines ++ last-line (parted s .rest)
+
+-- 01: "another form or a longer line prints `refused line`. A line is answered by access and log word, or `refused 21`."
+abbrev pub answered : List ℕ → Line → List ℕ
+answered table refused = refused-line
+answered table (question q) = answer-text (decide table q)
+
+-- what is printed for a line
+unfoldable pub reply : List ℕ → List ℕ → List ℕ
+reply table l = answered table (asks l) ++ (10 ∷ [])
+
+-- for some lines
+unfoldable pub replies : List ℕ → List (List ℕ) → List ℕ
+replies table [] = []
+replies table (l ∷ ls) = reply table l ++ replies table ls
+
+-- for all of the input
+abbrev pub printed : List ℕ → List ℕ → List ℕ
+printed table s = replies table (lines-of s)

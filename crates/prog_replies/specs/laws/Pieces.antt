@@ -1,0 +1,98 @@
+-- An input that comes in pieces is answered as it would be at once.
+use mathlib.Core.Path.{_≡_, refl, sym, ap, subst, _∙_}
+use mathlib.Core.Bool.{Bool, true, false, not, _&&_, false≢true}
+use mathlib.Core.List.{List, [], _∷_, _++_, append-nil, append-assoc}
+use Prim.Native.Nat.{ℕ}
+use Rattle.lists.specs.Select.{joined}
+use Rattle.prog_replies.specs.Input.{ends-line, Parted, in-first, parted, last-line, reply, replies, printed}
+use Rattle.prog_replies.specs.Pieces.{plain, printed-by}
+
+-- ---- one line
+
+-- what is known of a byte before others, where it is known whether it is a newline
+pub by-first : (b : ℕ) (l : List ℕ) (t : Bool) → ends-line b ≡ t → plain (b ∷ l) ≡ true → (not t && plain l) ≡ true
+by-first b l t e k = subst (λ (x : Bool). (not x && plain l) ≡ true) e k
+
+pub plain-parted : (l : List ℕ) → plain l ≡ true → parted l ≡ record { lines = []; rest = l }
+unfolding parted
+plain-parted [] h = refl
+plain-parted (b ∷ l) h = go (ends-line b) refl h (plain-parted l)
+  where
+    go : (t : Bool) → ends-line b ≡ t → plain (b ∷ l) ≡ true → (plain l ≡ true → parted l ≡ record { lines = []; rest = l }) → parted (b ∷ l) ≡ record { lines = []; rest = b ∷ l }
+    go true e k i = absurd (false≢true (by-first b l true e k))
+    go false e k i = rw (e, i (by-first b l false e k)) refl
+
+pub plain-line : (l : List ℕ) → plain l ≡ true → parted (l ++ (10 ∷ [])) ≡ record { lines = l ∷ []; rest = [] }
+unfolding parted
+plain-line [] h = refl
+plain-line (b ∷ l) h = go (ends-line b) refl h (plain-line l)
+  where
+    go : (t : Bool) → ends-line b ≡ t → plain (b ∷ l) ≡ true → (plain l ≡ true → parted (l ++ (10 ∷ [])) ≡ record { lines = l ∷ []; rest = [] }) → parted (b ∷ (l ++ (10 ∷ []))) ≡ record { lines = (b ∷ l) ∷ []; rest = [] }
+    go true e k i = absurd (false≢true (by-first b l true e k))
+    go false e k i = rw (e, i (by-first b l false e k)) refl
+
+pub plain-append : (a b : List ℕ) → plain a ≡ true → plain b ≡ true → plain (a ++ b) ≡ true
+plain-append [] b h k = k
+plain-append (x ∷ a) b h k = go (ends-line x) refl h (λ z. plain-append a b z k)
+  where
+    go : (t : Bool) → ends-line x ≡ t → plain (x ∷ a) ≡ true → (plain a ≡ true → plain (a ++ b) ≡ true) → plain (x ∷ (a ++ b)) ≡ true
+    go true e z i = absurd (false≢true (by-first x a true e z))
+    go false e z i = rw e (i (by-first x a false e z))
+
+pub rest-plain : (a : List ℕ) → plain (parted a .rest) ≡ true
+unfolding parted
+rest-plain [] = refl
+rest-plain (x ∷ a) = go (ends-line x) refl (rest-plain a)
+  where
+    first : (ls : List (List ℕ)) (r : List ℕ) → ends-line x ≡ false → plain r ≡ true → plain (in-first x ls r .rest) ≡ true
+    first [] r e k = rw e k
+    first (l ∷ ls) r e k = k
+
+    go : (t : Bool) → ends-line x ≡ t → plain (parted a .rest) ≡ true → plain (parted (x ∷ a) .rest) ≡ true
+    go true e i = rw e i
+    go false e i = rw e (first (parted a .lines) (parted a .rest) e i)
+
+-- ---- one piece behind another
+
+-- what a piece behind makes of what there was
+abbrev pub then : Parted → List ℕ → Parted
+then p b = record { lines = p .lines ++ parted (p .rest ++ b) .lines; rest = parted (p .rest ++ b) .rest }
+
+pub parted-append : (a b : List ℕ) → parted (a ++ b) ≡ then (parted a) b
+unfolding parted
+parted-append [] b = refl
+parted-append (x ∷ a) b = go (ends-line x) refl (parted-append a b)
+  where
+    first :
+        (ls : List (List ℕ)) (r : List ℕ) → ends-line x ≡ false
+        → in-first x (ls ++ parted (r ++ b) .lines) (parted (r ++ b) .rest) ≡ then (in-first x ls r) b
+    first [] r e = rw e refl
+    first (l ∷ ls) r e = refl
+
+    go : (t : Bool) → ends-line x ≡ t → parted (a ++ b) ≡ then (parted a) b → parted (x ∷ (a ++ b)) ≡ then (parted (x ∷ a)) b
+    go true e i = rw (e, i) refl
+    go false e i = rw (e, i) (first (parted a .lines) (parted a .rest) e)
+
+pub replies-append : (table : List ℕ) (a b : List (List ℕ)) → replies table (a ++ b) ≡ replies table a ++ replies table b
+unfolding replies
+replies-append table [] b = refl
+replies-append table (l ∷ a) b = ap (λ (s : List ℕ). reply table l ++ s) (replies-append table a b) ∙ sym (append-assoc (reply table l) (replies table a) (replies table b))
+
+-- ---- all pieces
+
+module _ (table : List ℕ) where
+  -- a line begun, and pieces behind it
+  begun : (h : List ℕ) (ps : List (List ℕ)) → plain h ≡ true → printed-by table h ps ≡ printed table (h ++ joined ps)
+  unfolding printed-by
+  begun h [] k = rw (append-nil h, plain-parted h k) refl
+  begun h (p ∷ ps) k =
+      let next = parted (h ++ p) .rest in
+      let whole : parted (h ++ (p ++ joined ps)) ≡ then (parted (h ++ p)) (joined ps) = ap parted (sym (append-assoc h p (joined ps))) ∙ parted-append (h ++ p) (joined ps) in
+      ap (λ (s : List ℕ). replies table (parted (h ++ p) .lines) ++ s) (begun next ps (rest-plain (h ++ p)))
+      ∙ sym (replies-append table (parted (h ++ p) .lines) (parted (next ++ joined ps) .lines ++ last-line (parted (next ++ joined ps) .rest)))
+      ∙ ap (replies table) (sym (append-assoc (parted (h ++ p) .lines) (parted (next ++ joined ps) .lines) (last-line (parted (next ++ joined ps) .rest))))
+      ∙ ap (λ (q : Parted). replies table (q .lines ++ last-line (q .rest))) (sym whole)
+
+  -- however the input is cut into pieces, the same is printed
+  pub by-pieces : (ps : List (List ℕ)) → printed-by table [] ps ≡ printed table (joined ps)
+  by-pieces ps = begun [] ps refl

@@ -1,0 +1,71 @@
+-- How much room answers need: 18 bytes for each byte of a piece are enough.
+use mathlib.Core.Path.{_≡_, refl, sym, ap, _∙_}
+use mathlib.Core.Bool.{Bool, true, false}
+use mathlib.Core.List.{List, [], _∷_, _++_}
+use Prim.Native.Nat.{ℕ, suc, _+_, _*_, _≤_}
+use native.Mathlib.Omega.{arith}
+use lib.ListN.{length, take, length-append}
+use Rattle.rule.specs.declared.Access.{Access}
+use Rattle.rule.specs.declared.Access.the-variants as access
+use Rattle.decision.specs.declared.Answer.{Answer}
+use Rattle.decision.specs.declared.Answer.the-variants.{Answered, NotTable, BadLevel}
+use Rattle.decision.specs.Decision.{decide}
+use Rattle.prog_line.specs.Line.{Line, refused, question, asks}
+use Rattle.prog_words.specs.Words.{answer-text}
+use Rattle.prog_words.specs.laws.Put.{put-whole}
+use Rattle.prog_replies.specs.Input.{ends-line, in-first, parted, answered, reply, replies}
+use Rattle.prog_replies.specs.Pieces.{plain, Answers}
+use Rattle.prog_replies.specs.laws.Pieces.{by-first}
+
+short-answer : (a : Answer) → length (answer-text a) ≤ 17
+unfolding answer-text
+short-answer (Answered access.None true) = omega arith
+short-answer (Answered access.None false) = omega arith
+short-answer (Answered access.Read true) = omega arith
+short-answer (Answered access.Read false) = omega arith
+short-answer (Answered access.Write true) = omega arith
+short-answer (Answered access.Write false) = omega arith
+short-answer NotTable = omega arith
+short-answer BadLevel = omega arith
+
+short-line : (table : List ℕ) (l : Line) → length (answered table l) ≤ 17
+short-line table refused = omega arith
+short-line table (question q) = short-answer (decide table q)
+
+short-reply : (table l : List ℕ) → length (reply table l) ≤ 18
+unfolding reply
+short-reply table l = let z = length-append (answered table (asks l)) (10 ∷ []) in let y = short-line table (asks l) in omega arith
+
+short-replies : (table : List ℕ) (ls : List (List ℕ)) → length (replies table ls) ≤ 18 * length ls
+unfolding replies
+short-replies table [] = omega arith
+short-replies table (l ∷ ls) = let z = length-append (reply table l) (replies table ls) in let y = short-reply table l in let x = short-replies table ls in omega arith
+
+as-many : (b : ℕ) (ls : List (List ℕ)) (r : List ℕ) → length (in-first b ls r .lines) ≡ length ls
+as-many b [] r = refl
+as-many b (l ∷ ls) r = refl
+
+few-lines : (p : List ℕ) → length (parted p .lines) ≤ length p
+unfolding parted
+few-lines [] = omega arith
+few-lines (b ∷ p) = go (ends-line b) refl (few-lines p)
+  where
+    go : (t : Bool) → ends-line b ≡ t → length (parted p .lines) ≤ length p → length (parted (b ∷ p) .lines) ≤ suc (length p)
+    go true e i = rw e (omega arith)
+    go false e i = rw e (let z = as-many b (parted p .lines) (parted p .rest) in omega arith)
+
+few-behind : (h p : List ℕ) → plain h ≡ true → length (parted (h ++ p) .lines) ≤ length p
+unfolding parted
+few-behind [] p k = few-lines p
+few-behind (b ∷ h) p k = go (ends-line b) refl (few-behind h p)
+  where
+    go : (t : Bool) → ends-line b ≡ t → (plain h ≡ true → length (parted (h ++ p) .lines) ≤ length p) → length (parted (b ∷ (h ++ p)) .lines) ≤ length p
+    go true e i = absurd (mathlib.Core.Bool.false≢true (by-first b h true e k))
+    go false e i = rw e (let z = as-many b (parted (h ++ p) .lines) (parted (h ++ p) .rest) in let y = i (by-first b h false e k) in omega arith)
+
+-- with that room the answers stand whole at the start
+pub stand-whole :
+    {table h piece out out′ buffer : List ℕ} {printed count : ℕ} → Answers table h piece out out′ printed buffer count → plain h ≡ true → 18 * length piece ≤ length out
+    → take printed out′ ≡ replies table (parted (h ++ piece) .lines)
+stand-whole {table} {h} {piece} a k r =
+    put-whole (a .answers) (let z = short-replies table (parted (h ++ piece) .lines) in let y = few-behind h piece k in omega arith)

@@ -1,0 +1,124 @@
+// What the asker prints for its input, which comes in pieces.
+use prog_line::Line;
+ghost use mathlib.Core.Path.{_≡_};
+ghost use mathlib.Core.Bool.{true};
+ghost use Prim.Native.Nat.{_+_, _≤_};
+ghost use lib.ListN.{length, take};
+ghost use Rattle.table.specs.Check.{is-table};
+ghost use Rattle.prog_line.specs.Line.{asks};
+ghost use Rattle.prog_words.specs.Put.{Put};
+ghost use Rattle.prog_replies.specs.Input.{answered, reply};
+ghost use Rattle.prog_replies.specs.Pieces.{room, Line-span, Extends, Responds, Finishes};
+
+// How many bytes of a line that has begun are stored, and how many bytes of answers were written.
+pub struct Progress {
+    pub count: usize,
+    pub printed: usize,
+}
+
+// Writes the answer to a line from an offset on, as far as there is room, and answers the offset behind it.
+fn answer_line(table: &[u8], line: &[u8], out: &mut [u8], at: usize) -> usize
+    requires { ⌜ (is-table (now table) ≡ true) × (at ≤ length (now out)) ⌝ }
+    ensures { λ r. ⌜ Put (answered (now (table .entry)) (asks (now (line .entry)))) (now (out .entry)) at (now (out .exit)) r ⌝ }
+{
+    match prog_line::question(line) {
+        Line::Refused => prog_words::refused_text(out, at),
+        Line::Question {
+            user,
+            host,
+            level_at,
+            level,
+        } => {
+            let group = prog_line::group(line, user);
+            let user_name = prog_line::part(line, user, host);
+            let host_name = prog_line::part(line, host, level_at);
+            let mut allowed = false;
+            let rs = prog_line::readings(line, level_at + 1, &mut allowed);
+            let answer = answer::decide_checked(table, group, user_name, host_name, level, rs);
+            prog_words::answer_text(answer, out, at)
+        }
+    }
+}
+
+// The same with its newline.
+fn reply(table: &[u8], line: &[u8], out: &mut [u8], at: usize) -> usize
+    requires { ⌜ (is-table (now table) ≡ true) × (at ≤ length (now out)) ⌝ }
+    ensures { λ r. ⌜ Put (reply (now (table .entry)) (now (line .entry))) (now (out .entry)) at (now (out .exit)) r ⌝ }
+{
+    let end = answer_line(table, line, out, at);
+    prog_words::put(b"\n", out, end)
+}
+
+// Behind the line that has begun stands what a piece has from an offset up to another: if a newline ends it there, it is answered.
+fn take_line(
+    table: &[u8],
+    piece: &[u8],
+    at: usize,
+    end: usize,
+    buffer: &mut [u8],
+    count: usize,
+    out: &mut [u8],
+    printed: usize,
+) -> Progress
+    requires { ⌜ (is-table (now table) ≡ true) × Line-span (now piece) at end × (length (now buffer) ≡ room)
+        × (count ≤ room) × (printed ≤ length (now out)) ⌝ }
+    ensures { λ r. ⌜ (r .count ≤ room) × (r .printed ≤ length (now (out .exit)))
+        × Extends (now (table .entry)) (take at (now (piece .entry))) (take (end + 1) (now (piece .entry)))
+        (now (out .entry)) printed (now (buffer .entry)) count (now (out .exit)) (r .printed) (now (buffer .exit)) (r .count) ⌝ }
+{
+    let filled = prog_words::put(&piece[at..end], buffer, count);
+    if end < piece.len() {
+        let next = reply(table, &buffer[..filled], out, printed);
+        return Progress {
+            count: 0,
+            printed: next,
+        };
+    }
+    Progress {
+        count: filled,
+        printed,
+    }
+}
+
+// Answers the lines that end in a piece. Of the line behind them as much is stored as shows whether it is too long.
+// The caller has loaded the table, and has count from the piece before.
+pub fn respond(
+    table: &[u8],
+    piece: &[u8],
+    buffer: &mut [u8],
+    count: usize,
+    out: &mut [u8],
+) -> Progress
+    requires { ⌜ (is-table (now table) ≡ true) × (length (now buffer) ≡ room) × (count ≤ room) ⌝ }
+    ensures { λ r. ⌜ (r .count ≤ room) × (r .printed ≤ length (now (out .exit)))
+        × Responds (now (table .entry)) (now (piece .entry)) (now (out .entry)) (now (buffer .entry)) count
+        (now (out .exit)) (r .printed) (now (buffer .exit)) (r .count) ⌝ }
+{
+    let mut filled = count;
+    let mut printed = 0;
+    let mut at = 0;
+    while at < piece.len() {
+        let end = bytes::scan::find(piece, at, piece.len(), b'\n');
+        let p = take_line(table, piece, at, end, buffer, filled, out, printed);
+        filled = p.count;
+        printed = p.printed;
+        at = end + 1;
+    }
+    Progress {
+        count: filled,
+        printed,
+    }
+}
+
+// Answers the line that has begun at the end of the input: the last may lack its newline.
+// The caller has loaded the table, and has count from the last piece (respond).
+pub fn finish(table: &[u8], buffer: &[u8], count: usize, out: &mut [u8]) -> usize
+    requires { ⌜ (is-table (now table) ≡ true) × (count ≤ length (now buffer)) ⌝ }
+    ensures { λ r. ⌜ r ≤ length (now (out .exit)) ⌝ }
+    ensures { λ r. ⌜ Finishes (now (table .entry)) (now (buffer .entry)) count (now (out .entry)) (now (out .exit)) r ⌝ }
+{
+    if count == 0 {
+        return 0;
+    }
+    reply(table, &buffer[..count], out, 0)
+}

@@ -1,0 +1,3 @@
+pub mod Words
+pub mod Put
+pub mod laws

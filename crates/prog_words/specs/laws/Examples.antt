@@ -1,0 +1,19 @@
+-- 01's examples of what is printed.
+use mathlib.Core.Path.{_≡_, refl}
+use mathlib.Core.Bool.{true, false}
+use Rattle.lists.specs.Text.{bytes}
+use Rattle.rule.specs.declared.Access.the-variants as access
+use Rattle.decision.specs.declared.Answer.the-variants.{Answered}
+use Rattle.prog_words.specs.Words.{answer-text, digits-in, decimal-digits, placed, warning-text}
+
+write-trap : answer-text (Answered access.Write true) ≡ bytes "WRITE TRAPWRITE"
+unfolding answer-text
+write-trap = refl
+
+read : answer-text (Answered access.Read false) ≡ bytes "READ NOTRAPWRITE"
+unfolding answer-text
+read = refl
+
+a-warning : warning-text 2 54 ≡ bytes "warning 2 at 54"
+unfolding placed decimal-digits digits-in
+a-warning = refl

@@ -1,0 +1,54 @@
+use Rattle.demand.specs.Exact.{leaves-table}
+use Rattle.demand.specs.Calls.{is-accepted}
+use Rattle.load.specs.Load.{Outcome}
+use Rattle.table.specs.Check.{is-table}
+use mathlib.Core.Path.{sym, ap, _∙_}
+use borrow.Author.Needs.{needs}
+use Rattle.vec_ask.proofs.answer.Statement.{statement}
+use Rattle.vec_ask.proofs.answer.Tie as tie
+use Rattle.vec_ask.proofs.answer.Reads as reads
+use Rattle.vec_ask.proofs.answer.Lts as lts
+use Rattle.vec_ask.proofs.serve.Reads as serve-reads
+use Rattle.loader.proofs.load.Reads as load-reads
+use Rattle.prog_output.proofs.put_refusal.Reads as put-refusal-reads
+
+slice-aggregate-load : tie.Need-slice-aggregate-load
+slice-aggregate-load c = search needs
+
+load-requires : tie.Need-load-requires
+load-requires c κs = search needs
+
+enum-known-refusal : tie.Need-enum-known-refusal
+enum-known-refusal c = search needs
+
+put-refusal-requires : tie.Need-put-refusal-requires
+put-refusal-requires c κs = search needs
+
+enum-known-length : tie.Need-enum-known-length
+enum-known-length c = search needs
+
+slice-aggregate-serve : tie.Need-slice-aggregate-serve
+slice-aggregate-serve c = search needs
+
+serve-requires : tie.Need-serve-requires
+serve-requires c κs = ap (λ (o : Outcome). is-table (o .bytes)) (c .before .before .before .before .before .load .ensures) ∙ leaves-table _ _ (sym (ap (λ (o : Outcome). is-accepted (o .answer)) (c .before .before .before .before .before .load .ensures)) ∙ ap is-accepted (c .before .before .length .given .1))
+
+returns : tie.Need-returns
+returns c = search needs
+
+returns-2 : tie.Need-returns-2
+returns-2 c = search needs
+
+pub answer-spec : {M : Type 1} → statement M
+answer-spec =
+    tie.close
+    (tie.spec
+    slice-aggregate-load
+    load-requires
+    enum-known-refusal
+    put-refusal-requires
+    enum-known-length
+    slice-aggregate-serve
+    serve-requires
+    returns
+    returns-2)
