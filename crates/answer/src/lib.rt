@@ -334,7 +334,7 @@ fn calculation_true(table: &[u8], rule: usize, values: &[f64; 21], goods: &[bool
     if at + n == 0 {
         return true;
     }
-    evaluate::holds_given(name_of(table, Kind::Rules, rule), values, goods)
+    evaluate::holds_with(name_of(table, Kind::Rules, rule), values, goods)
 }
 
 fn passes_rule(
@@ -438,7 +438,7 @@ pub fn decide_checked(
             trap: false,
         },
         Place::At(i) => {
-            let h = evaluate::hear(rs);
+            let h = evaluate::inputs_of(rs);
             let values = h.values;
             let goods = h.good;
             let v = verdict_on(table, i, user, host, wide(level), &values, &goods);
