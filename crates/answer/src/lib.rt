@@ -67,7 +67,7 @@ pub fn decide_checked(
             trap: false,
         },
         Index::At(i) => {
-            let h = evaluate::hear(rs);
+            let h = evaluate::inputs_of(rs);
             let values = h.values;
             let goods = h.good;
             let d = decision_of_group(table, i, user, host, fields::wide(level), &values, &goods);

@@ -10,7 +10,7 @@ use Rattle.calculation.specs.Symbol.{Symbol, number, letter, operator, not-sign
 use Rattle.calculation.specs.Symbol.{wrong, sign, start}
 use Rattle.calculation.specs.Expression.{Tree}
 use Rattle.calculation.specs.Value.{letters, near-one}
-use Rattle.evaluate.specs.declared.Heard.{Heard}
+use Rattle.evaluate.specs.declared.Inputs.{Inputs}
 use Rattle.calc_value.specs.declared.Worth.{Worth}
 use Rattle.calc_value.specs.declared.Worth.the-variants as worths
 use Rattle.calc_value.specs.Parse.{value-with}
@@ -51,12 +51,12 @@ abbrev pub symbols-given : List Bool → Option (List Symbol) → Bool
 symbols-given given o = holds-of o (λ ss. all (given-letter given) (letters-in ss))
 
 -- a calculation is true of the letters' values and of which are good
-abbrev pub true-given : List Float → List Bool → Option Tree → Bool
-true-given values goods o = holds-of o (λ t. all (given-letter goods) (letters t) && near-one (value-with values t))
+abbrev pub true-with : List Float → List Bool → Option Tree → Bool
+true-with values goods o = holds-of o (λ t. all (given-letter goods) (letters t) && near-one (value-with values t))
 
--- a calculation is true of readings already heard
-abbrev pub true-heard : Heard → Option Tree → Bool
-true-heard h o = true-given (h .values) (h .good) o
+-- a calculation is true of inputs
+abbrev pub true-for : Inputs → Option Tree → Bool
+true-for x o = true-with (x .values) (x .good) o
 
 abbrev pub near-worth : Worth → Bool
 near-worth worths.NoCalculation = false

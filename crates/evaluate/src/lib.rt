@@ -8,13 +8,13 @@ ghost use Rattle.calculation.specs.Value.{heard, good, letters};
 ghost use Rattle.calculation.specs.Reader.{tree-of};
 ghost use Rattle.rule.specs.Rule.{true-tree};
 ghost use Rattle.calc_value.specs.Answer.{worth};
-ghost use Rattle.evaluate.specs.Answer.{given-letter, letter-begun, byte-letters, true-given, true-heard, near-worth};
+ghost use Rattle.evaluate.specs.Answer.{given-letter, letter-begun, byte-letters, true-with, true-for, near-worth};
 use calc_symbol::Class;
 use calc_value::Worth;
 use calculation::Reading;
 
-// Readings as numbers: the value of each letter, and whether it is good.
-pub struct Heard {
+// The inputs of a question: the value of each letter, and whether it is good.
+pub struct Inputs {
     pub values: [f64; 21],
     pub good: [bool; 21],
 }
@@ -30,6 +30,7 @@ pub fn allowed(s: &[u8]) -> bool
     }
 }
 
+// Whether a byte is no letter, or one of those given.
 fn byte_given(b: u8, given: &[bool; 21]) -> bool
     ensures { λ r. ⌜ r ≡ all (given-letter (now (given .entry))) (letter-begun (start b [])) ⌝ }
 {
@@ -64,6 +65,7 @@ pub fn allowed_with(s: &[u8], given: [bool; 21]) -> bool
     }
 }
 
+// The value of a reading, and 0 for one that has none.
 fn value_of(r: Reading) -> f64
     ensures { λ v. ⌜ v ≡ heard r ⌝ }
 {
@@ -84,7 +86,8 @@ fn is_good(r: Reading) -> bool
     }
 }
 
-pub fn hear(rs: [Reading; 21]) -> Heard
+// The readings as inputs: they are matched on once, before any calculation runs.
+pub fn inputs_of(rs: [Reading; 21]) -> Inputs
     ensures { λ r. ⌜ (r .values ≡ map heard rs) × (r .good ≡ map good rs) ⌝ }
 {
     let mut values = [0.0; 21];
@@ -96,18 +99,19 @@ pub fn hear(rs: [Reading; 21]) -> Heard
         good[i] = is_good(r);
         i += 1;
     }
-    Heard { values, good }
+    Inputs { values, good }
 }
 
 // The value of a text, whether or not its letters are good.
 pub fn value(s: &[u8], rs: [Reading; 21]) -> Worth
     ensures { λ r. ⌜ r ≡ worth rs (tree-of (now (s .entry))) ⌝ }
 {
-    let h = hear(rs);
-    let vs = h.values;
-    calc_value::worth_of(s, &vs)
+    let inputs = inputs_of(rs);
+    let values = inputs.values;
+    calc_value::worth_of(s, &values)
 }
 
+// Whether there is a value, and it counts as true.
 fn near(w: Worth) -> bool
     ensures { λ r. ⌜ r ≡ near-worth w ⌝ }
 {
@@ -118,10 +122,10 @@ fn near(w: Worth) -> bool
 }
 
 // Whether a calculation is true, from the letters' values and which of them are good.
-// Callers have both arrays from hear, which makes 21 of each.
-pub fn holds_given(s: &[u8], values: &[f64; 21], goods: &[bool; 21]) -> bool
+// answer has both arrays from inputs_of, which makes 21 of each.
+pub fn holds_with(s: &[u8], values: &[f64; 21], goods: &[bool; 21]) -> bool
     requires { ⌜ length (now values) ≡ 21 ⌝ }
-    ensures { λ r. ⌜ r ≡ true-given (now (values .entry)) (now (goods .entry)) (tree-of (now (s .entry))) ⌝ }
+    ensures { λ r. ⌜ r ≡ true-with (now (values .entry)) (now (goods .entry)) (tree-of (now (s .entry))) ⌝ }
 {
     if letters_given(s, goods) {
         near(calc_value::worth_of(s, values))
@@ -130,17 +134,18 @@ pub fn holds_given(s: &[u8], values: &[f64; 21], goods: &[bool; 21]) -> bool
     }
 }
 
-// Whether a calculation is true of readings already heard.
-pub fn holds_heard(s: &[u8], h: Heard) -> bool
-    ensures { λ r. ⌜ r ≡ true-heard h (tree-of (now (s .entry))) ⌝ }
+// Whether a calculation is true of inputs.
+pub fn holds_for(s: &[u8], inputs: Inputs) -> bool
+    ensures { λ r. ⌜ r ≡ true-for inputs (tree-of (now (s .entry))) ⌝ }
 {
-    let good = h.good;
-    let vs = h.values;
-    holds_given(s, &vs, &good)
+    let good = inputs.good;
+    let values = inputs.values;
+    holds_with(s, &values, &good)
 }
 
+// Whether a calculation is true of readings.
 pub fn holds(s: &[u8], rs: [Reading; 21]) -> bool
     ensures { λ r. ⌜ r ≡ true-tree rs (tree-of (now (s .entry))) ⌝ }
 {
-    holds_heard(s, hear(rs))
+    holds_for(s, inputs_of(rs))
 }

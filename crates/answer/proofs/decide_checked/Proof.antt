@@ -18,8 +18,8 @@ enum-told c = search needs
 enum-known-i : tie.Need-enum-known-i
 enum-known-i c = search needs
 
-hear-requires : tie.Need-hear-requires
-hear-requires c κs = search needs
+inputs-of-requires : tie.Need-inputs-of-requires
+inputs-of-requires c κs = search needs
 
 wide-requires : tie.Need-wide-requires
 wide-requires c κs = search needs
@@ -31,7 +31,7 @@ returns-2 : tie.Need-returns-2
 returns-2 c = let a = c .before .before .before .before .before .before .before .before in sym (decide-none (a .args .table .now) (question-of (a .args .group .now) (a .args .user .now) (a .args .host .now) (a .args .level) (a .args .rs)) (a .pre) (omega (arith, c .before .before .before .if1 .left)) (c .before .before .answering-group .ensures) (c .enum-told .given .1))
 
 returns-3 : tie.Need-returns-3
-returns-3 c = let a = c .before .before .before .before .before .before .before .before .before .before .before .before .before .before .before .before in sym (decide-by (a .args .table .now) (question-of (a .args .group .now) (a .args .user .now) (a .args .host .now) (a .args .level) (a .args .rs)) (a .pre) (c .before .before .before .before .before .before .before .before .i .given .0 .0) (c .before .before .before .wide .ensures .0) (omega (arith, c .before .before .before .before .before .before .before .before .before .before .before .if1 .left)) (c .before .before .before .before .before .before .before .before .before .before .answering-group .ensures) (c .before .before .before .before .before .before .before .before .i .given .1) (c .decision-of-group .ensures (a .args .rs) (c .before .before .before .before .before .before .hear .ensures)))
+returns-3 c = let a = c .before .before .before .before .before .before .before .before .before .before .before .before .before .before .before .before in sym (decide-by (a .args .table .now) (question-of (a .args .group .now) (a .args .user .now) (a .args .host .now) (a .args .level) (a .args .rs)) (a .pre) (c .before .before .before .before .before .before .before .before .i .given .0 .0) (c .before .before .before .wide .ensures .0) (omega (arith, c .before .before .before .before .before .before .before .before .before .before .before .if1 .left)) (c .before .before .before .before .before .before .before .before .before .before .answering-group .ensures) (c .before .before .before .before .before .before .before .before .i .given .1) (c .decision-of-group .ensures (a .args .rs) (c .before .before .before .before .before .before .inputs-of .ensures)))
 
 pub decide-checked-spec : {M : Type 1} → statement M
 decide-checked-spec =
@@ -41,7 +41,7 @@ decide-checked-spec =
     answering-group-requires
     enum-told
     enum-known-i
-    hear-requires
+    inputs-of-requires
     wide-requires
     decision-of-group-requires
     returns-2

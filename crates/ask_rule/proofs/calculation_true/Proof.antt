@@ -26,11 +26,11 @@ returns c = λ rs h. sym (no-calculation-holds rs (view (c .before .before .befo
 name-of-requires : tie.Need-name-of-requires
 name-of-requires c κs = search needs
 
-holds-given-requires : tie.Need-holds-given-requires
-holds-given-requires c κs = search needs
+holds-with-requires : tie.Need-holds-with-requires
+holds-with-requires c κs = search needs
 
 returns-2 : tie.Need-returns-2
-returns-2 c = λ rs h. holds-is rs (c .before .before .before .before .before .before .args .values .now) (c .before .before .before .before .before .before .args .goods .now) (tree-of (c .before .name-of .result .now)) (h .0) (h .1) (c .holds-given .ensures) ∙ ap (λ s. true-tree rs (tree-of s)) (c .before .name-of .ensures) ∙ sym (calculation-decides rs (view (c .before .before .before .before .before .before .args .table .now)) (row (view (c .before .before .before .before .before .before .args .table .now)) rules (c .before .before .before .before .before .before .args .rule)) (c .before .before .before .before .field .ensures .is) (c .before .before .before .field2 .ensures .is) (c .before .before .if1 .left))
+returns-2 c = λ rs h. holds-is rs (c .before .before .before .before .before .before .args .values .now) (c .before .before .before .before .before .before .args .goods .now) (tree-of (c .before .name-of .result .now)) (h .0) (h .1) (c .holds-with .ensures) ∙ ap (λ s. true-tree rs (tree-of s)) (c .before .name-of .ensures) ∙ sym (calculation-decides rs (view (c .before .before .before .before .before .before .args .table .now)) (row (view (c .before .before .before .before .before .before .args .table .now)) rules (c .before .before .before .before .before .before .args .rule)) (c .before .before .before .before .field .ensures .is) (c .before .before .before .field2 .ensures .is) (c .before .before .if1 .left))
 
 pub calculation-true-spec : {M : Type 1} → statement M
 calculation-true-spec =
@@ -41,5 +41,5 @@ calculation-true-spec =
     add-if1
     returns
     name-of-requires
-    holds-given-requires
+    holds-with-requires
     returns-2)

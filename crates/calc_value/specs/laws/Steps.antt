@@ -59,10 +59,10 @@ reduced b t k none h = refl
 reduced b t k (some []) h = rw (le-leb 0 (tightness b) h, reduce)
 reduced b t k (some (x ∷ r)) h = rw (le-leb (ends x) (tightness b) h, reduce)
 
-letter-heard : (vs : List Float) (i : ℕ) → i < length vs → getD vs i nan ≡ heard (reading (map readings.Value vs) i)
-letter-heard [] i h = absurd (omega arith)
-letter-heard (v ∷ vs) zero h = refl
-letter-heard (v ∷ vs) (suc i) h = letter-heard vs i (omega arith)
+letter-value : (vs : List Float) (i : ℕ) → i < length vs → getD vs i nan ≡ heard (reading (map readings.Value vs) i)
+letter-value [] i h = absurd (omega arith)
+letter-value (v ∷ vs) zero h = refl
+letter-value (v ∷ vs) (suc i) h = letter-value vs i (omega arith)
 
 -- ---- the cycle: what each function returns, from what its calls return
 
@@ -197,7 +197,7 @@ module _ (vs : List Float) (s : List ℕ) where
         {i n : ℕ} {v : Float} → Symbol-at s at (letter i) n → i < length vs → v ≡ getD vs i nan
         → Parses-as vs s wanted 6 at (at + 1) (parsed.Value v n)
     unfolding value
-    operand-letter {i} y h e = tree-at (letter-tree i) y (λ k. refl) (sym (e ∙ letter-heard vs i h))
+    operand-letter {i} y h e = tree-at (letter-tree i) y (λ k. refl) (sym (e ∙ letter-value vs i h))
 
     -- a prefix b, or a parenthesis, before an operand
     module _

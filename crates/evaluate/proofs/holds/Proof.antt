@@ -4,17 +4,17 @@ use borrow.Author.Needs.{needs}
 use Rattle.evaluate.proofs.holds.Statement.{statement}
 use Rattle.evaluate.proofs.holds.Tie as tie
 
-hear-requires : tie.Need-hear-requires
-hear-requires c κs = search needs
+inputs-of-requires : tie.Need-inputs-of-requires
+inputs-of-requires c κs = search needs
 
-holds-heard-requires : tie.Need-holds-heard-requires
-holds-heard-requires c κs = search needs
+holds-for-requires : tie.Need-holds-for-requires
+holds-for-requires c κs = search needs
 
 returns : tie.Need-returns
 returns c =
     let a = (c .before .before .before) in
-    holds-is (a .args .rs) _ _ (tree-of (a .args .s .now)) (c .before .hear .ensures .0) (c .before .hear .ensures .1)
-    (c .holds-heard .ensures)
+    holds-is (a .args .rs) _ _ (tree-of (a .args .s .now)) (c .before .inputs-of .ensures .0) (c .before .inputs-of .ensures .1)
+    (c .holds-for .ensures)
 
 pub holds-spec : {M : Type 1} → statement M
-holds-spec = tie.close (tie.spec hear-requires holds-heard-requires returns)
+holds-spec = tie.close (tie.spec inputs-of-requires holds-for-requires returns)

@@ -1,11 +1,11 @@
 use Rattle.calculation.specs.Reader.{tree-of}
-use Rattle.evaluate.specs.laws.Answers.{worth-heard}
+use Rattle.evaluate.specs.laws.Answers.{worth-of-inputs}
 use borrow.Author.Needs.{needs}
 use Rattle.evaluate.proofs.value.Statement.{statement}
 use Rattle.evaluate.proofs.value.Tie as tie
 
-hear-requires : tie.Need-hear-requires
-hear-requires c κs = search needs
+inputs-of-requires : tie.Need-inputs-of-requires
+inputs-of-requires c κs = search needs
 
 worth-of-requires : tie.Need-worth-of-requires
 worth-of-requires c κs = search needs
@@ -13,7 +13,7 @@ worth-of-requires c κs = search needs
 returns : tie.Need-returns
 returns c =
     let a = (c .before .before .before .before .before) in
-    worth-heard (a .args .rs) _ (tree-of (a .args .s .now)) (c .before .before .before .hear .ensures .0) (c .worth-of .ensures)
+    worth-of-inputs (a .args .rs) _ (tree-of (a .args .s .now)) (c .before .before .before .inputs-of .ensures .0) (c .worth-of .ensures)
 
 pub value-spec : {M : Type 1} → statement M
-value-spec = tie.close (tie.spec hear-requires worth-of-requires returns)
+value-spec = tie.close (tie.spec inputs-of-requires worth-of-requires returns)

@@ -28,7 +28,7 @@ use Rattle.calc_value.specs.declared.Worth.the-variants as worths
 use Rattle.calc_symbol.specs.Scan.{started}
 use Rattle.calc_value.specs.Parse.{value-with}
 use Rattle.calc_value.specs.Answer.{worth}
-use Rattle.evaluate.specs.Answer.{given-letter, letter-begun, byte-letters, true-given, near-worth}
+use Rattle.evaluate.specs.Answer.{given-letter, letter-begun, byte-letters, true-with, near-worth}
 use Rattle.calc_symbol.proofs.Class as class-type
 use Rattle.evaluate.specs.laws.Letters.{spelling-none, all-append, bytes-same, given-tree}
 
@@ -103,44 +103,44 @@ module _ (given : List Bool) (s : List ℕ) {b : Bool} (eb : b ≡ all (given-le
 
 -- ---- values
 
-heard-reading : (rs : List Reading) (i : ℕ) → heard (reading (map readings.Value (map heard rs)) i) ≡ heard (reading rs i)
-heard-reading [] i = refl
-heard-reading (r ∷ rs) zero = refl
-heard-reading (r ∷ rs) (suc i) = heard-reading rs i
+reading-value : (rs : List Reading) (i : ℕ) → heard (reading (map readings.Value (map heard rs)) i) ≡ heard (reading rs i)
+reading-value [] i = refl
+reading-value (r ∷ rs) zero = refl
+reading-value (r ∷ rs) (suc i) = reading-value rs i
 
-amount-heard : (rs : List Reading) (t : Tree) → value-with (map heard rs) t ≡ value rs t
+value-with-heard : (rs : List Reading) (t : Tree) → value-with (map heard rs) t ≡ value rs t
 unfolding value
-amount-heard rs (number-tree x) = refl
-amount-heard rs (letter-tree i) = heard-reading rs i
-amount-heard rs (minus t) = rw (amount-heard rs t)
-amount-heard rs (negation t) = rw (amount-heard rs t)
-amount-heard rs (binary o t u) = rw (amount-heard rs t, amount-heard rs u)
-amount-heard rs (choice c x y) = rw (amount-heard rs c, amount-heard rs x, amount-heard rs y)
+value-with-heard rs (number-tree x) = refl
+value-with-heard rs (letter-tree i) = reading-value rs i
+value-with-heard rs (minus t) = rw (value-with-heard rs t)
+value-with-heard rs (negation t) = rw (value-with-heard rs t)
+value-with-heard rs (binary o t u) = rw (value-with-heard rs t, value-with-heard rs u)
+value-with-heard rs (choice c x y) = rw (value-with-heard rs c, value-with-heard rs x, value-with-heard rs y)
 
-pub worth-heard : (rs : List Reading) (vs : List Float) (o : Option Tree) {w : Worth} → vs ≡ map heard rs → w ≡ worth (map readings.Value vs) o → w ≡ worth rs o
-worth-heard rs vs none e h = h
-worth-heard rs vs (some t) e h = h ∙ (rw e (ap worths.Is (amount-heard rs t)))
+pub worth-of-inputs : (rs : List Reading) (vs : List Float) (o : Option Tree) {w : Worth} → vs ≡ map heard rs → w ≡ worth (map readings.Value vs) o → w ≡ worth rs o
+worth-of-inputs rs vs none e h = h
+worth-of-inputs rs vs (some t) e h = h ∙ (rw e (ap worths.Is (value-with-heard rs t)))
 
 -- ---- truth
 
 module _ (s : List ℕ) (values : List Float) (goods : List Bool) {b : Bool} (eb : b ≡ all (given-letter goods) (byte-letters s)) where
-  given-is : true-given values goods (tree-of s) ≡ b && holds-of (tree-of s) (λ t. near-one (value-with values t))
-  given-is = given-tree s goods (λ t. near-one (value-with values t)) ∙ rw (← eb)
+  with-is : true-with values goods (tree-of s) ≡ b && holds-of (tree-of s) (λ t. near-one (value-with values t))
+  with-is = given-tree s goods (λ t. near-one (value-with values t)) ∙ rw (← eb)
 
-  pub given-yes :
+  pub with-good :
       {w : Worth} {r : Bool} → b ≡ true → w ≡ worth (map readings.Value values) (tree-of s) → r ≡ near-worth w
-      → r ≡ true-given values goods (tree-of s)
-  given-yes {w} {r} e ew er =
+      → r ≡ true-with values goods (tree-of s)
+  with-good {w} {r} e ew er =
       let x : near-worth w ≡ holds-of (tree-of s) (λ t. near-one (value-with values t)) = rw ew (go (tree-of s)) in
-      let y : true-given values goods (tree-of s) ≡ holds-of (tree-of s) (λ t. near-one (value-with values t)) = given-is ∙ rw e in
+      let y : true-with values goods (tree-of s) ≡ holds-of (tree-of s) (λ t. near-one (value-with values t)) = with-is ∙ rw e in
       er ∙ (x ∙ sym y)
     where
       go : (o : Option Tree) → near-worth (worth (map readings.Value values) o) ≡ holds-of o (λ t. near-one (value-with values t))
       go none = refl
       go (some t) = refl
 
-  pub given-no : b ≡ false → false ≡ true-given values goods (tree-of s)
-  given-no e = sym (given-is ∙ rw e)
+  pub with-bad : b ≡ false → false ≡ true-with values goods (tree-of s)
+  with-bad e = sym (with-is ∙ rw e)
 
 good-letter : (rs : List Reading) (i : ℕ) → given-letter (map good rs) i ≡ good (reading rs i)
 good-letter rs i = List·getD-map good rs i readings.NeverHeard
@@ -151,21 +151,21 @@ all-good rs (i ∷ ls) = rw (good-letter rs i, all-good rs ls)
 
 pub holds-is :
     (rs : List Reading) (values : List Float) (goods : List Bool) (o : Option Tree) {r : Bool} → values ≡ map heard rs → goods ≡ map good rs
-    → r ≡ true-given values goods o → r ≡ true-tree rs o
+    → r ≡ true-with values goods o → r ≡ true-tree rs o
 holds-is rs values goods none ev eg e = e
-holds-is rs values goods (some t) ev eg e = e ∙ rw (ev, eg, all-good rs (letters t), amount-heard rs t)
+holds-is rs values goods (some t) ev eg e = e ∙ rw (ev, eg, all-good rs (letters t), value-with-heard rs t)
 
--- ---- readings heard one by one
+-- ---- inputs filled one by one
 
-pub record Heard-to (rs : List Reading) (values : List Float) (goods : List Bool) (i : ℕ) : Type 0 where
+pub record Filled-to (rs : List Reading) (values : List Float) (goods : List Bool) (i : ℕ) : Type 0 where
   pub bound : i ≤ 21
   pub values-many : length values ≡ 21
   pub goods-many : length goods ≡ 21
   pub valued : (j : ℕ) → j < i → getD values j nan ≡ heard (reading rs j)
   pub judged : (j : ℕ) → j < i → getD goods j false ≡ good (reading rs j)
 
-pub heard-none : (rs : List Reading) (values : List Float) (goods : List Bool) → length values ≡ 21 → length goods ≡ 21 → Heard-to rs values goods 0
-heard-none rs values goods e f =
+pub filled-none : (rs : List Reading) (values : List Float) (goods : List Bool) → length values ≡ 21 → length goods ≡ 21 → Filled-to rs values goods 0
+filled-none rs values goods e f =
     record { bound = omega arith; values-many = e; goods-many = f; valued = λ j h. absurd (omega arith); judged = λ j h. absurd (omega arith) }
 
 set-more :
@@ -175,10 +175,10 @@ set-more d xs f i {x} l h e j g =
     let le : j ≤ i = omega arith in
     ⊎-elim (λ (q : j ≡ i). rw q (getD-set-same xs i x d l ∙ e)) (λ (q : j < i). getD-set-other xs i j x d (λ p. omega arith) ∙ h j q) (eq-or-lt-of-le le)
 
-pub heard-more :
-    (rs : List Reading) (values : List Float) (goods : List Bool) (i : ℕ) {v : Float} {g : Bool} → Heard-to rs values goods i → i < 21
-    → v ≡ heard (reading rs i) → g ≡ good (reading rs i) → Heard-to rs (set values i v) (set goods i g) (i + 1)
-heard-more rs values goods i {v} {g} k l ev eg =
+pub filled-more :
+    (rs : List Reading) (values : List Float) (goods : List Bool) (i : ℕ) {v : Float} {g : Bool} → Filled-to rs values goods i → i < 21
+    → v ≡ heard (reading rs i) → g ≡ good (reading rs i) → Filled-to rs (set values i v) (set goods i g) (i + 1)
+filled-more rs values goods i {v} {g} k l ev eg =
     record {
       bound = omega arith;
       values-many = length-set values i v ∙ k .values-many;
@@ -192,10 +192,10 @@ value-at [] j h = absurd (omega arith)
 value-at (r ∷ rs) zero h = refl
 value-at (r ∷ rs) (suc j) h = value-at rs j (omega arith)
 
-pub heard-all :
-    (rs : List Reading) (values : List Float) (goods : List Bool) (i : ℕ) → length rs ≡ 21 → Heard-to rs values goods i → 21 ≤ i
+pub filled-all :
+    (rs : List Reading) (values : List Float) (goods : List Bool) (i : ℕ) → length rs ≡ 21 → Filled-to rs values goods i → 21 ≤ i
     → (values ≡ map heard rs) × (goods ≡ map good rs)
-heard-all rs values goods i e k h = (
+filled-all rs values goods i e k h = (
   ext-getD nan values (map heard rs) (k .values-many ∙ sym (length-map rs heard ∙ e))
       (λ j l. k .valued j (omega (arith, k .values-many)) ∙ sym (value-at rs j (omega (arith, k .values-many)))),
   ext-getD false goods (map good rs) (k .goods-many ∙ sym (length-map rs good ∙ e))

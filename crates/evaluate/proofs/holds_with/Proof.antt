@@ -1,7 +1,7 @@
-use Rattle.evaluate.specs.laws.Answers.{given-yes, given-no}
+use Rattle.evaluate.specs.laws.Answers.{with-good, with-bad}
 use borrow.Author.Needs.{needs}
-use Rattle.evaluate.proofs.holds_given.Statement.{statement}
-use Rattle.evaluate.proofs.holds_given.Tie as tie
+use Rattle.evaluate.proofs.holds_with.Statement.{statement}
+use Rattle.evaluate.proofs.holds_with.Tie as tie
 
 letters-given-requires : tie.Need-letters-given-requires
 letters-given-requires c κs = search needs
@@ -15,14 +15,14 @@ near-requires c κs = search needs
 returns : tie.Need-returns
 returns c =
     let a = c .before .before .before .before .before .args in
-    given-yes (a .s .now) (a .values .now) (a .goods .now) (c .before .before .before .letters-given .ensures)
+    with-good (a .s .now) (a .values .now) (a .goods .now) (c .before .before .before .letters-given .ensures)
     (c .before .before .if1 .taken) (c .before .worth-of .ensures) (c .near .ensures)
 
 returns-2 : tie.Need-returns-2
 returns-2 c =
     let a = c .before .before .before .args in
-    given-no (a .s .now) (a .values .now) (a .goods .now) (c .before .letters-given .ensures) (c .if1 .left)
+    with-bad (a .s .now) (a .values .now) (a .goods .now) (c .before .letters-given .ensures) (c .if1 .left)
 
-pub holds-given-spec : {M : Type 1} → statement M
-holds-given-spec =
+pub holds-with-spec : {M : Type 1} → statement M
+holds-with-spec =
     tie.close (tie.spec letters-given-requires worth-of-requires near-requires returns returns-2)

@@ -1,19 +1,19 @@
 use Prim.Native.Nat.{_-_}
 use mathlib.Core.Path.{refl}
 use native.Mathlib.Omega.{arith}
-use Rattle.evaluate.specs.laws.Answers.{Heard-to, heard-none, heard-more, heard-all}
+use Rattle.evaluate.specs.laws.Answers.{Filled-to, filled-none, filled-more, filled-all}
 use borrow.Author.Needs.{needs}
-use Rattle.evaluate.proofs.hear.Statement.{statement}
-use Rattle.evaluate.proofs.hear.Tie as tie
+use Rattle.evaluate.proofs.inputs_of.Statement.{statement}
+use Rattle.evaluate.proofs.inputs_of.Tie as tie
 
 abbrev Inv-loop : tie.InvT-loop
-Inv-loop rs values₀ good₀ i₀ values good i = Heard-to rs values good i
+Inv-loop rs values₀ good₀ i₀ values good i = Filled-to rs values good i
 
 abbrev μ-loop : tie.MeasureT-loop
 μ-loop rs values₀ good₀ i₀ values good i = 21 - i
 
 loop-holds : tie.Need-loop-holds Inv-loop μ-loop
-loop-holds c = heard-none (c .args .t1) _ _ refl refl
+loop-holds c = filled-none (c .args .t1) _ _ refl refl
 
 mul-r : tie.Need-mul-r Inv-loop μ-loop
 mul-r c = search needs
@@ -45,16 +45,16 @@ loop-less c = omega arith
 loop-again : tie.Need-loop-again Inv-loop μ-loop
 loop-again c =
     let a = c .before .before .before .before in
-    heard-more (a .before .args .t1) (a .loop .values) (a .loop .good) (a .loop .i) (a .loop .inv)
+    filled-more (a .before .args .t1) (a .loop .values) (a .loop .good) (a .loop .i) (a .loop .inv)
     (c .before .before .before .loop-test .taken) (c .before .value-of .ensures) (c .is-good .ensures)
 
 returns : tie.Need-returns Inv-loop μ-loop
 returns c =
     let a = c .before in
-    heard-all (a .before .args .t1) (a .loop .values) (a .loop .good) (a .loop .i) (search needs) (a .loop .inv) (c .loop-test .left)
+    filled-all (a .before .args .t1) (a .loop .values) (a .loop .good) (a .loop .i) (search needs) (a .loop .inv) (c .loop-test .left)
 
-pub hear-spec : {M : Type 1} → statement M
-hear-spec =
+pub inputs-of-spec : {M : Type 1} → statement M
+inputs-of-spec =
     tie.close
     (tie.spec
     Inv-loop
