@@ -4,16 +4,16 @@ use mathlib.Core.List.{List}
 use mathlib.Core.Option.{Option, none, some}
 use Prim.Native.Nat.{ℕ}
 use Rattle.file.specs.Depth.{too-deep}
-use Rattle.kept.specs.Kept.{Arrays, tokens-from}
+use Rattle.kept.specs.Kept.{tokens-from}
+use Rattle.kept.specs.Stores.{kept-in}
 use Rattle.braces.specs.declared.Deep.{Deep}
 use Rattle.braces.specs.declared.Deep.the-variants.{No, At}
 
+-- the place of the brace that is too deep
 abbrev pub answer : Option ℕ → Deep
 answer none = No
 answer (some p) = At p
 
-abbrev pub arrays : List ℕ → List ℕ → List ℕ → List ℕ → Arrays
-arrays ks ps starts ends = record { kinds = ks; places = ps; starts = starts; ends = ends }
-
+-- the pass over n tokens with these kinds and places answers r
 abbrev pub Finds : List ℕ → List ℕ → List ℕ → List ℕ → List ℕ → ℕ → Deep → Type 0
-Finds s starts ends ks ps n r = r ≡ answer (too-deep 0 (tokens-from s (arrays ks ps starts ends) 0 n))
+Finds s starts ends ks ps n r = r ≡ answer (too-deep 0 (tokens-from s (kept-in ks ps starts ends) 0 n))

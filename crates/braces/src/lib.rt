@@ -1,3 +1,4 @@
+// The braces rule: how many braces are open at once.
 ghost use mathlib.Core.Path.{_≡_};
 ghost use mathlib.Core.List.{List};
 ghost use Prim.Native.Nat.{ℕ, _≤_};
@@ -6,6 +7,14 @@ ghost use Rattle.file.specs.Depth.{opened};
 ghost use Rattle.file.specs.Limit.{most-braces};
 ghost use Rattle.kept.specs.Kept.{kind-of-number};
 ghost use Rattle.braces.specs.Deep.{Finds};
+
+// kind-number
+const OPEN_BRACE: u8 = 11;
+
+const CLOSE_BRACE: u8 = 12;
+
+// most-braces
+const MOST_BRACES: usize = 16;
 
 // Where the brace stands that makes too many open at once.
 pub enum Deep {
@@ -19,13 +28,13 @@ fn opened(kind: u8, count: usize) -> usize
     ensures { λ r. ⌜ r ≡ opened (kind-of-number kind) count ⌝ }
 {
     match kind {
-        11 => count + 1,
-        12 => { if count == 0 { 0 } else { count - 1 } }
+        OPEN_BRACE => count + 1,
+        CLOSE_BRACE => { if count == 0 { 0 } else { count - 1 } }
         _ => count,
     }
 }
 
-// The braces rule over the first n tokens. The load has arrays as long as the file.
+// The braces rule over the first n tokens. The caller, hear, has arrays as long as the text, and no text has more tokens than bytes.
 pub fn too_deep(kinds: &[u8], places: &[u16], n: usize) -> Deep
     requires { ⌜ (n ≤ length (now kinds)) × (n ≤ length (now places)) ⌝ }
     ensures { λ r. ⌜ ((s starts ends : List ℕ) → Finds s starts ends (now (kinds .entry)) (now (places .entry)) n r) ⌝ }
@@ -34,7 +43,7 @@ pub fn too_deep(kinds: &[u8], places: &[u16], n: usize) -> Deep
     let mut i = 0;
     while i < n {
         count = opened(kinds[i], count);
-        if 16 < count {
+        if MOST_BRACES < count {
             return Deep::At(kept::wide(places[i]));
         }
         i += 1;

@@ -1,3 +1,4 @@
+// The values that a file spells as text: levels, permissions and log options.
 ghost use mathlib.Core.Path.{_≡_};
 ghost use Prim.Native.Nat.{_-_, _≤_, min};
 ghost use lib.ListN.{length, drop};
@@ -28,10 +29,10 @@ pub enum Log {
 fn digit(b: u8) -> usize
     ensures { λ r. ⌜ r ≡ b - 48 ⌝ }
 {
-    if b < 48 {
+    if b < b'0' {
         return 0;
     }
-    b as usize - 48
+    (b - b'0') as usize
 }
 
 // The whole number that a text spells from a byte on, 2 for any greater one.
@@ -51,6 +52,7 @@ fn small_whole(t: &[u8], from: usize) -> usize
     v
 }
 
+// The level that a text spells from a byte on, behind its sign.
 fn level_from(t: &[u8], from: usize, negative: bool) -> Level
     requires { ⌜ from ≤ length (now t) ⌝ }
     ensures { λ r. ⌜ r ≡ level-told (level-by (whole 0 (drop from (now (t .entry)))) negative) ⌝ }
@@ -76,15 +78,16 @@ pub fn level_of(t: &[u8]) -> Level
         return Level::Is(0);
     }
     let b = t[0];
-    if b == 43 {
+    if b == b'+' {
         return level_from(t, 1, false);
     }
-    if b == 45 {
+    if b == b'-' {
         return level_from(t, 1, true);
     }
     level_from(t, 0, false)
 }
 
+// NONE, READ or WRITE.
 pub fn permission_of(t: &[u8]) -> Permission
     ensures { λ r. ⌜ r ≡ permission-told (permission-of (now (t .entry))) ⌝ }
 {
@@ -100,6 +103,7 @@ pub fn permission_of(t: &[u8]) -> Permission
     Permission::No
 }
 
+// NOTRAPWRITE or TRAPWRITE.
 pub fn log_of(t: &[u8]) -> Log
     ensures { λ r. ⌜ r ≡ log-told (log-of (now (t .entry))) ⌝ }
 {

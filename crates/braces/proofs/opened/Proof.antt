@@ -1,33 +1,25 @@
-use Rattle.braces.proofs.Laws.{other}
+use Rattle.braces.specs.laws.Braces.{other}
 use native.Mathlib.Omega.{arith}
 use mathlib.Core.Path.{sym}
 use borrow.Author.Needs.{needs}
 use Rattle.braces.proofs.opened.Statement.{statement}
 use Rattle.braces.proofs.opened.Tie as tie
-use Rattle.braces.proofs.opened.Reads as reads
-use Rattle.braces.proofs.opened.Lts as lts
 
--- src/lib.rt:22:15
 add-result : tie.Need-add-result
 add-result c = search needs
 
--- src/lib.rt:27:17
 sub-result : tie.Need-sub-result
 sub-result c = search needs
 
--- src/lib.rt:17:1
 returns : tie.Need-returns
 returns c = rw (c .match .keys1)
 
--- src/lib.rt:17:1
 returns-2 : tie.Need-returns-2
 returns-2 c = rw (c .before .match .keys2) (omega (arith, c .if1 .taken))
 
--- src/lib.rt:17:1
 returns-3 : tie.Need-returns-3
 returns-3 c = rw (c .before .match .keys2)
 
--- src/lib.rt:17:1
 returns-4 : tie.Need-returns-4
 returns-4 c = sym (other (c .before .args .kind) (c .before .args .count) (c .match .rest .0 .1) (c .match .rest .1))
 

@@ -1,6 +1,7 @@
-use Rattle.braces.proofs.Laws.{goes-on, stops, at-end}
+use Rattle.braces.specs.laws.Braces.{goes-on, stops, at-end}
 use Rattle.braces.specs.declared.Deep.the-variants.{At}
-use Rattle.braces.specs.Deep.{answer, arrays}
+use Rattle.braces.specs.Deep.{answer}
+use Rattle.kept.specs.Stores.{kept-in}
 use Rattle.kept.specs.Kept.{tokens-from}
 use Rattle.file.specs.Limit.{most-braces}
 use Rattle.file.specs.Depth.{too-deep}
@@ -11,61 +12,46 @@ use mathlib.Core.Path.{_≡_, refl, sym, ap, _∙_}
 use borrow.Author.Needs.{needs}
 use Rattle.braces.proofs.too_deep.Statement.{statement}
 use Rattle.braces.proofs.too_deep.Tie as tie
-use Rattle.braces.proofs.too_deep.Reads as reads
-use Rattle.braces.proofs.too_deep.Lts as lts
-use Rattle.braces.proofs.opened.Reads as opened-reads
-use Rattle.kept.proofs.wide.Reads as wide-reads
 
 abbrev Inv-loop : tie.InvT-loop
 Inv-loop kinds places n count₀ i₀ count i =
-    (i ≤ n) × (count ≤ most-braces) × ((s starts ends : List ℕ) → too-deep 0 (tokens-from s (arrays kinds places starts ends) 0 n) ≡ too-deep count (tokens-from s (arrays kinds places starts ends) i (n - i)))
+    (i ≤ n) × (count ≤ most-braces) × ((s starts ends : List ℕ) → too-deep 0 (tokens-from s (kept-in kinds places starts ends) 0 n) ≡ too-deep count (tokens-from s (kept-in kinds places starts ends) i (n - i)))
 
 abbrev μ-loop : tie.MeasureT-loop
 μ-loop kinds places n count₀ i₀ count i = n - i
 
--- src/lib.rt:47:5
 loop-holds : tie.Need-loop-holds Inv-loop μ-loop
-loop-holds c = (omega arith, omega arith, λ s starts ends. ap (λ (k : ℕ). too-deep 0 (tokens-from s (arrays (c .before .before .args .kinds .now) (c .before .before .args .places .now) starts ends) 0 k)) (omega arith))
+loop-holds c = (omega arith, omega arith, λ s starts ends. ap (λ (k : ℕ). too-deep 0 (tokens-from s (kept-in (c .before .before .args .kinds .now) (c .before .before .args .places .now) starts ends) 0 k)) (omega arith))
 
--- src/lib.rt:48:24
 shared-slice-read-opened : tie.Need-shared-slice-read-opened Inv-loop μ-loop
 shared-slice-read-opened c = search needs
 
--- src/lib.rt:48:9
 opened-requires : tie.Need-opened-requires Inv-loop μ-loop
 opened-requires c κs = c .before .before .loop .inv .1
 
--- src/lib.rt:50:34
 mul-wide : tie.Need-mul-wide Inv-loop μ-loop
 mul-wide c = search needs
 
--- src/lib.rt:50:34
 shared-slice-read-wide : tie.Need-shared-slice-read-wide Inv-loop μ-loop
 shared-slice-read-wide c = search needs
 
--- src/lib.rt:50:29
 wide-requires : tie.Need-wide-requires Inv-loop μ-loop
 wide-requires c κs = search needs
 
--- src/lib.rt:50:13
 returns : tie.Need-returns Inv-loop μ-loop
-returns c = λ s starts ends. let a = arrays (c .before .before .before .before .before .before .before .before .before .args .kinds .now) (c .before .before .before .before .before .before .before .before .before .args .places .now) starts ends in ap At (c .wide .ensures) ∙ ap answer (sym (c .before .before .before .before .before .before .loop .inv .2 s starts ends ∙ stops s a (c .before .before .before .before .before .before .before .before .before .args .n) (c .before .before .before .before .before .before .loop .i) (c .before .before .before .before .before .before .loop .count) (c .before .before .before .before .before .loop-test .taken) (rw (← c .before .before .before .opened .ensures) (c .before .before .if1 .taken))))
+returns c = λ s starts ends. let a = kept-in (c .before .before .before .before .before .before .before .before .before .args .kinds .now) (c .before .before .before .before .before .before .before .before .before .args .places .now) starts ends in ap At (c .wide .ensures) ∙ ap answer (sym (c .before .before .before .before .before .before .loop .inv .2 s starts ends ∙ stops s a (c .before .before .before .before .before .before .before .before .before .args .n) (c .before .before .before .before .before .before .loop .i) (c .before .before .before .before .before .before .loop .count) (c .before .before .before .before .before .loop-test .taken) (rw (← c .before .before .before .opened .ensures) (c .before .before .if1 .taken))))
 
--- src/lib.rt:52:9
 add-i : tie.Need-add-i Inv-loop μ-loop
 add-i c = search needs
 
--- src/lib.rt:47:5
 loop-less : tie.Need-loop-less Inv-loop μ-loop
 loop-less c = search needs
 
--- src/lib.rt:47:5
 loop-again : tie.Need-loop-again Inv-loop μ-loop
-loop-again c = (omega arith, omega arith, λ s starts ends. let a = arrays (c .before .before .before .before .before .before .before .args .kinds .now) (c .before .before .before .before .before .before .before .args .places .now) starts ends in c .before .before .before .before .loop .inv .2 s starts ends ∙ rw (c .before .opened .ensures) (goes-on s a (c .before .before .before .before .before .before .before .args .n) (c .before .before .before .before .loop .i) (c .before .before .before .before .loop .count) (c .before .before .before .loop-test .taken) (rw (← c .before .opened .ensures) (omega arith))))
+loop-again c = (omega arith, omega arith, λ s starts ends. let a = kept-in (c .before .before .before .before .before .before .before .args .kinds .now) (c .before .before .before .before .before .before .before .args .places .now) starts ends in c .before .before .before .before .loop .inv .2 s starts ends ∙ rw (c .before .opened .ensures) (goes-on s a (c .before .before .before .before .before .before .before .args .n) (c .before .before .before .before .loop .i) (c .before .before .before .before .loop .count) (c .before .before .before .loop-test .taken) (rw (← c .before .opened .ensures) (omega arith))))
 
--- src/lib.rt:41:1
 returns-2 : tie.Need-returns-2 Inv-loop μ-loop
-returns-2 c = λ s starts ends. let a = arrays (c .before .before .before .before .args .kinds .now) (c .before .before .before .before .args .places .now) starts ends in ap answer (sym (c .before .loop .inv .2 s starts ends ∙ at-end s a (c .before .before .before .before .args .n) (c .before .loop .i) (c .before .loop .count) (omega arith)))
+returns-2 c = λ s starts ends. let a = kept-in (c .before .before .before .before .args .kinds .now) (c .before .before .before .before .args .places .now) starts ends in ap answer (sym (c .before .loop .inv .2 s starts ends ∙ at-end s a (c .before .before .before .before .args .n) (c .before .loop .i) (c .before .loop .count) (omega arith)))
 
 pub too-deep-spec : {M : Type 1} → statement M
 too-deep-spec =

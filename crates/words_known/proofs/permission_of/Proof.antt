@@ -1,47 +1,34 @@
 use borrow.Author.Needs.{needs}
 use Rattle.words_known.proofs.permission_of.Statement.{statement}
 use Rattle.words_known.proofs.permission_of.Tie as tie
-use Rattle.words_known.proofs.permission_of.Reads as reads
-use Rattle.words_known.proofs.permission_of.Lts as lts
-use Rattle.compare.proofs.equal.Reads as equal-reads
 
--- src/lib.rt:91:26
 slice-aggregate-equal : tie.Need-slice-aggregate-equal
 slice-aggregate-equal c = search needs
 
--- src/lib.rt:91:8
 equal-requires : tie.Need-equal-requires
 equal-requires c κs = search needs
 
--- src/lib.rt:92:9
 returns : tie.Need-returns
 returns c = rw (← c .before .equal .ensures, c .if1 .taken)
 
--- src/lib.rt:94:26
 slice-aggregate-equal-2 : tie.Need-slice-aggregate-equal-2
 slice-aggregate-equal-2 c = search needs
 
--- src/lib.rt:94:8
 equal-requires-2 : tie.Need-equal-requires-2
 equal-requires-2 c κs = search needs
 
--- src/lib.rt:95:9
 returns-2 : tie.Need-returns-2
 returns-2 c = rw (← c .before .before .before .before .equal .ensures, c .before .before .before .if1 .left, ← c .before .equal2 .ensures, c .if2 .taken)
 
--- src/lib.rt:97:26
 slice-aggregate-equal-3 : tie.Need-slice-aggregate-equal-3
 slice-aggregate-equal-3 c = search needs
 
--- src/lib.rt:97:8
 equal-requires-3 : tie.Need-equal-requires-3
 equal-requires-3 c κs = search needs
 
--- src/lib.rt:98:9
 returns-3 : tie.Need-returns-3
 returns-3 c = rw (← c .before .before .before .before .before .before .before .equal .ensures, c .before .before .before .before .before .before .if1 .left, ← c .before .before .before .before .equal2 .ensures, c .before .before .before .if2 .left, ← c .before .equal3 .ensures, c .if3 .taken)
 
--- src/lib.rt:88:1
 returns-4 : tie.Need-returns-4
 returns-4 c = rw (← c .before .before .before .before .before .before .before .equal .ensures, c .before .before .before .before .before .before .if1 .left, ← c .before .before .before .before .equal2 .ensures, c .before .before .before .if2 .left, ← c .before .equal3 .ensures, c .if3 .left)
 
