@@ -4,11 +4,11 @@ ghost use Prim.Native.Nat.{_+_, _<_};
 ghost use lib.ListN.{length, set};
 ghost use Rattle.file.specs.Refusal.{bad-calculation};
 ghost use Rattle.texts.specs.Rolls.{Lie, arrays};
-ghost use Rattle.load_tokens.specs.Search.{first-of, applies-at};
+ghost use Rattle.texts.specs.Search.{first-of, applies-at};
 ghost use Rattle.load_calcs.specs.Input.{Gives, ahead, around};
-use load_tokens::ASG_NAME;
-use load_tokens::CALCULATION;
-use load_tokens::INPUT;
+use kept::ASG_NAME;
+use kept::CALCULATION;
+use kept::INPUT;
 
 // A letter more; no calculation has one past the 21.
 fn with_letter(mut given: [bool; 21], l: usize) -> [bool; 21]

@@ -4,7 +4,7 @@ ghost use Prim.Native.Nat.{ℕ, _≤_};
 ghost use lib.ListN.{length};
 ghost use Rattle.kept.specs.Stores.{kept-in};
 ghost use Rattle.texts.specs.Rolls.{Lie};
-ghost use Rattle.load_tokens.specs.Search.{first-of};
+ghost use Rattle.texts.specs.Search.{first-of};
 ghost use Rattle.load_syntax.specs.Syntax.{Capacity};
 ghost use Rattle.load_judge.specs.Cause.{cause-at, applies};
 ghost use Rattle.load_judge.specs.Judged.{Judged-tokens, Judged};

@@ -5,7 +5,7 @@ ghost use Rattle.grammar.specs.declared.Role.{Role};
 ghost use Rattle.kept.specs.Kept.{role-of-number};
 ghost use Rattle.file.specs.Refusal.{too-long, too-many};
 ghost use Rattle.texts.specs.Rolls.{Lie};
-ghost use Rattle.load_tokens.specs.Search.{first-of, applies-at};
+ghost use Rattle.texts.specs.Search.{first-of, applies-at};
 ghost use Rattle.load_limits.specs.Limit.{every-role, limit};
 
 // As long as a file: no text is longer, and no token stands behind as many.

@@ -4,14 +4,14 @@ ghost use lib.ListN.{length};
 ghost use Rattle.kept.specs.Kept.{role-of-number};
 ghost use Rattle.file.specs.Refusal.{given-again};
 ghost use Rattle.texts.specs.Rolls.{Telling, Lie};
-ghost use Rattle.load_tokens.specs.Search.{first-of};
+ghost use Rattle.texts.specs.Search.{first-of};
 ghost use Rattle.load_repeats.specs.Repeated.{repeated, name-repeated};
-use load_tokens::ASG_NAME;
-use load_tokens::CALC_WORD;
-use load_tokens::HAG_NAME;
-use load_tokens::INPUT;
-use load_tokens::RULE_WORD;
-use load_tokens::UAG_NAME;
+use kept::ASG_NAME;
+use kept::CALC_WORD;
+use kept::HAG_NAME;
+use kept::INPUT;
+use kept::RULE_WORD;
+use kept::UAG_NAME;
 
 fn least(a: usize, b: usize) -> usize
     ensures { λ r. ⌜ r ≡ min a b ⌝ }

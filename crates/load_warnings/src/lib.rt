@@ -7,12 +7,12 @@ ghost use Rattle.texts.specs.Listed.{indices};
 ghost use Rattle.load_warnings.specs.Code.{named-code, code-at};
 ghost use Rattle.load_warnings.specs.Filled.{warnings-of, wrote, Filled};
 ghost use Rattle.load_warnings.specs.Bounded.{Bounded};
-use load_tokens::HAG_NAME;
-use load_tokens::HAG_NAMED;
-use load_tokens::UAG_NAME;
-use load_tokens::UAG_NAMED;
-use load_tokens::UNKNOWN_ITEM;
-use load_tokens::UNKNOWN_PREDICATE;
+use kept::HAG_NAME;
+use kept::HAG_NAMED;
+use kept::UAG_NAME;
+use kept::UAG_NAMED;
+use kept::UNKNOWN_ITEM;
+use kept::UNKNOWN_PREDICATE;
 
 // Warnings, by their numbers.
 const NONE: u8 = 0;

@@ -4,10 +4,10 @@ ghost use Rattle.lists.specs.Select.{missing};
 ghost use Rattle.file.specs.Contents.{level-of, permission-of, log-of};
 ghost use Rattle.file.specs.Refusal.{bad-level, unknown-word};
 ghost use Rattle.texts.specs.Rolls.{Lie};
-ghost use Rattle.load_tokens.specs.Search.{first-of, applies-at};
-use load_tokens::LEVEL;
-use load_tokens::LOG_OPTION;
-use load_tokens::PERMISSION;
+ghost use Rattle.texts.specs.Search.{first-of, applies-at};
+use kept::LEVEL;
+use kept::LOG_OPTION;
+use kept::PERMISSION;
 
 fn no_level(t: &[u8]) -> bool
     ensures { λ r. ⌜ r ≡ missing (level-of (now (t .entry))) ⌝ }

@@ -16,8 +16,8 @@ use load::Loaded;
 use load_judge::LONGEST;
 use load_judge::SHORT;
 use load_syntax::Judgment;
-use load_tokens::HAG_NAME;
-use load_tokens::UAG_NAME;
+use kept::HAG_NAME;
+use kept::UAG_NAME;
 
 // The table of n tokens of an accepted file, if there is room, and how many warnings they have.
 fn store(

@@ -4,3 +4,5 @@ pub mod Spot
 pub mod Listed
 pub mod Seek
 pub mod Bare
+pub mod Search
+pub mod laws

@@ -1,6 +1,6 @@
 use Rattle.load_calcs.proofs.Letters.{allowed-is}
 use Rattle.load_calcs.specs.laws.Input.{gives-here}
-use Rattle.load_tokens.specs.laws.Role.{asked, not-asked}
+use Rattle.texts.specs.laws.Codes.{asked, not-asked}
 use Rattle.texts.specs.Seek.{context-at}
 use Rattle.texts.specs.Lies.{lies-at, text-at}
 use Rattle.texts.specs.Rolls.{arrays}

@@ -17,7 +17,7 @@ use Rattle.file.specs.Contents.{says, text, until}
 use Rattle.file.specs.Refusal.{letters-given}
 use Rattle.texts.specs.Rolls.{tokens, tokens-none, tokens-step}
 use Rattle.texts.specs.Seek.{earlier, earlier-none, earlier-step, context-at}
-use Rattle.load_tokens.specs.laws.Role.{role-same, role-other}
+use Rattle.texts.specs.laws.Codes.{role-same, role-other}
 use Rattle.load_calcs.specs.Input.{tells, Gives, ahead, around}
 
 -- ---- laws of lists

@@ -17,8 +17,8 @@ use Rattle.file.specs.Limit.{Section, user-groups, host-groups, members, access
 use Rattle.file.specs.Refusal.{item, too-many}
 use Rattle.texts.specs.Rolls.{arrays}
 use Rattle.texts.specs.Seek.{earlier, earlier-none, earlier-step}
-use Rattle.load_tokens.specs.Search.{first-of, applies-at}
-use Rattle.load_tokens.specs.laws.Search.{Searched, search-first, search-found, search-on}
+use Rattle.texts.specs.Search.{first-of, applies-at}
+use Rattle.texts.specs.laws.Search.{Searched, search-first, search-found, search-on}
 
 -- the number of a section, 0 for none, 1 for the first, and how many items it may have; no file has most-bytes tokens before another
 abbrev pub number-of : Option Section → ℕ

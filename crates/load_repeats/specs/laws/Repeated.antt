@@ -15,7 +15,7 @@ use Rattle.file.specs.Refusal.{Context, given-again}
 use Rattle.file.specs.Counted.{role-is}
 use Rattle.texts.specs.Rolls.{arrays, tokens}
 use Rattle.texts.specs.Seek.{seek-same, seek-either}
-use Rattle.load_tokens.specs.Search.{first-of}
+use Rattle.texts.specs.Search.{first-of}
 use Rattle.load_repeats.specs.Repeated.{since, repeated, name-repeated}
 
 module _ {A : Type 0} (p q : A → Bool) (e : (x : A) → p x ≡ q x) where

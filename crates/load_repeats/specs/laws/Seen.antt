@@ -22,9 +22,9 @@ use Rattle.texts.specs.Rolls.{Telling, Lie, arrays}
 use Rattle.texts.specs.Lies.{lies-at, text-at, All-lie}
 use Rattle.texts.specs.Spot.{spot, spot-any}
 use Rattle.texts.specs.Seek.{earlier, earlier-none, earlier-step}
-use Rattle.load_tokens.specs.Search.{first-of, applies-at}
-use Rattle.load_tokens.specs.laws.Role.{role-same, role-other}
-use Rattle.load_tokens.specs.laws.Search.{Searched, search-first, search-found, search-on, search-none}
+use Rattle.texts.specs.Search.{first-of, applies-at}
+use Rattle.texts.specs.laws.Codes.{role-same, role-other}
+use Rattle.texts.specs.laws.Search.{Searched, search-first, search-found, search-on, search-none}
 use Rattle.load_repeats.specs.Repeated.{since, alike, repeated}
 use Rattle.load_repeats.specs.laws.Repeated.{any-same}
 

@@ -1,4 +1,4 @@
-use Rattle.load_tokens.specs.laws.Search.{Searched, search-first, search-found, search-on, search-none}
+use Rattle.texts.specs.laws.Search.{Searched, search-first, search-found, search-on, search-none}
 use Rattle.file.specs.Refusal.{bad-level}
 use Prim.Native.Nat.{_-_}
 use mathlib.Core.Path.{sym, _∙_}

@@ -1,5 +1,5 @@
 use native.Mathlib.Omega.{arith}
-use Rattle.load_tokens.specs.laws.Role.{asked, not-asked}
+use Rattle.texts.specs.laws.Codes.{asked, not-asked}
 use Rattle.texts.specs.Lies.{lies-at}
 use Rattle.file.specs.Contents.{level-of}
 use Rattle.lists.specs.Select.{missing}

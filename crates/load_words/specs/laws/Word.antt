@@ -17,7 +17,7 @@ use Rattle.words_known.specs.declared.Log.{Log}
 use Rattle.words_known.specs.declared.Log.the-variants as log
 use Rattle.words_known.specs.Known.{level-told, permission-told, log-told}
 use Rattle.texts.specs.Rolls.{Telling}
-use Rattle.load_tokens.specs.laws.Role.{role-same, role-other}
+use Rattle.texts.specs.laws.Codes.{role-same, role-other}
 
 -- ---- the answers of words_known
 

@@ -1,11 +1,11 @@
--- A role told by its number.
+-- A role told by its code.
 use mathlib.Core.Path.{_≡_, _∙_}
 use mathlib.Core.Bool.{Bool, true, false, _&&_}
 use Prim.Native.Nat.{ℕ}
 use borrow.Author.Tests.{eq-eqb, ne-eqb}
 use Rattle.grammar.specs.Role.{same-role}
 use Rattle.kept.specs.Kept.{role-of-number}
 use Rattle.texts.specs.Rolls.{Telling, same-number}
 
 pub role-same : {q : ℕ} (m : ℕ) → Telling m → q ≡ m → same-role (role-of-number q) (role-of-number m) ≡ true
 role-same {q} m t h = same-number q m t ∙ eq-eqb q m h

@@ -6,9 +6,9 @@ use Prim.Native.Nat.{ℕ, _+_, _≤_, _<_}
 use native.Mathlib.Omega.{arith}
 use Rattle.grammar.specs.Reading.{Said}
 use Rattle.file.specs.Refusal.{Context}
 use Rattle.texts.specs.Rolls.{arrays, tokens}
 use Rattle.texts.specs.Seek.{seek, left, earlier-none, left-here, left-on, left-none}
-use Rattle.load_tokens.specs.Search.{first-of, applies-at}
+use Rattle.texts.specs.Search.{first-of, applies-at}
 
 module _ (p : Context → Bool) (s starts ends roles : List ℕ) (n : ℕ) where
   -- p applies to none before the i-th
