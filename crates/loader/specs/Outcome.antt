@@ -40,7 +40,7 @@ use Rattle.warn.specs.Told.{Told, told}
 use Rattle.writer.specs.declared.Written.{Written}
 use Rattle.writer.specs.declared.Written.the-variants as written
 use Rattle.writer.specs.Table.{table-told, Wrote}
-use Rattle.writer.specs.Whole.{table-is}
+use Rattle.writer.specs.laws.Whole.{table-is}
 use Rattle.texts.specs.Listed.{indices}
 use Rattle.hear.specs.declared.Heard.{Heard}
 use Rattle.hear.specs.declared.Heard.the-variants as heard

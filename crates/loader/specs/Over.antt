@@ -9,7 +9,7 @@ use lib.ListN.{length, take, drop, take-append-drop, drop-of-length-le}
 use lib.Seq.{sets, sets-eq, set-out, take-all, length-take-le}
 use borrow.Author.Tests.{leb-true, leb-false}
 use Rattle.load.specs.Listing.{laid-over}
-use Rattle.writer.specs.Put.{sets-sets}
+use Rattle.byte_write.specs.laws.Puts.{sets-sets}
 
 -- past the end nothing is written
 sets-out : (vs b : List ℕ) (i : ℕ) → length b ≤ i → sets b i vs ≡ b

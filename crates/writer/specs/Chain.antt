@@ -1,44 +1,17 @@
 -- The whole table as the passes write it: one pass for each kind of record and of string, the pen going on from pass to pass.
-use mathlib.Core.Bool.{cond, not}
-use mathlib.Core.List.{List, [], _∷_, _++_}
-use Prim.Native.Nat.{ℕ, _+_, _*_, _-_}
+use mathlib.Core.List.{List, [], _++_, _∷_}
+use Prim.Native.Nat.{ℕ, _+_, _*_}
 use lib.ListN.{length}
-use Rattle.lists.specs.Select.{after}
 use Rattle.lists.specs.Words.{spelled-out}
-use Rattle.grammar.specs.declared.Role.{Role}
-use Rattle.grammar.specs.declared.Role.the-variants.{UagName, User, HagName, Host, AsgName, Input, Pvname, RuleWord, UagNamed, HagNamed, Calculation}
+use Rattle.grammar.specs.declared.Role.the-variants.{UagName, User, HagName, Host, AsgName, Input, Pvname, RuleWord, Calculation}
 use Rattle.grammar.specs.Reading.{Said}
-use Rattle.file.specs.Contents.{says}
-use Rattle.table.specs.Layout.{form, header-bytes}
-use Rattle.writer.specs.declared.Pen.{Pen}
-use Rattle.writer.specs.declared.Work.{Work}
-use Rattle.writer.specs.declared.Work.the-variants.{Groups, Names, Access, Inputs, Rules, References, Texts, Lowered, Firsts}
-use Rattle.writer.specs.Pass.{cut, size, pen, emits, moves}
-
--- from the first that says q on
-abbrev pub from : Role → List Said → List Said
-from q xs = after (λ x. not (says q x)) xs
-
--- what is written for the references of one rule, whose body is ys: those to user groups, then those to host groups
-abbrev pub rule-emits : Work → List (List ℕ) → List (List ℕ) → List Said → Pen → List ℕ
-rule-emits w us hs ys p = emits UagNamed UagNamed us w ys p ++ emits HagNamed HagNamed hs w ys (moves UagNamed UagNamed us w ys p)
-
-abbrev pub rule-moves : Work → List (List ℕ) → List (List ℕ) → List Said → Pen → Pen
-rule-moves w us hs ys p = moves HagNamed HagNamed hs w ys (moves UagNamed UagNamed us w ys p)
-
--- and for those of all rules
-unfoldable pub refers : Work → List (List ℕ) → List (List ℕ) → List Said → Pen → List ℕ
-refers w us hs [] p = []
-refers w us hs (x ∷ xs) p =
-    cond (says RuleWord x) (rule-emits w us hs (cut RuleWord xs) p ++ refers w us hs xs (rule-moves w us hs (cut RuleWord xs) p)) (refers w us hs xs p)
-
-unfoldable pub refers-to : Work → List (List ℕ) → List (List ℕ) → List Said → Pen → Pen
-refers-to w us hs [] p = p
-refers-to w us hs (x ∷ xs) p = cond (says RuleWord x) (refers-to w us hs xs (rule-moves w us hs (cut RuleWord xs) p)) (refers-to w us hs xs p)
-
--- a pen at the same place, its runs beginning anew
-abbrev pub afresh : Pen → Pen
-afresh p = pen (p .at) (p .off) 0 0
+use Rattle.table.specs.Layout.{header-bytes, form}
+use Rattle.load_flags.specs.Part.{size}
+use Rattle.load_records.specs.declared.Pen.{Pen}
+use Rattle.load_records.specs.declared.Work.the-variants.{Groups, Names, Access, Inputs, References, Rules, Texts, Lowered, Firsts}
+use Rattle.load_records.specs.Pen.{pen}
+use Rattle.load_passes.specs.Pass.{moves, refers-to, emits, refers}
+use Rattle.load_sections.specs.Sections.{from, afresh}
 
 -- us, hs: the names by which references are numbered
 module _ (us hs : List (List ℕ)) (xs : List Said) where

@@ -1,11 +1,11 @@
-use native.Mathlib.Omega.{arith}
-use Prim.Native.Nat.{ℕ, _+_, _-_}
 use mathlib.Core.Path.{ap₂}
-use Rattle.texts.specs.Rolls.{tally-bound}
-use Rattle.writer.specs.Parts.{counted-all, counted-from}
+use Prim.Native.Nat.{ℕ, _+_, _-_}
+use native.Mathlib.Omega.{arith}
 use borrow.Author.Needs.{needs}
+use Rattle.texts.specs.Rolls.{tally-bound}
 use Rattle.writer.proofs.count_all.Statement.{statement}
 use Rattle.writer.proofs.count_all.Tie as tie
+use Rattle.writer.specs.laws.Header.{counted-all, counted-from}
 
 next-requires : tie.Need-next-requires
 next-requires c κs = search needs

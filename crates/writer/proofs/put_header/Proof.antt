@@ -1,6 +1,6 @@
 use native.Mathlib.Omega.{arith}
-use Rattle.writer.specs.Put.{put-put, put-length}
 use borrow.Author.Needs.{needs}
+use Rattle.byte_write.specs.laws.Puts.{put-put, put-length}
 use Rattle.writer.proofs.put_header.Statement.{statement}
 use Rattle.writer.proofs.put_header.Tie as tie
 

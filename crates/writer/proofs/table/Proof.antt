@@ -1,11 +1,12 @@
-use native.Mathlib.Omega.{arith}
 use mathlib.Core.List.{map}
+use native.Mathlib.Omega.{arith}
+use Rattle.byte_write.specs.laws.Puts.{put-length}
 use Rattle.texts.specs.Lies.{text-at}
 use Rattle.texts.specs.Rolls.{arrays, tokens}
-use Rattle.writer.specs.Put.{put-length}
-use Rattle.writer.specs.Table.{tabled, table-told}
 use Rattle.writer.proofs.table.Statement.{statement}
 use Rattle.writer.proofs.table.Tie as tie
+use Rattle.writer.specs.Table.{table-told}
+use Rattle.writer.specs.laws.Table.{tabled}
 
 groups-requires : tie.Need-groups-requires
 groups-requires c κs = c .before .before .before .before .before .before .before .before .pre .lie

@@ -1,8 +1,8 @@
-use Rattle.writer.specs.Table.{no-room, by-measure, by-length, room, room-length}
 use mathlib.Core.Logic.{⊎-elim}
 use borrow.Author.Needs.{needs}
 use Rattle.writer.proofs.write.Statement.{statement}
 use Rattle.writer.proofs.write.Tie as tie
+use Rattle.writer.specs.laws.Table.{no-room, by-measure, by-length, room, room-length}
 
 sub-table : tie.Need-sub-table
 sub-table c = search needs

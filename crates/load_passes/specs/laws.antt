@@ -1,0 +1,4 @@
+pub mod Loop
+pub mod Bounds
+pub mod Places
+pub mod References

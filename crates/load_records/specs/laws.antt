@@ -1,0 +1,4 @@
+pub mod Tokens
+pub mod Bounds
+pub mod Pens
+pub mod Rules

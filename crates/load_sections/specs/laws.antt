@@ -1,0 +1,3 @@
+pub mod Sections
+pub mod Rules
+pub mod Strings

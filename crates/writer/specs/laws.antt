@@ -1,0 +1,9 @@
+pub mod Header
+pub mod Table
+pub mod Bare
+pub mod Flat
+pub mod Bodies
+pub mod Bodies2
+pub mod Sections
+pub mod Counts
+pub mod Whole
