@@ -1,2 +1,3 @@
-pub mod Part
+pub mod Tokens
+pub mod Flags
 pub mod laws

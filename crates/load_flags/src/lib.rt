@@ -1,17 +1,15 @@
-ghost use mathlib.Core.Bool.{false};
-ghost use mathlib.Core.List.{map};
 ghost use mathlib.Core.Path.{_≡_};
-ghost use Prim.Native.Nat.{_+_, _*_, _-_, _≤_};
+ghost use Prim.Native.Nat.{_+_, _-_, _≤_};
 ghost use lib.ListN.{length};
-ghost use Rattle.rule.specs.declared.Access.the-variants.{None};
-ghost use Rattle.rule.specs.Rule.{rank};
-ghost use Rattle.file.specs.Contents.{texts, value-of, level-of, permission-of, log-of, rule-text};
-ghost use Rattle.table.specs.Written.{flag, flags};
+ghost use Rattle.file.specs.Contents.{rule-text};
+ghost use Rattle.table.specs.Written.{flags};
 ghost use Rattle.kept.specs.Kept.{role-of-number};
-ghost use Rattle.texts.specs.Lies.{Lies, All-lie, text-at};
-ghost use Rattle.texts.specs.Rolls.{Telling, Lie, arrays, tokens, tally, gap};
-ghost use Rattle.load_flags.specs.Part.{off-bits, first-text, numbered};
+ghost use Rattle.texts.specs.Lies.{Lies, All-lie};
+ghost use Rattle.texts.specs.Rolls.{Lie, Telling, tally, gap};
+ghost use Rattle.load_flags.specs.Flags.{level-bits, permission-bits, trap-bits, off-bits};
+ghost use Rattle.load_flags.specs.Tokens.{tokens-in, first-text, number-at};
 
+// The numbers of roles: grammar/specs/Role.antt.
 const LEVEL: u8 = 9;
 
 const PERMISSION: u8 = 10;
@@ -20,7 +18,7 @@ const LOG_OPTION: u8 = 11;
 
 const UNKNOWN_PREDICATE: u8 = 17;
 
-// How many tokens of a part have a role.
+// How many tokens of a part have a role. Callers of this and of next have parts of the kept tokens, which end within roles.
 pub fn count(roles: &[u8], from: usize, to: usize, m: u8) -> usize
     requires { ⌜ to ≤ length (now roles) ⌝ }
     ensures { λ r. ⌜ r ≡ tally m (now (roles .entry)) from (to - from) ⌝ }
@@ -55,7 +53,7 @@ pub fn next(roles: &[u8], from: usize, to: usize, a: u8, b: u8) -> usize
     i
 }
 
-// The first text of a role in a part, or an empty one.
+// The first text of a role in a part, or an empty one. Callers have the part from next, and know that the tokens' texts lie in s.
 pub fn first_text<'a>(
     s: &'a [u8],
     starts: &[u16],
@@ -66,7 +64,9 @@ pub fn first_text<'a>(
     m: u8,
 ) -> &'a [u8]
     requires { ⌜ Lie (now s) (now starts) (now ends) (now roles) to × Telling m ⌝ }
-    ensures { λ r. ⌜ now r ≡ first-text (role-of-number m) (tokens (now (s .entry)) (arrays (now (starts .entry)) (now (ends .entry))) (now (roles .entry)) from to) ⌝ }
+    ensures { λ r. ⌜
+        now r ≡ first-text (role-of-number m) (tokens-in (now (s .entry)) (now (starts .entry)) (now (ends .entry)) (now (roles .entry)) from to)
+        ⌝ }
 {
     let j = next(roles, from, to, m, m);
     if j < to {
@@ -75,25 +75,21 @@ pub fn first_text<'a>(
     &s[0..0]
 }
 
-// The number of the first group that has a token's text for its name, or 65,535.
+// The number of the first group that has a token's text for its name, or 65,535. The caller, load_records::put_reference, is
+// given tokens and groups whose texts lie in s.
 pub fn number_of(s: &[u8], starts: &[u16], ends: &[u16], names: &[u16], i: usize) -> usize
     requires { ⌜ Lies (now s) (now starts) (now ends) i × All-lie (now s) (now starts) (now ends) (now names) ⌝ }
-    ensures { λ r. ⌜ r ≡ numbered 0 (text-at (now (s .entry)) (now (starts .entry)) (now (ends .entry)) i) (map (text-at (now (s .entry)) (now (starts .entry)) (now (ends .entry))) (now (names .entry))) ⌝ }
+    ensures { λ r. ⌜ r ≡ number-at (now (s .entry)) (now (starts .entry)) (now (ends .entry)) (now (names .entry)) i ⌝ }
 {
     let k = texts::position(s, starts, ends, names, i);
     if k < names.len() { k } else { 65535 }
 }
 
-pub fn level_bits(
-    s: &[u8],
-    starts: &[u16],
-    ends: &[u16],
-    roles: &[u8],
-    from: usize,
-    to: usize,
-) -> usize
+// ---- the flags of a rule
+
+fn level_bits(s: &[u8], starts: &[u16], ends: &[u16], roles: &[u8], from: usize, to: usize) -> usize
     requires { ⌜ Lie (now s) (now starts) (now ends) (now roles) to ⌝ }
-    ensures { λ r. ⌜ r ≡ value-of 0 level-of (texts (role-of-number 9) (tokens (now (s .entry)) (arrays (now (starts .entry)) (now (ends .entry))) (now (roles .entry)) from to)) ⌝ }
+    ensures { λ r. ⌜ r ≡ level-bits (tokens-in (now (s .entry)) (now (starts .entry)) (now (ends .entry)) (now (roles .entry)) from to) ⌝ }
 {
     let known = words_known::level_of(first_text(s, starts, ends, roles, from, to, LEVEL));
     match known {
@@ -102,7 +98,7 @@ pub fn level_bits(
     }
 }
 
-pub fn permission_bits(
+fn permission_bits(
     s: &[u8],
     starts: &[u16],
     ends: &[u16],
@@ -111,7 +107,7 @@ pub fn permission_bits(
     to: usize,
 ) -> usize
     requires { ⌜ Lie (now s) (now starts) (now ends) (now roles) to ⌝ }
-    ensures { λ r. ⌜ r ≡ rank (value-of None permission-of (texts (role-of-number 10) (tokens (now (s .entry)) (arrays (now (starts .entry)) (now (ends .entry))) (now (roles .entry)) from to))) * 2 ⌝ }
+    ensures { λ r. ⌜ r ≡ permission-bits (tokens-in (now (s .entry)) (now (starts .entry)) (now (ends .entry)) (now (roles .entry)) from to) ⌝ }
 {
     let known = words_known::permission_of(first_text(
         s,
@@ -132,16 +128,9 @@ pub fn permission_bits(
     }
 }
 
-pub fn trap_bits(
-    s: &[u8],
-    starts: &[u16],
-    ends: &[u16],
-    roles: &[u8],
-    from: usize,
-    to: usize,
-) -> usize
+fn trap_bits(s: &[u8], starts: &[u16], ends: &[u16], roles: &[u8], from: usize, to: usize) -> usize
     requires { ⌜ Lie (now s) (now starts) (now ends) (now roles) to ⌝ }
-    ensures { λ r. ⌜ r ≡ flag (value-of false log-of (texts (role-of-number 11) (tokens (now (s .entry)) (arrays (now (starts .entry)) (now (ends .entry))) (now (roles .entry)) from to))) 8 ⌝ }
+    ensures { λ r. ⌜ r ≡ trap-bits (tokens-in (now (s .entry)) (now (starts .entry)) (now (ends .entry)) (now (roles .entry)) from to) ⌝ }
 {
     let known = words_known::log_of(first_text(s, starts, ends, roles, from, to, LOG_OPTION));
     match known {
@@ -151,7 +140,7 @@ pub fn trap_bits(
 }
 
 // A rule with an unknown predicate is switched off.
-pub fn off_bits(roles: &[u8], from: usize, to: usize) -> usize
+fn off_bits(roles: &[u8], from: usize, to: usize) -> usize
     requires { ⌜ to ≤ length (now roles) ⌝ }
     ensures { λ r. ⌜ r ≡ off-bits (tally 17 (now (roles .entry)) from (to - from)) ⌝ }
 {
@@ -162,6 +151,7 @@ pub fn off_bits(roles: &[u8], from: usize, to: usize) -> usize
     }
 }
 
+// All of them. The caller, load_records::put_rule, has the part from next.
 pub fn flags_of(
     s: &[u8],
     starts: &[u16],
@@ -171,7 +161,7 @@ pub fn flags_of(
     to: usize,
 ) -> usize
     requires { ⌜ Lie (now s) (now starts) (now ends) (now roles) to ⌝ }
-    ensures { λ r. ⌜ r ≡ flags (rule-text (tokens (now (s .entry)) (arrays (now (starts .entry)) (now (ends .entry))) (now (roles .entry)) from to)) ⌝ }
+    ensures { λ r. ⌜ r ≡ flags (rule-text (tokens-in (now (s .entry)) (now (starts .entry)) (now (ends .entry)) (now (roles .entry)) from to)) ⌝ }
 {
     let level = level_bits(s, starts, ends, roles, from, to);
     let permission = permission_bits(s, starts, ends, roles, from, to);

@@ -1,4 +1,4 @@
--- What is written for each token of a role, and how the pen moves on.
+-- What is written for the tokens of a role, one after the other, and how the cursor moves on.
 use mathlib.Core.Bool.{cond}
 use mathlib.Core.List.{List, [], _∷_, _++_}
 use Prim.Native.Nat.{ℕ}
@@ -6,34 +6,44 @@ use Rattle.grammar.specs.declared.Role.{Role}
 use Rattle.grammar.specs.declared.Role.the-variants.{UagNamed, HagNamed, RuleWord}
 use Rattle.grammar.specs.Reading.{Said}
 use Rattle.file.specs.Contents.{says}
-use Rattle.load_flags.specs.Part.{cut}
-use Rattle.load_records.specs.declared.Pen.{Pen}
+use Rattle.load_flags.specs.Tokens.{cut}
+use Rattle.load_records.specs.declared.Cursor.{Cursor}
 use Rattle.load_records.specs.declared.Work.{Work}
 use Rattle.load_records.specs.Record.{emit, move}
 
-module _ (q m : Role) (names : List (List ℕ)) where
-  -- what is written for all tokens that say q, and the pen behind them
-  unfoldable pub emits : Work → List Said → Pen → List ℕ
-  emits w [] p = []
-  emits w (x ∷ xs) p = cond (says q x) (emit q m names w x xs p ++ emits w xs (move q m names w x xs p)) (emits w xs p)
+-- ---- each token that says q
 
-  unfoldable pub moves : Work → List Said → Pen → Pen
-  moves w [] p = p
-  moves w (x ∷ xs) p = cond (says q x) (moves w xs (move q m names w x xs p)) (moves w xs p)
+-- m: the cursor behind what is written for a token, behind which others stand
+unfoldable pub each-moves : Role → (Said → List Said → Cursor → Cursor) → List Said → Cursor → Cursor
+each-moves q m [] p = p
+each-moves q m (x ∷ xs) p = cond (says q x) (each-moves q m xs (m x xs p)) (each-moves q m xs p)
 
--- what is written for the references of one rule, whose body is ys: those to user groups, then those to host groups
-abbrev pub rule-emits : Work → List (List ℕ) → List (List ℕ) → List Said → Pen → List ℕ
+-- e: what is written for it
+unfoldable pub each-emits : Role → (Said → List Said → Cursor → List ℕ) → (Said → List Said → Cursor → Cursor) → List Said → Cursor → List ℕ
+each-emits q e m [] p = []
+each-emits q e m (x ∷ xs) p = cond (says q x) (e x xs p ++ each-emits q e m xs (m x xs p)) (each-emits q e m xs p)
+
+-- ---- a pass: a record or a string for each token
+
+abbrev pub emits : Role → Role → List (List ℕ) → Work → List Said → Cursor → List ℕ
+emits q m names w xs p = each-emits q (emit q m names w) (move q m names w) xs p
+
+abbrev pub moves : Role → Role → List (List ℕ) → Work → List Said → Cursor → Cursor
+moves q m names w xs p = each-moves q (move q m names w) xs p
+
+-- ---- the references of one rule, whose body is ys: those to user groups, then those to host groups
+
+abbrev pub rule-emits : Work → List (List ℕ) → List (List ℕ) → List Said → Cursor → List ℕ
 rule-emits w us hs ys p = emits UagNamed UagNamed us w ys p ++ emits HagNamed HagNamed hs w ys (moves UagNamed UagNamed us w ys p)
 
-abbrev pub rule-moves : Work → List (List ℕ) → List (List ℕ) → List Said → Pen → Pen
+abbrev pub rule-moves : Work → List (List ℕ) → List (List ℕ) → List Said → Cursor → Cursor
 rule-moves w us hs ys p = moves HagNamed HagNamed hs w ys (moves UagNamed UagNamed us w ys p)
 
--- and for those of all rules
-unfoldable pub refers : Work → List (List ℕ) → List (List ℕ) → List Said → Pen → List ℕ
-refers w us hs [] p = []
-refers w us hs (x ∷ xs) p =
-    cond (says RuleWord x) (rule-emits w us hs (cut RuleWord xs) p ++ refers w us hs xs (rule-moves w us hs (cut RuleWord xs) p)) (refers w us hs xs p)
+-- ---- and those of all rules
 
-unfoldable pub refers-to : Work → List (List ℕ) → List (List ℕ) → List Said → Pen → Pen
-refers-to w us hs [] p = p
-refers-to w us hs (x ∷ xs) p = cond (says RuleWord x) (refers-to w us hs xs (rule-moves w us hs (cut RuleWord xs) p)) (refers-to w us hs xs p)
+abbrev pub refer-emits : Work → List (List ℕ) → List (List ℕ) → List Said → Cursor → List ℕ
+refer-emits w us hs xs p =
+    each-emits RuleWord (λ x ys c. rule-emits w us hs (cut RuleWord ys) c) (λ x ys c. rule-moves w us hs (cut RuleWord ys) c) xs p
+
+abbrev pub refer-moves : Work → List (List ℕ) → List (List ℕ) → List Said → Cursor → Cursor
+refer-moves w us hs xs p = each-moves RuleWord (λ x ys c. rule-moves w us hs (cut RuleWord ys) c) xs p

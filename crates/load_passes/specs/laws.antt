@@ -1,4 +1,3 @@
-pub mod Loop
+pub mod Each
 pub mod Bounds
-pub mod Places
-pub mod References
+pub mod Loops

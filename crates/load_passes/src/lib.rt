@@ -1,16 +1,12 @@
-ghost use mathlib.Core.List.{map};
-ghost use Prim.Native.Nat.{_+_, _<_};
-ghost use Rattle.grammar.specs.declared.Role.the-variants.{RuleWord};
-ghost use Rattle.texts.specs.Lies.{All-lie, text-at};
-ghost use Rattle.texts.specs.Rolls.{arrays, tokens};
-ghost use Rattle.load_flags.specs.Part.{cut};
-ghost use Rattle.load_records.specs.Pen.{Drawn, pen};
+ghost use Prim.Native.Nat.{_<_};
+ghost use Rattle.texts.specs.Lies.{All-lie};
+ghost use Rattle.load_records.specs.Cursor.{cursor, Bounded};
 ghost use Rattle.load_records.specs.Step.{Ready, Step};
-ghost use Rattle.load_passes.specs.Pass.{rule-emits, rule-moves, refers, refers-to};
-ghost use Rattle.load_passes.specs.Passed.{Start, Passed, Went, Asked, third, quarter};
-use load_records::Pen;
+ghost use Rattle.load_passes.specs.Passed.{Source, rule-limit, references-limit, Start, Passed, Plain-passed, Rule-passed, References-passed};
+use load_records::Cursor;
 use load_records::Work;
 
+// The numbers of roles: grammar/specs/Role.antt.
 const ASG_NAME: u8 = 5;
 
 const RULE_WORD: u8 = 8;
@@ -20,7 +16,7 @@ const UAG_NAMED: u8 = 12;
 const HAG_NAMED: u8 = 13;
 
 // What is written for the i-th token.
-pub fn put(
+fn put(
     work: Work,
     s: &[u8],
     starts: &[u16],
@@ -31,11 +27,14 @@ pub fn put(
     to: usize,
     q: u8,
     m: u8,
-    p: Pen,
+    p: Cursor,
     lent: &mut [u8],
-) -> Pen
+) -> Cursor
     requires { ⌜ Ready (now s) (now starts) (now ends) (now roles) i to q m p × All-lie (now s) (now starts) (now ends) (now names) ⌝ }
-    ensures { λ r. ⌜ Step work q m (map (text-at (now (s .entry)) (now (starts .entry)) (now (ends .entry))) (now (names .entry))) (now (s .entry)) (now (starts .entry)) (now (ends .entry)) (now (roles .entry)) i to (now (lent .entry)) (now (lent .exit)) p r ⌝ }
+    ensures { λ r. ⌜
+        Step work q m (now (names .entry)) (now (s .entry)) (now (starts .entry))
+        (now (ends .entry)) (now (roles .entry)) i to (now (lent .entry)) (now (lent .exit)) p r
+        ⌝ }
 {
     match work {
         Work::Groups => load_records::put_group(s, starts, ends, roles, i, to, q, m, p, lent),
@@ -51,7 +50,7 @@ pub fn put(
 }
 
 // What is written for the tokens of a role in a part.
-pub fn pass(
+fn pass(
     work: Work,
     s: &[u8],
     starts: &[u16],
@@ -62,13 +61,16 @@ pub fn pass(
     to: usize,
     q: u8,
     m: u8,
-    pen: Pen,
+    cursor: Cursor,
     lent: &mut [u8],
-) -> Pen
-    requires { ⌜ Start (now s) (now starts) (now ends) (now roles) to q m pen × All-lie (now s) (now starts) (now ends) (now names) ⌝ }
-    ensures { λ r. ⌜ Passed work q m (map (text-at (now (s .entry)) (now (starts .entry)) (now (ends .entry))) (now (names .entry))) (now (s .entry)) (now (starts .entry)) (now (ends .entry)) (now (roles .entry)) from to (now (lent .entry)) (now (lent .exit)) pen r ⌝ }
+) -> Cursor
+    requires { ⌜ Start (now s) (now starts) (now ends) (now roles) to q m cursor × All-lie (now s) (now starts) (now ends) (now names) ⌝ }
+    ensures { λ r. ⌜
+        Passed work q m (now (names .entry)) (now (s .entry)) (now (starts .entry))
+        (now (ends .entry)) (now (roles .entry)) from to (now (lent .entry)) (now (lent .exit)) cursor r
+        ⌝ }
 {
-    let mut p = pen;
+    let mut p = cursor;
     let mut i = from;
     while i < to {
         if roles[i] == q {
@@ -80,7 +82,7 @@ pub fn pass(
 }
 
 // What is written for a rule's references to user groups, then for those to host groups.
-pub fn of_rule(
+fn rule_references(
     work: Work,
     s: &[u8],
     starts: &[u16],
@@ -90,11 +92,14 @@ pub fn of_rule(
     hags: &[u16],
     i: usize,
     n: usize,
-    p: Pen,
+    p: Cursor,
     lent: &mut [u8],
-) -> Pen
-    requires { ⌜ Asked (now s) (now starts) (now ends) (now roles) n (now uags) (now hags) third p × (i < n) ⌝ }
-    ensures { λ r. ⌜ Drawn (now (lent .entry)) (now (lent .exit)) p (rule-emits work (map (text-at (now (s .entry)) (now (starts .entry)) (now (ends .entry))) (now (uags .entry))) (map (text-at (now (s .entry)) (now (starts .entry)) (now (ends .entry))) (now (hags .entry))) (cut RuleWord (tokens (now (s .entry)) (arrays (now (starts .entry)) (now (ends .entry))) (now (roles .entry)) (i + 1) n)) p) (rule-moves work (map (text-at (now (s .entry)) (now (starts .entry)) (now (ends .entry))) (now (uags .entry))) (map (text-at (now (s .entry)) (now (starts .entry)) (now (ends .entry))) (now (hags .entry))) (cut RuleWord (tokens (now (s .entry)) (arrays (now (starts .entry)) (now (ends .entry))) (now (roles .entry)) (i + 1) n)) p) r ⌝ }
+) -> Cursor
+    requires { ⌜ Source (now s) (now starts) (now ends) (now roles) n (now uags) (now hags) × Bounded rule-limit p × (i < n) ⌝ }
+    ensures { λ r. ⌜
+        Rule-passed work (now (s .entry)) (now (starts .entry)) (now (ends .entry)) (now (roles .entry)) (now (uags .entry)) (now (hags .entry)) i n
+        (now (lent .entry)) (now (lent .exit)) p r
+        ⌝ }
 {
     let a = i + 1;
     let e = load_flags::next(roles, a, n, RULE_WORD, ASG_NAME);
@@ -104,7 +109,8 @@ pub fn of_rule(
     pass(work, s, starts, ends, roles, hags, a, e, h, h, users, lent)
 }
 
-// And for those of all rules.
+// And for those of all rules. Callers of this and of plain_pass, the functions of load_sections, have the tokens of a file and a
+// cursor whose bound they hand on from section to section.
 pub fn references(
     work: Work,
     s: &[u8],
@@ -115,17 +121,20 @@ pub fn references(
     hags: &[u16],
     from: usize,
     n: usize,
-    pen: Pen,
+    cursor: Cursor,
     lent: &mut [u8],
-) -> Pen
-    requires { ⌜ Asked (now s) (now starts) (now ends) (now roles) n (now uags) (now hags) quarter pen ⌝ }
-    ensures { λ r. ⌜ Drawn (now (lent .entry)) (now (lent .exit)) pen (refers work (map (text-at (now (s .entry)) (now (starts .entry)) (now (ends .entry))) (now (uags .entry))) (map (text-at (now (s .entry)) (now (starts .entry)) (now (ends .entry))) (now (hags .entry))) (tokens (now (s .entry)) (arrays (now (starts .entry)) (now (ends .entry))) (now (roles .entry)) from n) pen) (refers-to work (map (text-at (now (s .entry)) (now (starts .entry)) (now (ends .entry))) (now (uags .entry))) (map (text-at (now (s .entry)) (now (starts .entry)) (now (ends .entry))) (now (hags .entry))) (tokens (now (s .entry)) (arrays (now (starts .entry)) (now (ends .entry))) (now (roles .entry)) from n) pen) r ⌝ }
+) -> Cursor
+    requires { ⌜ Source (now s) (now starts) (now ends) (now roles) n (now uags) (now hags) × Bounded references-limit cursor ⌝ }
+    ensures { λ r. ⌜
+        References-passed work (now (s .entry)) (now (starts .entry)) (now (ends .entry)) (now (roles .entry)) (now (uags .entry)) (now (hags .entry))
+        from n (now (lent .entry)) (now (lent .exit)) cursor r
+        ⌝ }
 {
-    let mut p = pen;
+    let mut p = cursor;
     let mut i = from;
     while i < n {
         if roles[i] == RULE_WORD {
-            p = of_rule(work, s, starts, ends, roles, uags, hags, i, n, p, lent);
+            p = rule_references(work, s, starts, ends, roles, uags, hags, i, n, p, lent);
         }
         i += 1;
     }
@@ -133,7 +142,7 @@ pub fn references(
 }
 
 // A pass for which no names are looked up.
-pub fn draw(
+pub fn plain_pass(
     work: Work,
     s: &[u8],
     starts: &[u16],
@@ -143,11 +152,14 @@ pub fn draw(
     n: usize,
     q: u8,
     m: u8,
-    p: Pen,
+    p: Cursor,
     lent: &mut [u8],
-) -> Pen
+) -> Cursor
     requires { ⌜ Start (now s) (now starts) (now ends) (now roles) n q m p ⌝ }
-    ensures { λ r. ⌜ Went work q m (now (s .entry)) (now (starts .entry)) (now (ends .entry)) (now (roles .entry)) from n (now (lent .entry)) (now (lent .exit)) p r ⌝ }
+    ensures { λ r. ⌜
+        Plain-passed work q m (now (s .entry)) (now (starts .entry)) (now (ends .entry)) (now (roles .entry)) from n (now (lent .entry))
+        (now (lent .exit)) p r
+        ⌝ }
 {
     let none = &starts[0..0];
     pass(work, s, starts, ends, roles, none, from, n, q, m, p, lent)

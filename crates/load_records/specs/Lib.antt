@@ -1,4 +1,4 @@
-pub mod Pen
+pub mod Cursor
 pub mod Record
 pub mod Step
 pub mod laws

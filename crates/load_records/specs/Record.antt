@@ -1,3 +1,4 @@
+-- What is written for one token of a role, and how the cursor moves on.
 use mathlib.Core.List.{List, [], _∷_}
 use Prim.Native.Nat.{ℕ, _+_}
 use lib.ListN.{length}
@@ -9,20 +10,20 @@ use Rattle.grammar.specs.declared.Role.the-variants.{Input, RuleWord, UagNamed,
 use Rattle.grammar.specs.Reading.{Said}
 use Rattle.file.specs.Contents.{text, texts, until, head-of, rule-text}
 use Rattle.table.specs.Written.{flags, calculation-words}
-use Rattle.load_flags.specs.Part.{cut, size, first-text, numbered}
-use Rattle.load_records.specs.declared.Pen.{Pen}
+use Rattle.load_flags.specs.Tokens.{cut, first-text, numbered, size}
+use Rattle.load_records.specs.declared.Cursor.{Cursor}
 use Rattle.load_records.specs.declared.Work.{Work}
 use Rattle.load_records.specs.declared.Work.the-variants.{Groups, Names, Access, Inputs, Rules, References, Texts, Lowered, Firsts}
-use Rattle.load_records.specs.Pen.{pen}
+use Rattle.load_records.specs.Cursor.{cursor}
 
 -- q: the role of the tokens; m: the role of what belongs to each; names: those that references are numbered by
 module _ (q m : Role) (names : List (List ℕ)) where
   -- what is written for the token x, behind which xs stand
-  abbrev pub emit : Work → Said → List Said → Pen → List ℕ
-  emit Groups x xs p = spelled-out (p .off ∷ length (text x) ∷ p .first ∷ size m (until q xs) ∷ [])
-  emit Names x xs p = spelled-out (p .off ∷ length (text x) ∷ [])
-  emit Access x xs p = spelled-out (p .off ∷ length (text x) ∷ p .first ∷ size Input (until q xs) ∷ p .second ∷ size RuleWord (until q xs) ∷ [])
-  emit Inputs x xs p = spelled-out (link-letter (text x) ∷ p .off ∷ length (first-text m (cut q xs)) ∷ [])
+  abbrev pub emit : Work → Said → List Said → Cursor → List ℕ
+  emit Groups x xs p = spelled-out (p .string ∷ length (text x) ∷ p .first ∷ size m (until q xs) ∷ [])
+  emit Names x xs p = spelled-out (p .string ∷ length (text x) ∷ [])
+  emit Access x xs p = spelled-out (p .string ∷ length (text x) ∷ p .first ∷ size Input (until q xs) ∷ p .second ∷ size RuleWord (until q xs) ∷ [])
+  emit Inputs x xs p = spelled-out (link-letter (text x) ∷ p .string ∷ length (first-text m (cut q xs)) ∷ [])
   emit Rules x xs p =
       spelled-out
       (flags (rule-text (cut q xs))
@@ -30,8 +31,8 @@ module _ (q m : Role) (names : List (List ℕ)) where
       ∷ size UagNamed (cut q xs)
       ∷ (p .first + size UagNamed (cut q xs))
       ∷ size HagNamed (cut q xs)
-      ∷ calculation-words (head-of (texts m (cut q xs))) (record { first = p .off; count = length (first-text m (cut q xs)) }))
-  emit References x xs p = spelled-out (numbered 0 (text x) names ∷ p .off ∷ length (text x) ∷ [])
+      ∷ calculation-words (head-of (texts m (cut q xs))) (record { first = p .string; count = length (first-text m (cut q xs)) }))
+  emit References x xs p = spelled-out (numbered 0 (text x) names ∷ p .string ∷ length (text x) ∷ [])
   emit Texts x xs p = text x
   emit Lowered x xs p = lowered (text x)
   emit Firsts x xs p = first-text m (cut q xs)
@@ -71,5 +72,5 @@ module _ (q m : Role) (names : List (List ℕ)) where
   seconds Lowered x xs = 0
   seconds Firsts x xs = 0
 
-  abbrev pub move : Work → Said → List Said → Pen → Pen
-  move w x xs p = pen (p .at + length (emit w x xs p)) (p .off + named w x xs) (p .first + firsts w x xs) (p .second + seconds w x xs)
+  abbrev pub move : Work → Said → List Said → Cursor → Cursor
+  move w x xs p = cursor (p .at + length (emit w x xs p)) (p .string + named w x xs) (p .first + firsts w x xs) (p .second + seconds w x xs)

@@ -1,4 +1,4 @@
 pub mod Tokens
-pub mod Bounds
-pub mod Pens
+pub mod Cursors
 pub mod Rules
+pub mod Bounds

@@ -1,16 +1,15 @@
 ghost use mathlib.Core.Bool.{cond};
-ghost use mathlib.Core.List.{[], _∷_, map};
+ghost use mathlib.Core.List.{map, []};
 ghost use mathlib.Core.Path.{_≡_};
-ghost use Prim.Native.Nat.{_+_, _<_};
+ghost use Prim.Native.Nat.{_<_};
 ghost use lib.ListN.{length};
-ghost use Rattle.lists.specs.Words.{spelled-out};
+ghost use Rattle.texts.specs.Lies.{Lies, All-lie};
 ghost use Rattle.byte_write.specs.Put.{cased};
-ghost use Rattle.texts.specs.Lies.{Lies, All-lie, text-at};
-ghost use Rattle.load_flags.specs.Part.{numbered};
+ghost use Rattle.load_records.specs.Cursor.{Bounded, cursor-limit};
+ghost use Rattle.load_records.specs.Step.{Ready, Step, String-put, Name-put, Reference-put};
 ghost use Rattle.load_records.specs.declared.Work.the-variants.{Groups, Access, Inputs, Rules, Firsts};
-ghost use Rattle.load_records.specs.Pen.{far, Drawn, pen, Near};
-ghost use Rattle.load_records.specs.Step.{Ready, Step};
 
+// The numbers of roles: grammar/specs/Role.antt.
 const ASG_NAME: u8 = 5;
 
 const INPUT: u8 = 6;
@@ -35,18 +34,21 @@ pub enum Work {
 }
 
 // The next byte's place, the next string's offset, and the numbers of the next records that a run begins with.
-pub struct Pen {
+pub struct Cursor {
     pub at: usize,
-    pub off: usize,
+    pub string: usize,
     pub first: usize,
     pub second: usize,
 }
 
-pub fn or_none(b: bool, n: usize) -> usize
+fn or_none(b: bool, n: usize) -> usize
     ensures { λ r. ⌜ r ≡ cond b n 0 ⌝ }
 {
     if b { n } else { 0 }
 }
+
+// Each function writes for the i-th token at the cursor p and returns the cursor behind. The caller, load_passes::put, has the
+// token in a part whose texts lie in s, and a cursor that a pass keeps bounded (load_passes/specs/laws/Loops.antt).
 
 // A group's name and the run of its members, which end where the next group begins.
 pub fn put_group(
@@ -58,34 +60,44 @@ pub fn put_group(
     to: usize,
     q: u8,
     m: u8,
-    p: Pen,
+    p: Cursor,
     lent: &mut [u8],
-) -> Pen
+) -> Cursor
     requires { ⌜ Ready (now s) (now starts) (now ends) (now roles) i to q m p ⌝ }
-    ensures { λ r. ⌜ Step Groups q m [] (now (s .entry)) (now (starts .entry)) (now (ends .entry)) (now (roles .entry)) i to (now (lent .entry)) (now (lent .exit)) p r ⌝ }
+    ensures { λ r. ⌜
+        Step Groups q m [] (now (s .entry)) (now (starts .entry)) (now (ends .entry)) (now (roles .entry)) i to (now (lent .entry)) (now (lent .exit)) p r
+        ⌝ }
 {
     let len = texts::long(s, starts, ends, i);
     let e = load_flags::next(roles, i + 1, to, q, q);
     let k = load_flags::count(roles, i + 1, e, m);
-    let half = byte_write::put_two(lent, p.at, p.off, len);
+    let half = byte_write::put_two(lent, p.at, p.string, len);
     let end = byte_write::put_two(lent, half, p.first, k);
-    Pen {
+    Cursor {
         at: end,
-        off: p.off + len,
+        string: p.string + len,
         first: p.first + k,
         second: p.second,
     }
 }
 
-pub fn put_name(s: &[u8], starts: &[u16], ends: &[u16], i: usize, p: Pen, lent: &mut [u8]) -> Pen
-    requires { ⌜ Lies (now s) (now starts) (now ends) i × Near far p × (length (now s) < far) ⌝ }
-    ensures { λ r. ⌜ Drawn (now (lent .entry)) (now (lent .exit)) p (spelled-out (p .off ∷ length (text-at (now (s .entry)) (now (starts .entry)) (now (ends .entry)) i) ∷ [])) (pen (p .at + 4) (p .off + length (text-at (now (s .entry)) (now (starts .entry)) (now (ends .entry)) i)) (p .first + 0) (p .second + 0)) r ⌝ }
+// A member's name.
+pub fn put_name(
+    s: &[u8],
+    starts: &[u16],
+    ends: &[u16],
+    i: usize,
+    p: Cursor,
+    lent: &mut [u8],
+) -> Cursor
+    requires { ⌜ Lies (now s) (now starts) (now ends) i × Bounded cursor-limit p × (length (now s) < cursor-limit) ⌝ }
+    ensures { λ r. ⌜ Name-put (now (s .entry)) (now (starts .entry)) (now (ends .entry)) i (now (lent .entry)) (now (lent .exit)) p r ⌝ }
 {
     let len = texts::long(s, starts, ends, i);
-    let end = byte_write::put_two(lent, p.at, p.off, len);
-    Pen {
+    let end = byte_write::put_two(lent, p.at, p.string, len);
+    Cursor {
         at: end,
-        off: p.off + len,
+        string: p.string + len,
         first: p.first,
         second: p.second,
     }
@@ -101,22 +113,24 @@ pub fn put_access(
     to: usize,
     q: u8,
     m: u8,
-    p: Pen,
+    p: Cursor,
     lent: &mut [u8],
-) -> Pen
+) -> Cursor
     requires { ⌜ Ready (now s) (now starts) (now ends) (now roles) i to q m p ⌝ }
-    ensures { λ r. ⌜ Step Access q m [] (now (s .entry)) (now (starts .entry)) (now (ends .entry)) (now (roles .entry)) i to (now (lent .entry)) (now (lent .exit)) p r ⌝ }
+    ensures { λ r. ⌜
+        Step Access q m [] (now (s .entry)) (now (starts .entry)) (now (ends .entry)) (now (roles .entry)) i to (now (lent .entry)) (now (lent .exit)) p r
+        ⌝ }
 {
     let len = texts::long(s, starts, ends, i);
     let e = load_flags::next(roles, i + 1, to, q, q);
     let inputs = load_flags::count(roles, i + 1, e, INPUT);
     let rules = load_flags::count(roles, i + 1, e, RULE_WORD);
-    let one = byte_write::put_two(lent, p.at, p.off, len);
+    let one = byte_write::put_two(lent, p.at, p.string, len);
     let two = byte_write::put_two(lent, one, p.first, inputs);
     let end = byte_write::put_two(lent, two, p.second, rules);
-    Pen {
+    Cursor {
         at: end,
-        off: p.off + len,
+        string: p.string + len,
         first: p.first + inputs,
         second: p.second + rules,
     }
@@ -132,19 +146,21 @@ pub fn put_input(
     to: usize,
     q: u8,
     m: u8,
-    p: Pen,
+    p: Cursor,
     lent: &mut [u8],
-) -> Pen
+) -> Cursor
     requires { ⌜ Ready (now s) (now starts) (now ends) (now roles) i to q m p ⌝ }
-    ensures { λ r. ⌜ Step Inputs q m [] (now (s .entry)) (now (starts .entry)) (now (ends .entry)) (now (roles .entry)) i to (now (lent .entry)) (now (lent .exit)) p r ⌝ }
+    ensures { λ r. ⌜
+        Step Inputs q m [] (now (s .entry)) (now (starts .entry)) (now (ends .entry)) (now (roles .entry)) i to (now (lent .entry)) (now (lent .exit)) p r
+        ⌝ }
 {
     let e = load_flags::next(roles, i + 1, to, q, ASG_NAME);
     let t = load_flags::first_text(s, starts, ends, roles, i + 1, e, m);
     let len = t.len();
-    let end = byte_write::put_three(lent, p.at, texts::letter(s, starts, ends, i), p.off, len);
-    Pen {
+    let end = byte_write::put_three(lent, p.at, texts::letter(s, starts, ends, i), p.string, len);
+    Cursor {
         at: end,
-        off: p.off + len,
+        string: p.string + len,
         first: p.first,
         second: p.second,
     }
@@ -160,11 +176,13 @@ pub fn put_rule(
     to: usize,
     q: u8,
     m: u8,
-    p: Pen,
+    p: Cursor,
     lent: &mut [u8],
-) -> Pen
+) -> Cursor
     requires { ⌜ Ready (now s) (now starts) (now ends) (now roles) i to q m p ⌝ }
-    ensures { λ r. ⌜ Step Rules q m [] (now (s .entry)) (now (starts .entry)) (now (ends .entry)) (now (roles .entry)) i to (now (lent .entry)) (now (lent .exit)) p r ⌝ }
+    ensures { λ r. ⌜
+        Step Rules q m [] (now (s .entry)) (now (starts .entry)) (now (ends .entry)) (now (roles .entry)) i to (now (lent .entry)) (now (lent .exit)) p r
+        ⌝ }
 {
     let e = load_flags::next(roles, i + 1, to, q, ASG_NAME);
     let users = load_flags::count(roles, i + 1, e, UAG_NAMED);
@@ -175,10 +193,10 @@ pub fn put_rule(
     let flags = load_flags::flags_of(s, starts, ends, roles, i + 1, e);
     let one = byte_write::put_three(lent, p.at, flags, p.first, users);
     let two = byte_write::put_two(lent, one, p.first + users, hosts);
-    let end = byte_write::put_two(lent, two, or_none(j < e, p.off), len);
-    Pen {
+    let end = byte_write::put_two(lent, two, or_none(j < e, p.string), len);
+    Cursor {
         at: end,
-        off: p.off + len,
+        string: p.string + len,
         first: p.first + users + hosts,
         second: p.second,
     }
@@ -191,36 +209,42 @@ pub fn put_reference(
     ends: &[u16],
     names: &[u16],
     i: usize,
-    p: Pen,
+    p: Cursor,
     lent: &mut [u8],
-) -> Pen
-    requires { ⌜ Lies (now s) (now starts) (now ends) i × All-lie (now s) (now starts) (now ends) (now names) × Near far p × (length (now s) < far) ⌝ }
-    ensures { λ r. ⌜ Drawn (now (lent .entry)) (now (lent .exit)) p (spelled-out (numbered 0 (text-at (now (s .entry)) (now (starts .entry)) (now (ends .entry)) i) (map (text-at (now (s .entry)) (now (starts .entry)) (now (ends .entry))) (now (names .entry))) ∷ p .off ∷ length (text-at (now (s .entry)) (now (starts .entry)) (now (ends .entry)) i) ∷ [])) (pen (p .at + 6) (p .off + length (text-at (now (s .entry)) (now (starts .entry)) (now (ends .entry)) i)) (p .first + 0) (p .second + 0)) r ⌝ }
+) -> Cursor
+    requires { ⌜
+        Lies (now s) (now starts) (now ends) i × All-lie (now s) (now starts) (now ends) (now names) × Bounded cursor-limit p ×
+        (length (now s) < cursor-limit)
+        ⌝ }
+    ensures { λ r. ⌜
+        Reference-put (now (s .entry)) (now (starts .entry)) (now (ends .entry)) (now (names .entry)) i (now (lent .entry)) (now (lent .exit)) p r
+        ⌝ }
 {
     let len = texts::long(s, starts, ends, i);
     let end = byte_write::put_three(
         lent,
         p.at,
         load_flags::number_of(s, starts, ends, names, i),
-        p.off,
+        p.string,
         len,
     );
-    Pen {
+    Cursor {
         at: end,
-        off: p.off + len,
+        string: p.string + len,
         first: p.first,
         second: p.second,
     }
 }
 
-pub fn put_string(t: &[u8], low: bool, p: Pen, lent: &mut [u8]) -> Pen
-    requires { ⌜ Near far p × (length (now t) < far) ⌝ }
-    ensures { λ r. ⌜ Drawn (now (lent .entry)) (now (lent .exit)) p (map (cased low) (now (t .entry))) (pen (p .at + length (map (cased low) (now (t .entry)))) (p .off + 0) (p .first + 0) (p .second + 0)) r ⌝ }
+// A string, in lower case if asked.
+pub fn put_string(t: &[u8], low: bool, p: Cursor, lent: &mut [u8]) -> Cursor
+    requires { ⌜ Bounded cursor-limit p × (length (now t) < cursor-limit) ⌝ }
+    ensures { λ r. ⌜ String-put (map (cased low) (now (t .entry))) (now (lent .entry)) (now (lent .exit)) p r ⌝ }
 {
     let end = byte_write::put_text(lent, p.at, t, low);
-    Pen {
+    Cursor {
         at: end,
-        off: p.off,
+        string: p.string,
         first: p.first,
         second: p.second,
     }
@@ -236,11 +260,13 @@ pub fn put_first(
     to: usize,
     q: u8,
     m: u8,
-    p: Pen,
+    p: Cursor,
     lent: &mut [u8],
-) -> Pen
+) -> Cursor
     requires { ⌜ Ready (now s) (now starts) (now ends) (now roles) i to q m p ⌝ }
-    ensures { λ r. ⌜ Step Firsts q m [] (now (s .entry)) (now (starts .entry)) (now (ends .entry)) (now (roles .entry)) i to (now (lent .entry)) (now (lent .exit)) p r ⌝ }
+    ensures { λ r. ⌜
+        Step Firsts q m [] (now (s .entry)) (now (starts .entry)) (now (ends .entry)) (now (roles .entry)) i to (now (lent .entry)) (now (lent .exit)) p r
+        ⌝ }
 {
     let e = load_flags::next(roles, i + 1, to, q, ASG_NAME);
     put_string(

@@ -1,3 +1,3 @@
-pub mod Sections
 pub mod Rules
+pub mod Sections
 pub mod Strings

@@ -1,15 +1,14 @@
-ghost use mathlib.Core.List.{map};
+ghost use Rattle.texts.specs.Rolls.{Lie};
 ghost use Rattle.byte_write.specs.Put.{Put};
-ghost use Rattle.texts.specs.Lies.{text-at};
-ghost use Rattle.texts.specs.Rolls.{Lie, arrays, tokens};
-ghost use Rattle.load_records.specs.Pen.{pen, Near};
-ghost use Rattle.load_passes.specs.Passed.{Asked};
-ghost use Rattle.load_sections.specs.Sections.{near-3, near-5, near-7, near-names, Fronted, Middled, Backed};
-ghost use Rattle.load_sections.specs.Strings.{Named, access-strings};
-use load_records::Pen;
+ghost use Rattle.load_flags.specs.Tokens.{tokens-in};
+ghost use Rattle.load_records.specs.Cursor.{cursor, Bounded};
+ghost use Rattle.load_passes.specs.Passed.{Source};
+ghost use Rattle.load_sections.specs.Sections.{limit-3, limit-5, limit-7, limit-strings, Groups-written, Access-written, Rules-put};
+ghost use Rattle.load_sections.specs.Strings.{access-strings, Names-written};
+use load_records::Cursor;
 use load_records::Work;
 
-// The numbers of the roles that are written: grammar/specs/Role.antt.
+// The numbers of roles: grammar/specs/Role.antt.
 const UAG_NAME: u8 = 1;
 
 const USER: u8 = 2;
@@ -28,91 +27,111 @@ const RULE_WORD: u8 = 8;
 
 const CALCULATION: u8 = 15;
 
-// Where sections 2 and 3 begin, and the pen behind section 3.
-pub struct Front {
+// Where sections 2 and 3 begin, and the cursor behind section 3.
+pub struct GroupSections {
     pub two: usize,
     pub three: usize,
-    pub pen: Pen,
+    pub cursor: Cursor,
 }
 
+// The caller of each function, writer::table, has the tokens of a file, and hands on the cursor that the function before left.
+
 // Sections 1 to 3: user groups, host groups, and the members of both.
-pub fn groups(
+pub fn group_sections(
     s: &[u8],
     starts: &[u16],
     ends: &[u16],
     roles: &[u8],
     n: usize,
     lent: &mut [u8],
-) -> Front
+) -> GroupSections
     requires { ⌜ Lie (now s) (now starts) (now ends) (now roles) n ⌝ }
-    ensures { λ r. ⌜ Fronted (tokens (now (s .entry)) (arrays (now (starts .entry)) (now (ends .entry))) (now (roles .entry)) 0 n) (now (lent .entry)) (now (lent .exit)) (pen 36 0 0 0) r ⌝ }
+    ensures { λ r. ⌜
+        Groups-written (tokens-in (now (s .entry)) (now (starts .entry)) (now (ends .entry)) (now (roles .entry)) 0 n) (now (lent .entry))
+        (now (lent .exit)) (cursor 36 0 0 0) r
+        ⌝ }
 {
     let a = load_flags::next(roles, 0, n, UAG_NAME, UAG_NAME);
     let b = load_flags::next(roles, 0, n, HAG_NAME, HAG_NAME);
-    let p = Pen {
+    let p = Cursor {
         at: 36,
-        off: 0,
+        string: 0,
         first: 0,
         second: 0,
     };
     let w = Work::Groups;
-    let one = load_passes::draw(w, s, starts, ends, roles, 0, n, UAG_NAME, USER, p, lent);
-    let two = load_passes::draw(w, s, starts, ends, roles, 0, n, HAG_NAME, HOST, one, lent);
+    let one = load_passes::plain_pass(w, s, starts, ends, roles, 0, n, UAG_NAME, USER, p, lent);
+    let two = load_passes::plain_pass(w, s, starts, ends, roles, 0, n, HAG_NAME, HOST, one, lent);
     let v = Work::Names;
-    let users = load_passes::draw(v, s, starts, ends, roles, a, n, USER, USER, two, lent);
-    let hosts = load_passes::draw(v, s, starts, ends, roles, b, n, HOST, HOST, users, lent);
-    Front {
+    let users = load_passes::plain_pass(v, s, starts, ends, roles, a, n, USER, USER, two, lent);
+    let hosts = load_passes::plain_pass(v, s, starts, ends, roles, b, n, HOST, HOST, users, lent);
+    GroupSections {
         two: one.at,
         three: two.at,
-        pen: hosts,
+        cursor: hosts,
     }
 }
 
-// Where section 5 begins, and the pen behind it.
-pub struct Middle {
+// Where section 5 begins, and the cursor behind it.
+pub struct AccessSections {
     pub five: usize,
-    pub pen: Pen,
+    pub cursor: Cursor,
 }
 
 // Sections 4 and 5: access groups and inputs.
-pub fn access(
+pub fn access_sections(
     s: &[u8],
     starts: &[u16],
     ends: &[u16],
     roles: &[u8],
     n: usize,
-    p: Pen,
+    p: Cursor,
     lent: &mut [u8],
-) -> Middle
-    requires { ⌜ Lie (now s) (now starts) (now ends) (now roles) n × Near near-3 p ⌝ }
-    ensures { λ r. ⌜ Middled (tokens (now (s .entry)) (arrays (now (starts .entry)) (now (ends .entry))) (now (roles .entry)) 0 n) (now (lent .entry)) (now (lent .exit)) p r ⌝ }
+) -> AccessSections
+    requires { ⌜ Lie (now s) (now starts) (now ends) (now roles) n × Bounded limit-3 p ⌝ }
+    ensures { λ r. ⌜
+        Access-written (tokens-in (now (s .entry)) (now (starts .entry)) (now (ends .entry)) (now (roles .entry)) 0 n) (now (lent .entry))
+        (now (lent .exit)) p r
+        ⌝ }
 {
     let a = load_flags::next(roles, 0, n, ASG_NAME, ASG_NAME);
-    let q = Pen {
+    let q = Cursor {
         at: p.at,
-        off: p.off,
+        string: p.string,
         first: 0,
         second: 0,
     };
     let w = Work::Access;
-    let four = load_passes::draw(w, s, starts, ends, roles, 0, n, ASG_NAME, ASG_NAME, q, lent);
+    let four = load_passes::plain_pass(
+        w,
+        s,
+        starts,
+        ends,
+        roles,
+        0,
+        n,
+        ASG_NAME,
+        ASG_NAME,
+        q,
+        lent,
+    );
     let v = Work::Inputs;
-    let five = load_passes::draw(v, s, starts, ends, roles, a, n, INPUT, PVNAME, four, lent);
-    Middle {
+    let five = load_passes::plain_pass(v, s, starts, ends, roles, a, n, INPUT, PVNAME, four, lent);
+    AccessSections {
         five: four.at,
-        pen: five,
+        cursor: five,
     }
 }
 
-// Where section 7 begins, how many references there are, and the pen behind them.
-pub struct Back {
+// Where section 7 begins, how many references there are, and the cursor behind them.
+pub struct RuleSections {
     pub seven: usize,
-    pub named: usize,
-    pub pen: Pen,
+    pub references: usize,
+    pub cursor: Cursor,
 }
 
 // Sections 6 and 7: rules and references. A reference's name stands before the rules' calculations, so rules are written last.
-pub fn rules(
+pub fn rule_sections(
     s: &[u8],
     starts: &[u16],
     ends: &[u16],
@@ -120,17 +139,20 @@ pub fn rules(
     n: usize,
     uags: &[u16],
     hags: &[u16],
-    p: Pen,
+    p: Cursor,
     lent: &mut [u8],
-) -> Back
-    requires { ⌜ Asked (now s) (now starts) (now ends) (now roles) n (now uags) (now hags) near-5 p ⌝ }
-    ensures { λ r. ⌜ Backed (map (text-at (now (s .entry)) (now (starts .entry)) (now (ends .entry))) (now (uags .entry))) (map (text-at (now (s .entry)) (now (starts .entry)) (now (ends .entry))) (now (hags .entry))) (tokens (now (s .entry)) (arrays (now (starts .entry)) (now (ends .entry))) (now (roles .entry)) 0 n) (now (lent .entry)) (now (lent .exit)) p r ⌝ }
+) -> RuleSections
+    requires { ⌜ Source (now s) (now starts) (now ends) (now roles) n (now uags) (now hags) × Bounded limit-5 p ⌝ }
+    ensures { λ r. ⌜
+        Rules-put (now (s .entry)) (now (starts .entry)) (now (ends .entry)) (now (roles .entry)) n (now (uags .entry)) (now (hags .entry))
+        (now (lent .entry)) (now (lent .exit)) p r
+        ⌝ }
 {
     let a = load_flags::next(roles, 0, n, ASG_NAME, ASG_NAME);
     let at = p.at + 14 * load_flags::count(roles, a, n, RULE_WORD);
-    let behind = Pen {
+    let behind = Cursor {
         at,
-        off: p.off,
+        string: p.string,
         first: 0,
         second: 0,
     };
@@ -148,47 +170,50 @@ pub fn rules(
         behind,
         lent,
     );
-    let before = Pen {
+    let before = Cursor {
         at: p.at,
-        off: seven.off,
+        string: seven.string,
         first: 0,
         second: 0,
     };
     let w = Work::Rules;
     let m = CALCULATION;
-    let six = load_passes::draw(w, s, starts, ends, roles, a, n, RULE_WORD, m, before, lent);
-    Back {
+    let six = load_passes::plain_pass(w, s, starts, ends, roles, a, n, RULE_WORD, m, before, lent);
+    RuleSections {
         seven: at,
-        named: six.first,
-        pen: seven,
+        references: six.first,
+        cursor: seven,
     }
 }
 
 // The names of groups and members.
-pub fn group_names(
+pub fn group_strings(
     s: &[u8],
     starts: &[u16],
     ends: &[u16],
     roles: &[u8],
     n: usize,
-    p: Pen,
+    p: Cursor,
     lent: &mut [u8],
-) -> Pen
-    requires { ⌜ Lie (now s) (now starts) (now ends) (now roles) n × Near near-7 p ⌝ }
-    ensures { λ r. ⌜ Named (tokens (now (s .entry)) (arrays (now (starts .entry)) (now (ends .entry))) (now (roles .entry)) 0 n) (now (lent .entry)) (now (lent .exit)) p r ⌝ }
+) -> Cursor
+    requires { ⌜ Lie (now s) (now starts) (now ends) (now roles) n × Bounded limit-7 p ⌝ }
+    ensures { λ r. ⌜
+        Names-written (tokens-in (now (s .entry)) (now (starts .entry)) (now (ends .entry)) (now (roles .entry)) 0 n) (now (lent .entry))
+        (now (lent .exit)) p r
+        ⌝ }
 {
     let a = load_flags::next(roles, 0, n, UAG_NAME, UAG_NAME);
     let b = load_flags::next(roles, 0, n, HAG_NAME, HAG_NAME);
     let w = Work::Texts;
-    let q = load_passes::draw(w, s, starts, ends, roles, 0, n, UAG_NAME, UAG_NAME, p, lent);
-    let r = load_passes::draw(w, s, starts, ends, roles, 0, n, HAG_NAME, HAG_NAME, q, lent);
-    let users = load_passes::draw(w, s, starts, ends, roles, a, n, USER, USER, r, lent);
+    let q = load_passes::plain_pass(w, s, starts, ends, roles, 0, n, UAG_NAME, UAG_NAME, p, lent);
+    let r = load_passes::plain_pass(w, s, starts, ends, roles, 0, n, HAG_NAME, HAG_NAME, q, lent);
+    let users = load_passes::plain_pass(w, s, starts, ends, roles, a, n, USER, USER, r, lent);
     let low = Work::Lowered;
-    load_passes::draw(low, s, starts, ends, roles, b, n, HOST, HOST, users, lent)
+    load_passes::plain_pass(low, s, starts, ends, roles, b, n, HOST, HOST, users, lent)
 }
 
 // The names of access groups, inputs and references, and the calculations.
-pub fn access_names(
+pub fn access_strings(
     s: &[u8],
     starts: &[u16],
     ends: &[u16],
@@ -196,19 +221,34 @@ pub fn access_names(
     n: usize,
     uags: &[u16],
     hags: &[u16],
-    p: Pen,
+    p: Cursor,
     lent: &mut [u8],
 ) -> usize
-    requires { ⌜ Asked (now s) (now starts) (now ends) (now roles) n (now uags) (now hags) near-names p ⌝ }
-    ensures { λ r. ⌜ Put (now (lent .entry)) (now (lent .exit)) (p .at) (access-strings (tokens (now (s .entry)) (arrays (now (starts .entry)) (now (ends .entry))) (now (roles .entry)) 0 n)) r ⌝ }
+    requires { ⌜ Source (now s) (now starts) (now ends) (now roles) n (now uags) (now hags) × Bounded limit-strings p ⌝ }
+    ensures { λ r. ⌜
+        Put (now (lent .entry)) (now (lent .exit)) (p .at)
+        (access-strings (tokens-in (now (s .entry)) (now (starts .entry)) (now (ends .entry)) (now (roles .entry)) 0 n)) r
+        ⌝ }
 {
     let a = load_flags::next(roles, 0, n, ASG_NAME, ASG_NAME);
     let w = Work::Texts;
-    let four = load_passes::draw(w, s, starts, ends, roles, 0, n, ASG_NAME, ASG_NAME, p, lent);
+    let four = load_passes::plain_pass(
+        w,
+        s,
+        starts,
+        ends,
+        roles,
+        0,
+        n,
+        ASG_NAME,
+        ASG_NAME,
+        p,
+        lent,
+    );
     let v = Work::Firsts;
-    let five = load_passes::draw(v, s, starts, ends, roles, a, n, INPUT, PVNAME, four, lent);
+    let five = load_passes::plain_pass(v, s, starts, ends, roles, a, n, INPUT, PVNAME, four, lent);
     let seven = load_passes::references(w, s, starts, ends, roles, uags, hags, a, n, five, lent);
     let m = CALCULATION;
-    let end = load_passes::draw(v, s, starts, ends, roles, a, n, RULE_WORD, m, seven, lent);
+    let end = load_passes::plain_pass(v, s, starts, ends, roles, a, n, RULE_WORD, m, seven, lent);
     end.at
 }

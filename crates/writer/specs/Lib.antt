@@ -1,4 +1,4 @@
-pub mod Chain
+pub mod Passes
 pub mod Header
 pub mod Table
 pub mod laws

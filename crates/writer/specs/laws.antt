@@ -1,9 +1,9 @@
 pub mod Header
 pub mod Table
-pub mod Bare
 pub mod Flat
-pub mod Bodies
-pub mod Bodies2
+pub mod GroupRecords
+pub mod RuleRecords
 pub mod Sections
 pub mod Counts
+pub mod Bare
 pub mod Whole

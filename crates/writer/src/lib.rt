@@ -1,18 +1,19 @@
 ghost use mathlib.Core.List.{List};
-ghost use Prim.Native.Nat.{ℕ, _≤_};
+ghost use Prim.Native.Nat.{_≤_, ℕ};
 ghost use lib.ListN.{length};
 ghost use Rattle.lists.specs.Words.{spelled-out};
 ghost use Rattle.table.specs.Layout.{greatest-table};
-ghost use Rattle.byte_write.specs.Put.{Put};
 ghost use Rattle.kept.specs.Kept.{Arrays};
 ghost use Rattle.texts.specs.Rolls.{tokens};
-ghost use Rattle.writer.specs.Header.{Counted, head-words};
-ghost use Rattle.writer.specs.Table.{Given, table-told, Wrote};
-use load_sections::Back;
-use load_sections::Front;
-use load_sections::Middle;
+ghost use Rattle.byte_write.specs.Put.{Put};
+ghost use Rattle.load_passes.specs.Passed.{Source};
+ghost use Rattle.writer.specs.Header.{Counts-right, header-of};
+ghost use Rattle.writer.specs.Table.{table-told, Wrote};
+use load_sections::AccessSections;
+use load_sections::GroupSections;
+use load_sections::RuleSections;
 
-// The numbers of the roles that are written: grammar/specs/Role.antt.
+// The numbers of roles: grammar/specs/Role.antt.
 const UAG_NAME: u8 = 1;
 
 const USER: u8 = 2;
@@ -43,7 +44,7 @@ pub struct Counts {
 // Members stand behind a group's name, inputs and rules behind an access group's.
 fn count_all(roles: &[u8], n: usize) -> Counts
     requires { ⌜ (n ≤ 16384) × (n ≤ length (now roles)) ⌝ }
-    ensures { λ r. ⌜ ((s : List ℕ) (ar : Arrays) → Counted (tokens s ar (now (roles .entry)) 0 n) r) ⌝ }
+    ensures { λ r. ⌜ ((s : List ℕ) (ar : Arrays) → Counts-right (tokens s ar (now (roles .entry)) 0 n) r) ⌝ }
 {
     let a = load_flags::next(roles, 0, n, UAG_NAME, UAG_NAME);
     let b = load_flags::next(roles, 0, n, HAG_NAME, HAG_NAME);
@@ -63,26 +64,26 @@ fn count_all(roles: &[u8], n: usize) -> Counts
 // The form, the whole length, and the count and place of each section. The strings are counted in bytes.
 fn put_header(
     c: Counts,
-    front: Front,
-    middle: Middle,
-    back: Back,
+    groups: GroupSections,
+    access: AccessSections,
+    rules: RuleSections,
     end: usize,
     lent: &mut [u8],
 ) -> usize
-    requires { ⌜ back .pen .at ≤ end ⌝ }
-    ensures { λ r. ⌜ Put (now (lent .entry)) (now (lent .exit)) 0 (spelled-out (head-words c front middle back end)) r ⌝ }
+    requires { ⌜ rules .cursor .at ≤ end ⌝ }
+    ensures { λ r. ⌜ Put (now (lent .entry)) (now (lent .exit)) 0 (spelled-out (header-of c groups access rules end)) r ⌝ }
 {
-    let p = front.pen;
-    let q = middle.pen;
-    let r = back.pen;
+    let p = groups.cursor;
+    let q = access.cursor;
+    let r = rules.cursor;
     let length = byte_write::put_two(lent, 0, 1, end);
     let one = byte_write::put_two(lent, length, c.uags, 36);
-    let two = byte_write::put_two(lent, one, c.hags, front.two);
-    let three = byte_write::put_two(lent, two, c.members, front.three);
+    let two = byte_write::put_two(lent, one, c.hags, groups.two);
+    let three = byte_write::put_two(lent, two, c.members, groups.three);
     let four = byte_write::put_two(lent, three, c.asgs, p.at);
-    let five = byte_write::put_two(lent, four, c.inputs, middle.five);
+    let five = byte_write::put_two(lent, four, c.inputs, access.five);
     let six = byte_write::put_two(lent, five, c.rules, q.at);
-    let seven = byte_write::put_two(lent, six, back.named, back.seven);
+    let seven = byte_write::put_two(lent, six, rules.references, rules.seven);
     byte_write::put_two(lent, seven, end - r.at, r.at)
 }
 
@@ -97,19 +98,22 @@ fn table(
     hags: &[u16],
     lent: &mut [u8],
 ) -> usize
-    requires { ⌜ Given (now s) (now starts) (now ends) (now roles) n (now uags) (now hags) ⌝ }
-    ensures { λ r. ⌜ Put (now (lent .entry)) (now (lent .exit)) 0 (table-told (now (s .entry)) (now (starts .entry)) (now (ends .entry)) (now (roles .entry)) n (now (uags .entry)) (now (hags .entry))) r ⌝ }
+    requires { ⌜ Source (now s) (now starts) (now ends) (now roles) n (now uags) (now hags) ⌝ }
+    ensures { λ r. ⌜
+        Put (now (lent .entry)) (now (lent .exit)) 0
+        (table-told (now (s .entry)) (now (starts .entry)) (now (ends .entry)) (now (roles .entry)) n (now (uags .entry)) (now (hags .entry))) r
+        ⌝ }
 {
-    let front = load_sections::groups(s, starts, ends, roles, n, lent);
-    let three = front.pen;
-    let middle = load_sections::access(s, starts, ends, roles, n, three, lent);
-    let five = middle.pen;
-    let back = load_sections::rules(s, starts, ends, roles, n, uags, hags, five, lent);
-    let seven = back.pen;
-    let named = load_sections::group_names(s, starts, ends, roles, n, seven, lent);
-    let end = load_sections::access_names(s, starts, ends, roles, n, uags, hags, named, lent);
+    let groups = load_sections::group_sections(s, starts, ends, roles, n, lent);
+    let three = groups.cursor;
+    let access = load_sections::access_sections(s, starts, ends, roles, n, three, lent);
+    let five = access.cursor;
+    let rules = load_sections::rule_sections(s, starts, ends, roles, n, uags, hags, five, lent);
+    let seven = rules.cursor;
+    let named = load_sections::group_strings(s, starts, ends, roles, n, seven, lent);
+    let end = load_sections::access_strings(s, starts, ends, roles, n, uags, hags, named, lent);
     let c = count_all(roles, n);
-    put_header(c, front, middle, back, end, lent);
+    put_header(c, groups, access, rules, end, lent);
     end
 }
 
@@ -130,9 +134,12 @@ pub fn write(
     hags: &[u16],
     lent: &mut [u8],
 ) -> Written
-    requires { ⌜ Given (now s) (now starts) (now ends) (now roles) n (now uags) (now hags) ⌝ }
+    requires { ⌜ Source (now s) (now starts) (now ends) (now roles) n (now uags) (now hags) ⌝ }
     requires { ⌜ length (table-told (now s) (now starts) (now ends) (now roles) n (now uags) (now hags)) ≤ greatest-table ⌝ }
-    ensures { λ r. ⌜ Wrote (table-told (now (s .entry)) (now (starts .entry)) (now (ends .entry)) (now (roles .entry)) n (now (uags .entry)) (now (hags .entry))) (now (lent .entry)) (now (lent .exit)) r ⌝ }
+    ensures { λ r. ⌜
+        Wrote (table-told (now (s .entry)) (now (starts .entry)) (now (ends .entry)) (now (roles .entry)) n (now (uags .entry)) (now (hags .entry)))
+        (now (lent .entry)) (now (lent .exit)) r
+        ⌝ }
 {
     if lent.len() < GREATEST_TABLE {
         let needed = table(s, starts, ends, roles, n, uags, hags, &mut lent[0..0]);

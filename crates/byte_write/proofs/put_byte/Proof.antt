@@ -1,12 +1,10 @@
 use mathlib.Core.Logic.{⊎-elim}
 use mathlib.Core.Path.{refl}
 use lib.ListN.{length-set}
-use Rattle.byte_write.specs.laws.Puts.{put-one, put-past}
 use borrow.Author.Needs.{needs}
+use Rattle.byte_write.specs.laws.Puts.{put-one, put-past}
 use Rattle.byte_write.proofs.put_byte.Statement.{statement}
 use Rattle.byte_write.proofs.put_byte.Tie as tie
-use Rattle.byte_write.proofs.put_byte.Reads as reads
-use Rattle.byte_write.proofs.put_byte.Lts as lts
 
 slice-write-lent : tie.Need-slice-write-lent
 slice-write-lent c = search needs

@@ -1,18 +1,14 @@
-use Rattle.byte_write.specs.laws.Puts.{put-none, text-turn}
-use Rattle.byte_write.specs.Put.{Put, cased}
-use lib.Seq.{take-all}
-use lib.ListN.{length, take}
-use Prim.Native.Nat.{_+_, _-_, _≤_}
 use mathlib.Core.List.{map}
-use mathlib.Core.Path.{_≡_, refl, _∙_}
+use mathlib.Core.Path.{_≡_, refl}
+use Prim.Native.Nat.{_+_, _-_, _≤_}
 use native.Mathlib.Omega.{arith}
+use lib.ListN.{length, take}
+use lib.Seq.{take-all}
 use borrow.Author.Needs.{needs}
+use Rattle.byte_write.specs.Put.{Put, cased}
+use Rattle.byte_write.specs.laws.Puts.{put-none, text-turn}
 use Rattle.byte_write.proofs.put_text.Statement.{statement}
 use Rattle.byte_write.proofs.put_text.Tie as tie
-use Rattle.byte_write.proofs.put_text.Reads as reads
-use Rattle.byte_write.proofs.put_text.Lts as lts
-use Rattle.byte_write.proofs.in_case.Reads as in-case-reads
-use Rattle.byte_write.proofs.put_byte.Reads as put-byte-reads
 
 abbrev Inv-loop : tie.InvT-loop
 Inv-loop lent₀ at t low next₀ i₀ lent next i = (i ≤ length t) × (next ≡ at + i) × (length lent ≡ length lent₀) × Put lent₀ lent at (map (cased low) (take i t)) next

@@ -1,6 +1,6 @@
-use Rattle.byte_write.specs.laws.Puts.{put-put}
 use native.Mathlib.Omega.{arith}
 use borrow.Author.Needs.{needs}
+use Rattle.byte_write.specs.laws.Puts.{put-put}
 use Rattle.byte_write.proofs.put_three.Statement.{statement}
 use Rattle.byte_write.proofs.put_three.Tie as tie
 

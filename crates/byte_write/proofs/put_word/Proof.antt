@@ -1,10 +1,7 @@
-use Rattle.byte_write.specs.laws.Puts.{put-put}
 use borrow.Author.Needs.{needs}
+use Rattle.byte_write.specs.laws.Puts.{put-put}
 use Rattle.byte_write.proofs.put_word.Statement.{statement}
 use Rattle.byte_write.proofs.put_word.Tie as tie
-use Rattle.byte_write.proofs.put_word.Reads as reads
-use Rattle.byte_write.proofs.put_word.Lts as lts
-use Rattle.byte_write.proofs.put_byte.Reads as put-byte-reads
 
 cast-put-byte : tie.Need-cast-put-byte
 cast-put-byte c = search needs

@@ -29,10 +29,17 @@ loop-less : tie.Need-loop-less Inv-loop μ-loop
 loop-less c = search needs
 
 loop-again : tie.Need-loop-again Inv-loop μ-loop
-loop-again c = ⊎-elim (λ w. omega (arith, c .before .before .before .loop .inv .0, tally-hit (c .before .before .before .before .args .m) (c .before .before .before .before .args .roles .now) (c .before .before .before .loop .i) (c .before .before .before .before .args .to) (c .before .before .loop-test .taken) (w .0 .taken))) (λ w. omega (arith, c .before .before .before .loop .inv .0, tally-miss (c .before .before .before .before .args .m) (c .before .before .before .before .args .roles .now) (c .before .before .before .loop .i) (c .before .before .before .before .args .to) (c .before .before .loop-test .taken) (w .0 .left))) (c .if1 .came)
+loop-again c =
+    let a = c .before .before .before .before .args in
+    let loop = c .before .before .before .loop in
+    ⊎-elim (λ w. omega (arith, loop .inv .0, tally-hit (a .m) (a .roles .now) (loop .i) (a .to) (c .before .before .loop-test .taken) (w .0 .taken)))
+    (λ w. omega (arith, loop .inv .0, tally-miss (a .m) (a .roles .now) (loop .i) (a .to) (c .before .before .loop-test .taken) (w .0 .left)))
+    (c .if1 .came)
 
 returns : tie.Need-returns Inv-loop μ-loop
-returns c = omega (arith, c .before .loop .inv .0, tally-none (c .before .before .args .m) (c .before .before .args .roles .now) (c .before .loop .i) (c .before .before .args .to) (c .loop-test .left))
+returns c =
+    let a = c .before .before .args in
+    omega (arith, c .before .loop .inv .0, tally-none (a .m) (a .roles .now) (c .before .loop .i) (a .to) (c .loop-test .left))
 
 pub count-spec : {M : Type 1} → statement M
 count-spec =

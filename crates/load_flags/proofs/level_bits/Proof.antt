@@ -1,10 +1,10 @@
 use borrow.Author.Needs.{needs}
 use Rattle.file.specs.Contents.{texts}
 use Rattle.kept.specs.Kept.{role-of-number}
-use Rattle.texts.specs.Rolls.{arrays, tokens}
+use Rattle.load_flags.specs.Tokens.{tokens-in}
+use Rattle.load_flags.specs.laws.Flags.{level-known}
 use Rattle.load_flags.proofs.level_bits.Statement.{statement}
 use Rattle.load_flags.proofs.level_bits.Tie as tie
-use Rattle.load_flags.specs.laws.Flags.{level-known}
 
 first-text-requires : tie.Need-first-text-requires
 first-text-requires c κs = search needs
@@ -19,10 +19,18 @@ enum-told : tie.Need-enum-told
 enum-told c = search needs
 
 returns : tie.Need-returns
-returns c = level-known (texts (role-of-number 9) (tokens (c .before .before .before .before .before .before .before .before .before .args .s .now) (arrays (c .before .before .before .before .before .before .before .before .before .args .starts .now) (c .before .before .before .before .before .before .before .before .before .args .ends .now)) (c .before .before .before .before .before .before .before .before .before .args .roles .now) (c .before .before .before .before .before .before .before .before .before .args .from) (c .before .before .before .before .before .before .before .before .before .args .to))) (c .before .before .before .before .first-text .result .now) (c .before .before .before .before .first-text .ensures) (c .before .before .before .level-of .ensures) (c .before .known .given .1)
+returns c =
+    let a = c .before .before .before .before .before .before .before .before .before .args in
+    let by-first-text = c .before .before .before .before .first-text in
+    level-known (texts (role-of-number 9) (tokens-in (a .s .now) (a .starts .now) (a .ends .now) (a .roles .now) (a .from) (a .to)))
+    (by-first-text .result .now) (by-first-text .ensures) (c .before .before .before .level-of .ensures) (c .before .known .given .1)
 
 returns-2 : tie.Need-returns-2
-returns-2 c = level-known (texts (role-of-number 9) (tokens (c .before .before .before .before .before .before .before .before .args .s .now) (arrays (c .before .before .before .before .before .before .before .before .args .starts .now) (c .before .before .before .before .before .before .before .before .args .ends .now)) (c .before .before .before .before .before .before .before .before .args .roles .now) (c .before .before .before .before .before .before .before .before .args .from) (c .before .before .before .before .before .before .before .before .args .to))) (c .before .before .before .first-text .result .now) (c .before .before .before .first-text .ensures) (c .before .before .level-of .ensures) (c .enum-told .given .1)
+returns-2 c =
+    let a = c .before .before .before .before .before .before .before .before .args in
+    let by-first-text = c .before .before .before .first-text in
+    level-known (texts (role-of-number 9) (tokens-in (a .s .now) (a .starts .now) (a .ends .now) (a .roles .now) (a .from) (a .to)))
+    (by-first-text .result .now) (by-first-text .ensures) (c .before .before .level-of .ensures) (c .enum-told .given .1)
 
 pub level-bits-spec : {M : Type 1} → statement M
 level-bits-spec =

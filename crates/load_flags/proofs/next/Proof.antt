@@ -19,10 +19,16 @@ shared-slice-read-r : tie.Need-shared-slice-read-r Inv-loop μ-loop
 shared-slice-read-r c = search needs
 
 returns : tie.Need-returns Inv-loop μ-loop
-returns c = omega (arith, c .before .before .before .loop .inv, gap-first (c .before .before .before .before .args .a) (c .before .before .before .before .args .b) (c .before .before .before .before .args .roles .now) (c .before .before .before .loop .i) (c .before .before .before .before .args .to) (c .before .before .loop-test .taken) (c .if1 .taken))
+returns c =
+    let a = c .before .before .before .before .args in
+    let loop = c .before .before .before .loop in
+    omega (arith, loop .inv, gap-first (a .a) (a .b) (a .roles .now) (loop .i) (a .to) (c .before .before .loop-test .taken) (c .if1 .taken))
 
 returns-2 : tie.Need-returns-2 Inv-loop μ-loop
-returns-2 c = omega (arith, c .before .before .before .before .loop .inv, gap-second (c .before .before .before .before .before .args .a) (c .before .before .before .before .before .args .b) (c .before .before .before .before .before .args .roles .now) (c .before .before .before .before .loop .i) (c .before .before .before .before .before .args .to) (c .before .before .before .loop-test .taken) (c .if2 .taken))
+returns-2 c =
+    let a = c .before .before .before .before .before .args in
+    let loop = c .before .before .before .before .loop in
+    omega (arith, loop .inv, gap-second (a .a) (a .b) (a .roles .now) (loop .i) (a .to) (c .before .before .before .loop-test .taken) (c .if2 .taken))
 
 add-i : tie.Need-add-i Inv-loop μ-loop
 add-i c = search needs
@@ -31,10 +37,19 @@ loop-less : tie.Need-loop-less Inv-loop μ-loop
 loop-less c = search needs
 
 loop-again : tie.Need-loop-again Inv-loop μ-loop
-loop-again c = omega (arith, c .before .before .before .before .loop .inv, gap-on (c .before .before .before .before .before .args .a) (c .before .before .before .before .before .args .b) (c .before .before .before .before .before .args .roles .now) (c .before .before .before .before .loop .i) (c .before .before .before .before .before .args .to) (c .before .before .before .loop-test .taken) (c .before .if1 .left) (c .if2 .left))
+loop-again c =
+    let a = c .before .before .before .before .before .args in
+    let loop = c .before .before .before .before .loop in
+    omega (
+      arith,
+      loop .inv,
+      gap-on (a .a) (a .b) (a .roles .now) (loop .i) (a .to) (c .before .before .before .loop-test .taken) (c .before .if1 .left) (c .if2 .left),
+    )
 
 returns-3 : tie.Need-returns-3 Inv-loop μ-loop
-returns-3 c = omega (arith, c .before .loop .inv, gap-none (c .before .before .args .a) (c .before .before .args .b) (c .before .before .args .roles .now) (c .before .loop .i) (c .before .before .args .to) (c .loop-test .left))
+returns-3 c =
+    let a = c .before .before .args in
+    omega (arith, c .before .loop .inv, gap-none (a .a) (a .b) (a .roles .now) (c .before .loop .i) (a .to) (c .loop-test .left))
 
 pub next-spec : {M : Type 1} → statement M
 next-spec =

@@ -3,10 +3,10 @@ use borrow.Author.Needs.{needs}
 use Rattle.file.specs.Contents.{texts}
 use Rattle.kept.specs.Kept.{role-of-number}
 use Rattle.words_known.specs.declared.Permission.the-variants as permission
-use Rattle.texts.specs.Rolls.{arrays, tokens}
+use Rattle.load_flags.specs.Tokens.{tokens-in}
+use Rattle.load_flags.specs.laws.Flags.{permission-known}
 use Rattle.load_flags.proofs.permission_bits.Statement.{statement}
 use Rattle.load_flags.proofs.permission_bits.Tie as tie
-use Rattle.load_flags.specs.laws.Flags.{permission-known}
 
 first-text-requires : tie.Need-first-text-requires
 first-text-requires c κs = search needs
@@ -30,16 +30,35 @@ enum-told-4 : tie.Need-enum-told-4
 enum-told-4 c = search needs
 
 returns : tie.Need-returns
-returns c = permission-known (texts (role-of-number 10) (tokens (c .before .before .before .before .before .before .before .before .before .before .before .args .s .now) (arrays (c .before .before .before .before .before .before .before .before .before .before .before .args .starts .now) (c .before .before .before .before .before .before .before .before .before .before .before .args .ends .now)) (c .before .before .before .before .before .before .before .before .before .before .before .args .roles .now) (c .before .before .before .before .before .before .before .before .before .before .before .args .from) (c .before .before .before .before .before .before .before .before .before .before .before .args .to))) (c .before .before .before .before .before .before .first-text .result .now) (c .before .before .before .before .before .before .first-text .ensures) (c .before .before .before .before .before .permission-of .ensures) (c .before .before .before .known .given .1 ∙ ap permission.Is (c .enum-told .given .1))
+returns c =
+    let a = c .before .before .before .before .before .before .before .before .before .before .before .args in
+    let by-first-text = c .before .before .before .before .before .before .first-text in
+    permission-known (texts (role-of-number 10) (tokens-in (a .s .now) (a .starts .now) (a .ends .now) (a .roles .now) (a .from) (a .to)))
+    (by-first-text .result .now) (by-first-text .ensures) (c .before .before .before .before .before .permission-of .ensures)
+    (c .before .before .before .known .given .1 ∙ ap permission.Is (c .enum-told .given .1))
 
 returns-2 : tie.Need-returns-2
-returns-2 c = permission-known (texts (role-of-number 10) (tokens (c .before .before .before .before .before .before .before .before .before .before .before .args .s .now) (arrays (c .before .before .before .before .before .before .before .before .before .before .before .args .starts .now) (c .before .before .before .before .before .before .before .before .before .before .before .args .ends .now)) (c .before .before .before .before .before .before .before .before .before .before .before .args .roles .now) (c .before .before .before .before .before .before .before .before .before .before .before .args .from) (c .before .before .before .before .before .before .before .before .before .before .before .args .to))) (c .before .before .before .before .before .before .first-text .result .now) (c .before .before .before .before .before .before .first-text .ensures) (c .before .before .before .before .before .permission-of .ensures) (c .before .before .before .known .given .1 ∙ ap permission.Is (c .enum-told2 .given .1))
+returns-2 c =
+    let a = c .before .before .before .before .before .before .before .before .before .before .before .args in
+    let by-first-text = c .before .before .before .before .before .before .first-text in
+    permission-known (texts (role-of-number 10) (tokens-in (a .s .now) (a .starts .now) (a .ends .now) (a .roles .now) (a .from) (a .to)))
+    (by-first-text .result .now) (by-first-text .ensures) (c .before .before .before .before .before .permission-of .ensures)
+    (c .before .before .before .known .given .1 ∙ ap permission.Is (c .enum-told2 .given .1))
 
 returns-3 : tie.Need-returns-3
-returns-3 c = permission-known (texts (role-of-number 10) (tokens (c .before .before .before .before .before .before .before .before .before .before .before .args .s .now) (arrays (c .before .before .before .before .before .before .before .before .before .before .before .args .starts .now) (c .before .before .before .before .before .before .before .before .before .before .before .args .ends .now)) (c .before .before .before .before .before .before .before .before .before .before .before .args .roles .now) (c .before .before .before .before .before .before .before .before .before .before .before .args .from) (c .before .before .before .before .before .before .before .before .before .before .before .args .to))) (c .before .before .before .before .before .before .first-text .result .now) (c .before .before .before .before .before .before .first-text .ensures) (c .before .before .before .before .before .permission-of .ensures) (c .before .before .before .known .given .1 ∙ ap permission.Is (c .enum-told3 .given .1))
+returns-3 c =
+    let a = c .before .before .before .before .before .before .before .before .before .before .before .args in
+    let by-first-text = c .before .before .before .before .before .before .first-text in
+    permission-known (texts (role-of-number 10) (tokens-in (a .s .now) (a .starts .now) (a .ends .now) (a .roles .now) (a .from) (a .to)))
+    (by-first-text .result .now) (by-first-text .ensures) (c .before .before .before .before .before .permission-of .ensures)
+    (c .before .before .before .known .given .1 ∙ ap permission.Is (c .enum-told3 .given .1))
 
 returns-4 : tie.Need-returns-4
-returns-4 c = permission-known (texts (role-of-number 10) (tokens (c .before .before .before .before .before .before .before .before .args .s .now) (arrays (c .before .before .before .before .before .before .before .before .args .starts .now) (c .before .before .before .before .before .before .before .before .args .ends .now)) (c .before .before .before .before .before .before .before .before .args .roles .now) (c .before .before .before .before .before .before .before .before .args .from) (c .before .before .before .before .before .before .before .before .args .to))) (c .before .before .before .first-text .result .now) (c .before .before .before .first-text .ensures) (c .before .before .permission-of .ensures) (c .enum-told4 .given .1)
+returns-4 c =
+    let a = c .before .before .before .before .before .before .before .before .args in
+    let by-first-text = c .before .before .before .first-text in
+    permission-known (texts (role-of-number 10) (tokens-in (a .s .now) (a .starts .now) (a .ends .now) (a .roles .now) (a .from) (a .to)))
+    (by-first-text .result .now) (by-first-text .ensures) (c .before .before .permission-of .ensures) (c .enum-told4 .given .1)
 
 pub permission-bits-spec : {M : Type 1} → statement M
 permission-bits-spec =

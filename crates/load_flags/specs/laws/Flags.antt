@@ -25,7 +25,8 @@ use Rattle.words_known.specs.declared.Log.the-variants as log
 use Rattle.words_known.specs.declared.Permission.{Permission}
 use Rattle.words_known.specs.declared.Permission.the-variants as permission
 use Rattle.words_known.specs.Known.{level-told, permission-told, log-told}
-use Rattle.load_flags.specs.Part.{size, off-bits}
+use Rattle.load_flags.specs.Flags.{off-bits}
+use Rattle.load_flags.specs.Tokens.{size}
 
 -- an empty text stands for what no text does
 pub level-first : (ts : List (List ℕ)) → value-of 0 level-of ts ≡ Option·getD (level-of (Option·getD (head-of ts) [])) 0
@@ -97,11 +98,15 @@ module _ (ts : List (List ℕ)) (t : List ℕ) (e : t ≡ Option·getD (head-of 
   pub level-known : {r v : Level} → r ≡ level-told (level-of t) → r ≡ v → level-value v ≡ value-of 0 level-of ts
   level-known h g = ap level-value (sym g ∙ h) ∙ level-option (level-of t) ∙ ap (λ (l : List ℕ). Option·getD (level-of l) 0) e ∙ sym (level-first ts)
 
-  pub permission-known : {r v : Permission} → r ≡ permission-told (permission-of t) → r ≡ v → permission-value v ≡ rank (value-of access.None permission-of ts) * 2
+  pub permission-known :
+      {r v : Permission} → r ≡ permission-told (permission-of t) → r ≡ v → permission-value v ≡ rank (value-of access.None permission-of ts) * 2
   permission-known h g =
       ap permission-value (sym g ∙ h) ∙ permission-option (permission-of t)
       ∙ ap (λ (l : List ℕ). rank (Option·getD (permission-of l) access.None) * 2) e ∙ ap (λ (a : Access). rank a * 2) (sym (permission-first ts))
 
   pub log-known : {r v : Log} → r ≡ log-told (log-of t) → r ≡ v → log-value v ≡ flag (value-of false log-of ts) 8
   log-known h g =
-      ap log-value (sym g ∙ h) ∙ log-option (log-of t) ∙ ap (λ (l : List ℕ). flag (Option·getD (log-of l) false) 8) e ∙ ap (λ (b : Bool). flag b 8) (sym (log-first ts))
+      ap log-value (sym g ∙ h)
+      ∙ log-option (log-of t)
+      ∙ ap (λ (l : List ℕ). flag (Option·getD (log-of l) false) 8) e
+      ∙ ap (λ (b : Bool). flag b 8) (sym (log-first ts))

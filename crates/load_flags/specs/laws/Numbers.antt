@@ -9,7 +9,7 @@ use borrow.Author.Tests.{lt-ltb, le-ltb}
 use Rattle.lists.specs.Text.{same}
 use Rattle.table.specs.Check.{undefined-number}
 use Rattle.texts.specs.Spot.{spot, ltb-suc}
-use Rattle.load_flags.specs.Part.{numbered}
+use Rattle.load_flags.specs.Tokens.{numbered}
 
 -- the number of a name from where it stands among the names
 numbered-spot : (k : ℕ) (s : List ℕ) (ns : List (List ℕ)) → numbered k s ns ≡ cond (ltb (spot s ns) (length ns)) (k + spot s ns) undefined-number

@@ -6,8 +6,8 @@ use borrow.Author.Needs.{needs}
 use Rattle.lists.specs.SameLaws.{unchanged}
 use Rattle.lists.specs.Text.{lowered}
 use Rattle.texts.specs.Lies.{lies-at}
-use Rattle.load_records.specs.laws.Pens.{drawn-text}
-use Rattle.load_records.specs.laws.Tokens.{between-light}
+use Rattle.load_records.specs.laws.Cursors.{emitted-text}
+use Rattle.load_records.specs.laws.Tokens.{between-limit}
 use Rattle.load_passes.proofs.put.Statement.{statement}
 use Rattle.load_passes.proofs.put.Tie as tie
 
@@ -21,7 +21,9 @@ enum-told-2 : tie.Need-enum-told-2
 enum-told-2 c = search needs
 
 put-name-requires : tie.Need-put-name-requires
-put-name-requires c κs = (lies-at (c .before .before .before .before .before .before .before .before .before .pre .0 .here) (c .before .before .before .before .before .before .before .before .before .pre .0 .lie), c .before .before .before .before .before .before .before .before .before .pre .0 .near, omega (arith, c .before .before .before .before .before .before .before .before .before .pre .0 .lie .short))
+put-name-requires c κs =
+    let pre = c .before .before .before .before .before .before .before .before .before .pre in
+    (lies-at (pre .0 .here) (pre .0 .lie), pre .0 .bounded, omega (arith, pre .0 .lie .short))
 
 enum-told-3 : tie.Need-enum-told-3
 enum-told-3 c = search needs
@@ -45,25 +47,41 @@ enum-told-6 : tie.Need-enum-told-6
 enum-told-6 c = search needs
 
 put-reference-requires : tie.Need-put-reference-requires
-put-reference-requires c κs = (lies-at (c .before .before .before .before .before .before .before .before .before .pre .0 .here) (c .before .before .before .before .before .before .before .before .before .pre .0 .lie), c .before .before .before .before .before .before .before .before .before .pre .1, c .before .before .before .before .before .before .before .before .before .pre .0 .near, omega (arith, c .before .before .before .before .before .before .before .before .before .pre .0 .lie .short))
+put-reference-requires c κs =
+    let pre = c .before .before .before .before .before .before .before .before .before .pre in
+    (lies-at (pre .0 .here) (pre .0 .lie), pre .1, pre .0 .bounded, omega (arith, pre .0 .lie .short))
 
 enum-told-7 : tie.Need-enum-told-7
 enum-told-7 c = search needs
 
 text-requires : tie.Need-text-requires
-text-requires c κs = lies-at (c .before .before .before .before .before .before .before .before .pre .0 .here) (c .before .before .before .before .before .before .before .before .pre .0 .lie)
+text-requires c κs =
+    let pre = c .before .before .before .before .before .before .before .before .pre in
+    lies-at (pre .0 .here) (pre .0 .lie)
 
 put-string-requires : tie.Need-put-string-requires
-put-string-requires c κs = (c .before .before .before .before .before .before .before .before .before .before .pre .0 .near, let h : length (c .before .text .result .now) ≤ 16384 = rw (c .before .text .ensures) (between-light (c .before .before .before .before .before .before .before .before .before .before .args .s .now) (getD (c .before .before .before .before .before .before .before .before .before .before .args .starts .now) (c .before .before .before .before .before .before .before .before .before .before .args .i) 0) (getD (c .before .before .before .before .before .before .before .before .before .before .args .ends .now) (c .before .before .before .before .before .before .before .before .before .before .args .i) 0) (c .before .before .before .before .before .before .before .before .before .before .pre .0 .lie .short)) in omega arith)
+put-string-requires c κs =
+    let a = c .before .before .before .before .before .before .before .before .before .before .args in
+    let pre = c .before .before .before .before .before .before .before .before .before .before .pre in (
+      pre .0 .bounded,
+      let h : length (c .before .text .result .now) ≤ 16384 = rw (c .before .text .ensures) (between-limit (a .s .now) (getD (a .starts .now) (a .i) 0) (getD (a .ends .now) (a .i) 0) (pre .0 .lie .short)) in omega arith,
+    )
 
 enum-told-8 : tie.Need-enum-told-8
 enum-told-8 c = search needs
 
 text-requires-2 : tie.Need-text-requires-2
-text-requires-2 c κs = lies-at (c .before .before .before .before .before .before .before .before .pre .0 .here) (c .before .before .before .before .before .before .before .before .pre .0 .lie)
+text-requires-2 c κs =
+    let pre = c .before .before .before .before .before .before .before .before .pre in
+    lies-at (pre .0 .here) (pre .0 .lie)
 
 put-string-requires-2 : tie.Need-put-string-requires-2
-put-string-requires-2 c κs = (c .before .before .before .before .before .before .before .before .before .before .pre .0 .near, let h : length (c .before .text2 .result .now) ≤ 16384 = rw (c .before .text2 .ensures) (between-light (c .before .before .before .before .before .before .before .before .before .before .args .s .now) (getD (c .before .before .before .before .before .before .before .before .before .before .args .starts .now) (c .before .before .before .before .before .before .before .before .before .before .args .i) 0) (getD (c .before .before .before .before .before .before .before .before .before .before .args .ends .now) (c .before .before .before .before .before .before .before .before .before .before .args .i) 0) (c .before .before .before .before .before .before .before .before .before .before .pre .0 .lie .short)) in omega arith)
+put-string-requires-2 c κs =
+    let a = c .before .before .before .before .before .before .before .before .before .before .args in
+    let pre = c .before .before .before .before .before .before .before .before .before .before .pre in (
+      pre .0 .bounded,
+      let h : length (c .before .text2 .result .now) ≤ 16384 = rw (c .before .text2 .ensures) (between-limit (a .s .now) (getD (a .starts .now) (a .i) 0) (getD (a .ends .now) (a .i) 0) (pre .0 .lie .short)) in omega arith,
+    )
 
 enum-told-9 : tie.Need-enum-told-9
 enum-told-9 c = search needs
@@ -111,13 +129,18 @@ same-length-7 : tie.Need-same-length-7
 same-length-7 c = search needs
 
 returns-7 : tie.Need-returns-7
-returns-7 c = rw (c .before .before .before .before .before .enum-told7 .given .1) (drawn-text (unchanged (c .before .before .before .before .text .result .now) ∙ c .before .before .before .before .text .ensures) (c .before .before .put-string .ensures))
+returns-7 c =
+    let by-text = c .before .before .before .before .text in
+    rw (c .before .before .before .before .before .enum-told7 .given .1)
+    (emitted-text (unchanged (by-text .result .now) ∙ by-text .ensures) (c .before .before .put-string .ensures))
 
 same-length-8 : tie.Need-same-length-8
 same-length-8 c = search needs
 
 returns-8 : tie.Need-returns-8
-returns-8 c = rw (c .before .before .before .before .before .enum-told8 .given .1) (drawn-text (ap lowered (c .before .before .before .before .text2 .ensures)) (c .before .before .put-string2 .ensures))
+returns-8 c =
+    rw (c .before .before .before .before .before .enum-told8 .given .1)
+    (emitted-text (ap lowered (c .before .before .before .before .text2 .ensures)) (c .before .before .put-string2 .ensures))
 
 same-length-9 : tie.Need-same-length-9
 same-length-9 c = search needs

@@ -1,83 +1,75 @@
-use mathlib.Core.Bool.{Bool, true, false, cond, not}
-use mathlib.Core.List.{List, [], _∷_}
-use Prim.Native.Nat.{ℕ, suc, _+_, _*_, _≤_, _-_}
+-- How far a pass, and the passes of rules, move the cursor.
+use mathlib.Core.Bool.{not}
+use mathlib.Core.List.{List}
+use Prim.Native.Nat.{ℕ, _+_, _*_, _-_, _≤_}
 use native.Mathlib.Omega.{arith}
 use lib.ListN.{length}
-use Rattle.lists.specs.Every.{Every, cons, every-run}
+use Rattle.lists.specs.Every.{Every, every-run}
 use Rattle.grammar.specs.declared.Role.{Role}
 use Rattle.grammar.specs.declared.Role.the-variants.{AsgName, RuleWord, UagNamed, HagNamed}
 use Rattle.grammar.specs.Reading.{Said}
 use Rattle.file.specs.Contents.{says, until}
-use Rattle.texts.specs.Rolls.{Lie, arrays, tokens}
-use Rattle.load_flags.specs.Part.{cut}
-use Rattle.load_records.specs.declared.Pen.{Pen}
+use Rattle.texts.specs.Rolls.{Lie, arrays}
+use Rattle.load_flags.specs.Tokens.{cut, tokens-in}
+use Rattle.load_records.specs.declared.Cursor.{Cursor}
 use Rattle.load_records.specs.declared.Work.{Work}
-use Rattle.load_records.specs.Pen.{Near, Drawn}
+use Rattle.load_records.specs.Cursor.{Bounded, Emitted}
 use Rattle.load_records.specs.Record.{move}
-use Rattle.load_records.specs.laws.Bounds.{near-more, near-move}
-use Rattle.load_records.specs.laws.Tokens.{Light, tokens-light, tokens-length, run-length}
-use Rattle.load_passes.specs.Pass.{moves, rule-moves, refers-to}
-use Rattle.load_passes.specs.Passed.{stride}
+use Rattle.load_records.specs.laws.Bounds.{bounded-more, bounded-move}
+use Rattle.load_records.specs.laws.Tokens.{Short, run-length, tokens-length, tokens-short}
+use Rattle.load_passes.specs.Pass.{moves, refer-moves, rule-moves}
+use Rattle.load_passes.specs.Passed.{pass-reach}
+use Rattle.load_passes.specs.laws.Each.{each-bounded}
 
-module _ (q m : Role) (names : List (List ℕ)) where
-  pub near-moves : (w : Work) {b : ℕ} {p : Pen} (xs : List Said) → Every Light xs → length xs ≤ 16384 → Near b p → Near (b + 65536 * length xs) (moves q m names w xs p)
-  unfolding moves
-  near-moves w [] e l n = near-more (omega arith) n
-  near-moves w {b} {p} (x ∷ xs) (cons h e) l n =
-      go (says q x) (near-moves w xs e (omega arith) (near-move q m names w x {xs = xs} h e (omega arith) n)) (near-moves w xs e (omega arith) n)
-    where
-      go :
-          (t : Bool) → Near (b + 65536 + 65536 * length xs) (moves q m names w xs (move q m names w x xs p)) → Near (b + 65536 * length xs) (moves q m names w xs p)
-          → Near (b + 65536 * suc (length xs)) (cond t (moves q m names w xs (move q m names w x xs p)) (moves q m names w xs p))
-      go true there here = near-more (omega arith) there
-      go false there here = near-more (omega arith) here
+pub bounded-on : {b c : List ℕ} {k : ℕ} {p t r : Cursor} {bs : List ℕ} → Emitted b c p bs t r → Bounded k t → Bounded k r
+bounded-on d n = rw (d .moved) n
 
--- ---- a pass leaves the pen near
-
-pub near-on : {b c : List ℕ} {k : ℕ} {p t r : Pen} {bs : List ℕ} → Drawn b c p bs t r → Near k t → Near k r
-near-on d n = rw (d .moved) n
-
-pub near-tokens :
-    {s starts ends roles : List ℕ} {to : ℕ} (q m : Role) (names : List (List ℕ)) (w : Work) (from : ℕ) {k : ℕ} {p : Pen} → Lie s starts ends roles to → Near k p
-    → Near (k + stride) (moves q m names w (tokens s (arrays starts ends) roles from to) p)
-near-tokens {s} {starts} {ends} {roles} {to} q m names w from lie n =
-    let few = tokens-length s (arrays starts ends) roles from (to - from) in
-    let l : length (tokens s (arrays starts ends) roles from to) ≤ 16384 = omega (arith, few, lie .few) in
-    near-more (omega arith) (near-moves q m names w (tokens s (arrays starts ends) roles from to) (tokens-light s (arrays starts ends) roles from (to - from) (lie .short)) l n)
+bounded-moves :
+    (q m : Role) (names : List (List ℕ)) (w : Work) {b : ℕ} {p : Cursor} (xs : List Said) → Every Short xs → length xs ≤ 16384 → Bounded b p
+    → Bounded (b + 65536 * length xs) (moves q m names w xs p)
+bounded-moves q m names w = each-bounded q (move q m names w) 65536 (λ x xs b p h. bounded-move q m names w {b = b} {p = p} x {xs = xs} h)
 
 -- ---- what belongs to a rule
 
-pub cut-short : (xs : List Said) → length (cut RuleWord xs) ≤ length xs
-cut-short xs = omega (arith, run-length (λ x. not (says RuleWord x)) (until AsgName xs), run-length (λ x. not (says AsgName x)) xs)
+cut-length : (xs : List Said) → length (cut RuleWord xs) ≤ length xs
+cut-length xs = omega (arith, run-length (λ x. not (says RuleWord x)) (until AsgName xs), run-length (λ x. not (says AsgName x)) xs)
 
-pub cut-light : {xs : List Said} → Every Light xs → Every Light (cut RuleWord xs)
-cut-light e = every-run (λ x. not (says RuleWord x)) (every-run (λ x. not (says AsgName x)) e)
+cut-short-texts : {xs : List Said} → Every Short xs → Every Short (cut RuleWord xs)
+cut-short-texts e = every-run (λ x. not (says RuleWord x)) (every-run (λ x. not (says AsgName x)) e)
 
 module _ (w : Work) (us hs : List (List ℕ)) where
-  -- ---- the pen stays near
+  pub bounded-rule :
+      {b : ℕ} {p : Cursor} {xs : List Said} → Every Short xs → length xs ≤ 16384 → Bounded b p → Bounded (b + 2147483648)
+      (rule-moves w us hs (cut RuleWord xs) p)
+  bounded-rule {xs = xs} e l n =
+      let ys = cut RuleWord xs in
+      let f = cut-short-texts e in
+      let few : length ys ≤ 16384 = omega (arith, cut-length xs) in
+      bounded-more (omega arith) (bounded-moves HagNamed HagNamed hs w ys f few (bounded-moves UagNamed UagNamed us w ys f few n))
 
-  pub near-rule : {b : ℕ} {p : Pen} (ys : List Said) → Every Light ys → length ys ≤ 16384 → Near b p → Near (b + 2147483648) (rule-moves w us hs ys p)
-  near-rule ys e l n =
-      near-more (omega arith) (near-moves HagNamed HagNamed hs w ys e l (near-moves UagNamed UagNamed us w ys e l n))
+  bounded-refers :
+      {b : ℕ} {p : Cursor} (xs : List Said) → Every Short xs → length xs ≤ 16384 → Bounded b p → Bounded (b + 2147483648 * length xs) (refer-moves w us hs xs p)
+  bounded-refers = each-bounded RuleWord (λ x ys c. rule-moves w us hs (cut RuleWord ys) c) 2147483648 (λ x xs b p h. bounded-rule {b = b} {p = p} {xs = xs})
 
-  pub near-refers : {b : ℕ} {p : Pen} (xs : List Said) → Every Light xs → length xs ≤ 16384 → Near b p → Near (b + 2147483648 * length xs) (refers-to w us hs xs p)
-  unfolding refers-to
-  near-refers [] e l n = near-more (omega arith) n
-  near-refers {b} {p} (x ∷ xs) (cons h e) l n =
-      go (says RuleWord x)
-      (near-refers xs e (omega arith) (near-rule (cut RuleWord xs) (cut-light e) (omega (arith, cut-short xs)) n))
-      (near-refers xs e (omega arith) n)
-    where
-      go :
-          (t : Bool) → Near (b + 2147483648 + 2147483648 * length xs) (refers-to w us hs xs (rule-moves w us hs (cut RuleWord xs) p)) → Near (b + 2147483648 * length xs) (refers-to w us hs xs p)
-          → Near (b + 2147483648 * suc (length xs)) (cond t (refers-to w us hs xs (rule-moves w us hs (cut RuleWord xs) p)) (refers-to w us hs xs p))
-      go true there here = near-more (omega arith) there
-      go false there here = near-more (omega arith) here
+-- ---- the same for kept tokens
 
-pub near-back :
-    {s starts ends roles : List ℕ} {n : ℕ} (w : Work) (us hs : List (List ℕ)) (a : ℕ) {k : ℕ} {p g : Pen} {b c bs : List ℕ} → Lie s starts ends roles n → Near k p
-    → Drawn b c p bs (refers-to w us hs (tokens s (arrays starts ends) roles a n) p) g → Near (k + 35184372088832) g
-near-back {s} {starts} {ends} {roles} {n} w us hs a lie h d =
-    let few = tokens-length s (arrays starts ends) roles a (n - a) in
-    let l : length (tokens s (arrays starts ends) roles a n) ≤ 16384 = omega (arith, few, lie .few) in
-    rw (d .moved) (near-more (omega arith) (near-refers w us hs (tokens s (arrays starts ends) roles a n) (tokens-light s (arrays starts ends) roles a (n - a) (lie .short)) l h))
+module _ {s starts ends roles : List ℕ} {to : ℕ} (lie : Lie s starts ends roles to) where
+  pub tokens-few : (i : ℕ) → length (tokens-in s starts ends roles i to) ≤ 16384
+  tokens-few i = omega (arith, tokens-length s (arrays starts ends) roles i (to - i), lie .few)
+
+  pub tokens-all-short : (i : ℕ) → Every Short (tokens-in s starts ends roles i to)
+  tokens-all-short i = tokens-short s (arrays starts ends) roles i (to - i) (lie .short)
+
+  pub bounded-tokens :
+      (q m : Role) (names : List (List ℕ)) (w : Work) (i : ℕ) {k : ℕ} {p : Cursor} → Bounded k p
+      → Bounded (k + pass-reach) (moves q m names w (tokens-in s starts ends roles i to) p)
+  bounded-tokens q m names w i n =
+      let few = tokens-few i in
+      bounded-more (omega arith) (bounded-moves q m names w (tokens-in s starts ends roles i to) (tokens-all-short i) few n)
+
+  pub bounded-references :
+      (w : Work) (us hs : List (List ℕ)) (i : ℕ) {k : ℕ} {p g : Cursor} {b c bs : List ℕ} → Bounded k p
+      → Emitted b c p bs (refer-moves w us hs (tokens-in s starts ends roles i to) p) g → Bounded (k + 35184372088832) g
+  bounded-references w us hs i n d =
+      let few = tokens-few i in
+      bounded-on d (bounded-more (omega arith) (bounded-refers w us hs (tokens-in s starts ends roles i to) (tokens-all-short i) few n))

@@ -8,11 +8,11 @@ use Rattle.lists.specs.SameLaws.{unchanged}
 use Rattle.grammar.specs.Reading.{Said}
 use Rattle.kept.specs.Kept.{role-of-number}
 use Rattle.texts.specs.Rolls.{arrays, lie-less}
-use Rattle.load_flags.specs.Part.{first-text}
+use Rattle.load_flags.specs.Tokens.{first-text}
+use Rattle.load_records.specs.laws.Cursors.{emitted-text}
+use Rattle.load_records.specs.laws.Tokens.{cut-is, first-short, gap-end, tokens-short}
 use Rattle.load_records.proofs.put_first.Statement.{statement}
 use Rattle.load_records.proofs.put_first.Tie as tie
-use Rattle.load_records.specs.laws.Pens.{drawn-text}
-use Rattle.load_records.specs.laws.Tokens.{first-light, tokens-light, gap-end, cut-is}
 
 add-next : tie.Need-add-next
 add-next c = search needs
@@ -24,16 +24,38 @@ add-first-text : tie.Need-add-first-text
 add-first-text c = search needs
 
 first-text-requires : tie.Need-first-text-requires
-first-text-requires c κs = (lie-less (gap-end (c .before .before .before .before .before .before .args .q) 5 (c .before .before .before .before .before .before .args .roles .now) (c .before .before .before .before .before .before .args .i + 1) (c .before .before .before .before .before .before .args .to) (c .next .result) (omega (arith, c .before .before .before .before .before .before .pre .here)) (c .next .ensures)) (c .before .before .before .before .before .before .pre .lie), c .before .before .before .before .before .before .pre .part)
+first-text-requires c κs =
+    let a = c .before .before .before .before .before .before .args in
+    let pre = c .before .before .before .before .before .before .pre in (
+      lie-less (gap-end (a .q) 5 (a .roles .now) (a .i + 1) (a .to) (c .next .result) (omega (arith, pre .here)) (c .next .ensures)) (pre .lie),
+      pre .part,
+    )
 
 put-string-requires : tie.Need-put-string-requires
-put-string-requires c κs = (c .before .before .before .before .before .before .before .before .pre .near, let h : length (c .before .first-text .result .now) ≤ 16384 = rw (c .before .first-text .ensures) (first-light (role-of-number (c .before .before .before .before .before .before .before .before .args .m)) (tokens-light (c .before .before .before .before .before .before .before .before .args .s .now) (arrays (c .before .before .before .before .before .before .before .before .args .starts .now) (c .before .before .before .before .before .before .before .before .args .ends .now)) (c .before .before .before .before .before .before .before .before .args .roles .now) (c .before .before .before .before .before .before .before .before .args .i + 1) ((c .before .before .next .result) - (c .before .before .before .before .before .before .before .before .args .i + 1)) (c .before .before .before .before .before .before .before .before .pre .lie .short))) in omega arith)
+put-string-requires c κs =
+    let a = c .before .before .before .before .before .before .before .before .args in
+    let pre = c .before .before .before .before .before .before .before .before .pre in (
+      pre .bounded,
+      let h : length (c .before .first-text .result .now) ≤ 16384 = rw (c .before .first-text .ensures) (first-short (role-of-number (a .m)) (tokens-short (a .s .now) (arrays (a .starts .now) (a .ends .now)) (a .roles .now) (a .i + 1) ((c .before .before .next .result) - (a .i + 1)) (pre .lie .short))) in omega arith,
+    )
 
 same-length : tie.Need-same-length
 same-length c = search needs
 
 returns : tie.Need-returns
-returns c = drawn-text (unchanged (c .before .before .before .before .first-text .result .now) ∙ c .before .before .before .before .first-text .ensures ∙ ap (λ (x : List Said). first-text (role-of-number (c .before .before .before .before .before .before .before .before .before .before .before .args .m)) x) (sym (cut-is (c .before .before .before .before .before .before .before .before .before .before .before .args .s .now) (arrays (c .before .before .before .before .before .before .before .before .before .before .before .args .starts .now) (c .before .before .before .before .before .before .before .before .before .before .before .args .ends .now)) (c .before .before .before .before .before .before .before .before .before .before .before .args .roles .now) (c .before .before .before .before .before .before .before .before .before .before .before .args .q) (c .before .before .before .before .before .before .before .before .before .before .before .args .m) (c .before .before .before .before .before .before .before .before .before .before .before .args .i + 1) (c .before .before .before .before .before .before .before .before .before .before .before .args .to) (c .before .before .before .before .before .next .result) (c .before .before .before .before .before .before .before .before .before .before .before .pre .head) (c .before .before .before .before .before .before .before .before .before .before .before .pre .part) (c .before .before .before .before .before .next .ensures)))) (c .before .before .put-string .ensures)
+returns c =
+    let a = c .before .before .before .before .before .before .before .before .before .before .before .args in
+    let by-first-text = c .before .before .before .before .first-text in
+    let end = c .before .before .before .before .before .next in
+    let pre = c .before .before .before .before .before .before .before .before .before .before .before .pre in
+    emitted-text
+    (unchanged (by-first-text .result .now)
+    ∙ by-first-text .ensures
+    ∙ ap (λ (x : List Said). first-text (role-of-number (a .m)) x)
+    (sym
+    (cut-is (a .s .now) (arrays (a .starts .now) (a .ends .now)) (a .roles .now) (a .q) (a .m) (a .i + 1) (a .to) (end .result) (pre .head)
+    (pre .part) (end .ensures))))
+    (c .before .before .put-string .ensures)
 
 pub put-first-spec : {M : Type 1} → statement M
 put-first-spec =

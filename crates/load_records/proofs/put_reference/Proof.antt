@@ -6,10 +6,10 @@ use native.Mathlib.Omega.{arith}
 use lib.ListN.{getD}
 use borrow.Author.Needs.{needs}
 use Rattle.lists.specs.Words.{spelled-out}
+use Rattle.load_records.specs.laws.Cursors.{emitted}
+use Rattle.load_records.specs.laws.Tokens.{between-short}
 use Rattle.load_records.proofs.put_reference.Statement.{statement}
 use Rattle.load_records.proofs.put_reference.Tie as tie
-use Rattle.load_records.specs.laws.Pens.{drawn}
-use Rattle.load_records.specs.laws.Tokens.{between-short}
 
 long-requires : tie.Need-long-requires
 long-requires c κs = search needs
@@ -21,13 +21,25 @@ put-three-requires : tie.Need-put-three-requires
 put-three-requires c κs = search needs
 
 add-t12 : tie.Need-add-t12
-add-t12 c = omega (arith, c .before .before .before .before .before .before .before .before .before .before .before .before .pre .2 .off-near, c .before .before .before .before .before .before .long .ensures, between-short (c .before .before .before .before .before .before .before .before .before .before .before .before .args .s .now) (getD (c .before .before .before .before .before .before .before .before .before .before .before .before .args .starts .now) (c .before .before .before .before .before .before .before .before .before .before .before .before .args .i) 0) (getD (c .before .before .before .before .before .before .before .before .before .before .before .before .args .ends .now) (c .before .before .before .before .before .before .before .before .before .before .before .before .args .i) 0))
+add-t12 c =
+    let a = c .before .before .before .before .before .before .before .before .before .before .before .before .args in
+    omega (
+      arith,
+      c .before .before .before .before .before .before .before .before .before .before .before .before .pre .2 .string-bound,
+      c .before .before .before .before .before .before .long .ensures,
+      between-short (a .s .now) (getD (a .starts .now) (a .i) 0) (getD (a .ends .now) (a .i) 0),
+    )
 
 same-length : tie.Need-same-length
 same-length c = search needs
 
 returns : tie.Need-returns
-returns c = drawn (c .before .before .before .put-three .ensures) (ap₂ (λ (k n : ℕ). spelled-out (k ∷ (c .before .before .before .before .before .before .before .before .before .before .before .before .args .p .off) ∷ n ∷ [])) (c .before .before .before .before .number-of .ensures) (c .before .before .before .before .before .before .long .ensures)) (ap (λ (n : ℕ). (c .before .before .before .before .before .before .before .before .before .before .before .before .args .p .off) + n) (c .before .before .before .before .before .before .long .ensures)) (sym (add-zero _)) (sym (add-zero _))
+returns c =
+    let a = c .before .before .before .before .before .before .before .before .before .before .before .before .args in
+    let by-long = c .before .before .before .before .before .before .long in
+    emitted (c .before .before .before .put-three .ensures)
+    (ap₂ (λ (k n : ℕ). spelled-out (k ∷ (a .p .string) ∷ n ∷ [])) (c .before .before .before .before .number-of .ensures) (by-long .ensures))
+    (ap (λ (n : ℕ). (a .p .string) + n) (by-long .ensures)) (sym (add-zero _)) (sym (add-zero _))
 
 pub put-reference-spec : {M : Type 1} → statement M
 put-reference-spec =

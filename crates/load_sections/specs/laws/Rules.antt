@@ -1,46 +1,37 @@
-use mathlib.Core.Bool.{Bool, true, false, cond}
-use mathlib.Core.List.{List, _++_, map, _∷_, []}
-use mathlib.Core.Option.{Option, none, some}
+-- The section of rules has 14 bytes for each.
+use mathlib.Core.List.{List, _∷_, []}
 use mathlib.Core.Path.{_≡_, refl}
 use Prim.Native.Nat.{ℕ, _*_, _+_}
 use native.Mathlib.Omega.{arith}
 use lib.ListN.{length, length-append}
-use Rattle.lists.specs.Select.{prepend-if, select}
-use Rattle.lists.specs.Words.{spelled-out}
+use Rattle.lists.specs.Runs.{Run}
 use Rattle.grammar.specs.declared.Role.{Role}
 use Rattle.grammar.specs.declared.Role.the-variants.{UagNamed, HagNamed}
 use Rattle.grammar.specs.Reading.{Said}
-use Rattle.file.specs.Contents.{text, texts, head-of, rule-text, says}
-use Rattle.table.specs.Written.{flags, calculation-words}
-use Rattle.load_flags.specs.Part.{cut, size, first-text}
-use Rattle.load_records.specs.declared.Pen.{Pen}
+use Rattle.file.specs.Contents.{texts, head-of, rule-text}
+use Rattle.table.specs.Written.{flags}
+use Rattle.load_flags.specs.Tokens.{cut, first-text, size}
+use Rattle.load_records.specs.declared.Cursor.{Cursor}
 use Rattle.load_records.specs.declared.Work.the-variants.{Rules}
 use Rattle.load_records.specs.Record.{emit, move}
-use Rattle.load_passes.specs.Pass.{emits}
-
--- ---- a rule has 14 bytes
-
-fourteen :
-    (b : Bool) (es fs gs : List ℕ) (x : Said) (xs : List Said) → length es ≡ 14 → length fs ≡ 14 * length (map text xs) → length gs ≡ 14 * length (map text xs)
-    → length (cond b (es ++ fs) gs) ≡ 14 * length (map text (prepend-if b x xs))
-fourteen true es fs gs x xs e g h = omega (arith, length-append es fs)
-fourteen false es fs gs x xs e g h = h
+use Rattle.load_records.specs.laws.Rules.{rule-length}
+use Rattle.load_passes.specs.Pass.{each-emits, emits}
+use Rattle.load_passes.specs.laws.Each.{by-says}
 
 module _ (q m : Role) (names : List (List ℕ)) where
-  rule-bytes : (x : Said) (xs : List Said) (p : Pen) → length (emit q m names Rules x xs p) ≡ 14
-  rule-bytes x xs p = go (head-of (texts m (cut q xs)))
-    where
-      go :
-          (o : Option (List ℕ))
-          → length (spelled-out (flags (rule-text (cut q xs)) ∷ p .first ∷ size UagNamed (cut q xs) ∷ (p .first + size UagNamed (cut q xs)) ∷ size HagNamed (cut q xs) ∷ calculation-words o (record { first = p .off; count = length (first-text m (cut q xs)) })))
-          ≡ 14
-      go none = refl
-      go (some t) = refl
+  one-rule : (x : Said) (xs : List Said) (p : Cursor) → length (emit q m names Rules x xs p) ≡ 14
+  one-rule x xs p =
+      let r : Run = record { first = p .string; count = length (first-text m (cut q xs)) } in
+      let u = size UagNamed (cut q xs) in
+      rule-length (flags (rule-text (cut q xs))) (p .first) u (p .first + u) (size HagNamed (cut q xs)) (head-of (texts m (cut q xs))) r
 
-  pub rules-bytes : (xs : List Said) (p : Pen) → length (emits q m names Rules xs p) ≡ 14 * size q xs
-  unfolding emits
+  pub rules-bytes : (xs : List Said) (p : Cursor) → length (emits q m names Rules xs p) ≡ 14 * size q xs
+  unfolding each-emits
   rules-bytes [] p = refl
   rules-bytes (x ∷ xs) p =
-      let t : Pen = move q m names Rules x xs p in
-      fourteen (says q x) (emit q m names Rules x xs p) (emits q m names Rules xs t) (emits q m names Rules xs p) x (select (says q) xs)
-      (rule-bytes x xs p) (rules-bytes xs t) (rules-bytes xs p)
+      let t = move q m names Rules x xs p in
+      by-says
+      q
+      x
+      (λ s. rw s (omega (arith, one-rule x xs p, rules-bytes xs t, length-append (emit q m names Rules x xs p) (emits q m names Rules xs t))))
+      (λ s. rw s (rules-bytes xs p))

@@ -7,21 +7,45 @@ use lib.ListN.{length}
 use Rattle.lists.specs.Select.{nonempty, select}
 use Rattle.lists.specs.Words.{spelled-out}
 use Rattle.grammar.specs.declared.Role.{Role}
-use Rattle.grammar.specs.declared.Role.the-variants.{AsgName, UnknownPredicate, Level, Permission, LogOption, Input, RuleWord, UagNamed, HagNamed, UagName, User, HagName, Host, Pvname, Calculation}
+use Rattle.grammar.specs.declared.Role.the-variants.{AsgName, UnknownPredicate, Level, Permission, LogOption, Input, RuleWord, UagNamed, HagNamed, UagName}
+use Rattle.grammar.specs.declared.Role.the-variants.{User, HagName, Host, Pvname, Calculation}
 use Rattle.grammar.specs.Reading.{Said}
 use Rattle.file.specs.Contents.{until, says, texts, place, rule-text}
-use Rattle.table.specs.Layout.{form, header-bytes}
+use Rattle.table.specs.Layout.{header-bytes}
 use Rattle.table.specs.Written.{flags}
 use Rattle.texts.specs.Bare.{bare, until-bare, after-bare, texts-bare, select-bare}
-use Rattle.load_flags.specs.Part.{cut, size}
-use Rattle.load_records.specs.declared.Pen.{Pen}
+use Rattle.load_flags.specs.Tokens.{cut, size}
+use Rattle.load_records.specs.declared.Cursor.{Cursor}
 use Rattle.load_records.specs.declared.Work.{Work}
 use Rattle.load_records.specs.declared.Work.the-variants.{Groups, Names, Access, Inputs, Rules, References, Texts, Lowered, Firsts}
-use Rattle.load_records.specs.Pen.{pen}
-use Rattle.load_records.specs.Record.{emit, named, firsts, seconds, move}
-use Rattle.load_passes.specs.Pass.{emits, moves, rule-moves, rule-emits, refers, refers-to}
-use Rattle.load_sections.specs.Sections.{from, afresh}
-use Rattle.writer.specs.Chain.{pen-0, pen-1, pen-2, pen-users, pen-3, pen-4, pen-5, behind-rules, pen-7, before-rules, pen-6, first-records, rule-records, reference-records, strings, body, header-words, whole-table}
+use Rattle.load_records.specs.Cursor.{cursor}
+use Rattle.load_records.specs.Record.{emit, firsts, move, named, seconds}
+use Rattle.load_passes.specs.Pass.{each-emits, each-moves, emits, moves, refer-emits, refer-moves, rule-emits, rule-moves}
+use Rattle.load_sections.specs.Sections.{at-references, at-rules, behind-1, behind-2, behind-4, behind-6, behind-users, bytes-1-3, bytes-4-5, bytes-6}
+use Rattle.load_sections.specs.Sections.{bytes-7, from, new-runs}
+use Rattle.load_sections.specs.Strings.{zero-cursor}
+use Rattle.writer.specs.Passes.{body, cursor-0, cursor-3, cursor-5, cursor-7, header-words, strings, whole-table}
+use Rattle.writer.specs.laws.Header.{same-words}
+
+-- ---- each token of a role
+
+module _ (q : Role) (e : Said → List Said → Cursor → List ℕ) (m : Said → List Said → Cursor → Cursor) where
+  each-moves-bare :
+      ((x : Said) (xs : List Said) (p : Cursor) → m (bare x) (map bare xs) p ≡ m x xs p) → (xs : List Said) (p : Cursor)
+      → each-moves q m (map bare xs) p ≡ each-moves q m xs p
+  unfolding each-moves
+  each-moves-bare one [] p = refl
+  each-moves-bare one (x ∷ xs) p = rw (one x xs p, each-moves-bare one xs (m x xs p), each-moves-bare one xs p)
+
+  each-emits-bare :
+      ((x : Said) (xs : List Said) (p : Cursor) → e (bare x) (map bare xs) p ≡ e x xs p)
+      → ((x : Said) (xs : List Said) (p : Cursor) → m (bare x) (map bare xs) p ≡ m x xs p) → (xs : List Said) (p : Cursor)
+      → each-emits q e m (map bare xs) p ≡ each-emits q e m xs p
+  unfolding each-emits
+  each-emits-bare one on [] p = refl
+  each-emits-bare one on (x ∷ xs) p = rw (on x xs p, one x xs p, each-emits-bare one on xs (m x xs p), each-emits-bare one on xs p)
+
+-- ---- one token
 
 cut-bare : (q : Role) (xs : List Said) → cut q (map bare xs) ≡ map bare (cut q xs)
 cut-bare q xs = ap (until q) (until-bare AsgName xs) ∙ until-bare q (until AsgName xs)
@@ -41,7 +65,9 @@ some-bare [] = refl
 some-bare (x ∷ xs) = refl
 
 unknown-bare : (ys : List Said) → nonempty (map place (select (says UnknownPredicate) (map bare ys))) ≡ nonempty (map place (select (says UnknownPredicate) ys))
-unknown-bare ys = ap (λ (l : List Said). nonempty (map place l)) (select-bare (says UnknownPredicate) (λ x. refl) ys) ∙ some-bare (select (says UnknownPredicate) ys)
+unknown-bare ys =
+    ap (λ (l : List Said). nonempty (map place l)) (select-bare (says UnknownPredicate) (λ x. refl) ys)
+    ∙ some-bare (select (says UnknownPredicate) ys)
 
 flags-bare : (ys : List Said) → flags (rule-text (map bare ys)) ≡ flags (rule-text ys)
 flags-bare ys = rw (texts-bare Level ys, texts-bare Permission ys, texts-bare LogOption ys, unknown-bare ys)
@@ -50,7 +76,7 @@ flags-cut : (q : Role) (xs : List Said) → flags (rule-text (cut q (map bare xs
 flags-cut q xs = ap (λ (l : List Said). flags (rule-text l)) (cut-bare q xs) ∙ flags-bare (cut q xs)
 
 module _ (q m : Role) (names : List (List ℕ)) where
-  emit-bare : (w : Work) (x : Said) (xs : List Said) (p : Pen) → emit q m names w (bare x) (map bare xs) p ≡ emit q m names w x xs p
+  emit-bare : (w : Work) (x : Said) (xs : List Said) (p : Cursor) → emit q m names w (bare x) (map bare xs) p ≡ emit q m names w x xs p
   emit-bare Groups x xs p = rw (until-texts q m xs)
   emit-bare Names x xs p = refl
   emit-bare Access x xs p = rw (until-texts q Input xs, until-texts q RuleWord xs)
@@ -94,49 +120,52 @@ module _ (q m : Role) (names : List (List ℕ)) where
   seconds-bare Lowered x xs = refl
   seconds-bare Firsts x xs = refl
 
-  move-bare : (w : Work) (x : Said) (xs : List Said) (p : Pen) → move q m names w (bare x) (map bare xs) p ≡ move q m names w x xs p
+  move-bare : (w : Work) (x : Said) (xs : List Said) (p : Cursor) → move q m names w (bare x) (map bare xs) p ≡ move q m names w x xs p
   move-bare w x xs p = rw (emit-bare w x xs p, named-bare w x xs, firsts-bare w x xs, seconds-bare w x xs)
 
-  pub emits-bare : (w : Work) (xs : List Said) (p : Pen) → emits q m names w (map bare xs) p ≡ emits q m names w xs p
-  unfolding emits
-  emits-bare w [] p = refl
-  emits-bare w (x ∷ xs) p =
-      rw (move-bare w x xs p, emit-bare w x xs p, emits-bare w xs (move q m names w x xs p), emits-bare w xs p)
+  emits-bare : (w : Work) (xs : List Said) (p : Cursor) → emits q m names w (map bare xs) p ≡ emits q m names w xs p
+  emits-bare w = each-emits-bare q (emit q m names w) (move q m names w) (emit-bare w) (move-bare w)
 
-  pub moves-bare : (w : Work) (xs : List Said) (p : Pen) → moves q m names w (map bare xs) p ≡ moves q m names w xs p
-  unfolding moves
-  moves-bare w [] p = refl
-  moves-bare w (x ∷ xs) p = rw (move-bare w x xs p, moves-bare w xs (move q m names w x xs p), moves-bare w xs p)
+  moves-bare : (w : Work) (xs : List Said) (p : Cursor) → moves q m names w (map bare xs) p ≡ moves q m names w xs p
+  moves-bare w = each-moves-bare q (emit q m names w) (move q m names w) (move-bare w)
 
 module _ (w : Work) (us hs : List (List ℕ)) where
-  rule-moves-bare : (ys : List Said) (p : Pen) → rule-moves w us hs (map bare ys) p ≡ rule-moves w us hs ys p
-  rule-moves-bare ys p = rw (moves-bare UagNamed UagNamed us w ys p, moves-bare HagNamed HagNamed hs w ys (moves UagNamed UagNamed us w ys p))
+  abbrev rule-e : Said → List Said → Cursor → List ℕ
+  rule-e x xs p = rule-emits w us hs (cut RuleWord xs) p
 
-  rule-emits-bare : (ys : List Said) (p : Pen) → rule-emits w us hs (map bare ys) p ≡ rule-emits w us hs ys p
-  rule-emits-bare ys p =
-      rw (emits-bare UagNamed UagNamed us w ys p, moves-bare UagNamed UagNamed us w ys p, emits-bare HagNamed HagNamed hs w ys (moves UagNamed UagNamed us w ys p))
+  abbrev rule-m : Said → List Said → Cursor → Cursor
+  rule-m x xs p = rule-moves w us hs (cut RuleWord xs) p
 
-  refers-bare : (xs : List Said) (p : Pen) → refers w us hs (map bare xs) p ≡ refers w us hs xs p
-  unfolding refers
-  refers-bare [] p = refl
-  refers-bare (x ∷ xs) p =
-      rw (cut-bare RuleWord xs, rule-emits-bare (cut RuleWord xs) p, rule-moves-bare (cut RuleWord xs) p, refers-bare xs (rule-moves w us hs (cut RuleWord xs) p), refers-bare xs p)
+  rule-moves-bare : (x : Said) (xs : List Said) (p : Cursor) → rule-m (bare x) (map bare xs) p ≡ rule-m x xs p
+  rule-moves-bare x xs p =
+      let ys = cut RuleWord xs in
+      rw (cut-bare RuleWord xs, moves-bare UagNamed UagNamed us w ys p, moves-bare HagNamed HagNamed hs w ys (moves UagNamed UagNamed us w ys p))
 
-  refers-to-bare : (xs : List Said) (p : Pen) → refers-to w us hs (map bare xs) p ≡ refers-to w us hs xs p
-  unfolding refers-to
-  refers-to-bare [] p = refl
-  refers-to-bare (x ∷ xs) p =
-      rw (cut-bare RuleWord xs, rule-moves-bare (cut RuleWord xs) p, refers-to-bare xs (rule-moves w us hs (cut RuleWord xs) p), refers-to-bare xs p)
+  rule-emits-bare : (x : Said) (xs : List Said) (p : Cursor) → rule-e (bare x) (map bare xs) p ≡ rule-e x xs p
+  rule-emits-bare x xs p =
+      let ys = cut RuleWord xs in
+      rw (
+        cut-bare RuleWord xs,
+        emits-bare UagNamed UagNamed us w ys p,
+        moves-bare UagNamed UagNamed us w ys p,
+        emits-bare HagNamed HagNamed hs w ys (moves UagNamed UagNamed us w ys p),
+      )
+
+  refer-emits-bare : (xs : List Said) (p : Cursor) → refer-emits w us hs (map bare xs) p ≡ refer-emits w us hs xs p
+  refer-emits-bare = each-emits-bare RuleWord rule-e rule-m rule-emits-bare rule-moves-bare
+
+  refer-moves-bare : (xs : List Said) (p : Cursor) → refer-moves w us hs (map bare xs) p ≡ refer-moves w us hs xs p
+  refer-moves-bare = each-moves-bare RuleWord rule-e rule-m rule-moves-bare
 
 -- a pass over tokens from the first of a role on
-module _ (r q m : Role) (w : Work) (xs : List Said) {p : Pen} (p′ : Pen) where
+module _ (r q m : Role) (w : Work) (xs : List Said) {p : Cursor} (p′ : Cursor) where
   from-moves : p ≡ p′ → moves q m [] w (from r (map bare xs)) p ≡ moves q m [] w (from r xs) p′
-  from-moves e = ap₂ (λ (l : List Said) (o : Pen). moves q m [] w l o) (from-bare r xs) e ∙ moves-bare q m [] w (from r xs) p′
+  from-moves e = ap₂ (λ (l : List Said) (o : Cursor). moves q m [] w l o) (from-bare r xs) e ∙ moves-bare q m [] w (from r xs) p′
 
   from-emits : p ≡ p′ → emits q m [] w (from r (map bare xs)) p ≡ emits q m [] w (from r xs) p′
-  from-emits e = ap₂ (λ (l : List Said) (o : Pen). emits q m [] w l o) (from-bare r xs) e ∙ emits-bare q m [] w (from r xs) p′
+  from-emits e = ap₂ (λ (l : List Said) (o : Cursor). emits q m [] w l o) (from-bare r xs) e ∙ emits-bare q m [] w (from r xs) p′
 
-module _ (q m : Role) (w : Work) (xs : List Said) {p : Pen} (p′ : Pen) where
+module _ (q m : Role) (w : Work) (xs : List Said) {p : Cursor} (p′ : Cursor) where
   all-moves : p ≡ p′ → moves q m [] w (map bare xs) p ≡ moves q m [] w xs p′
   all-moves e = ap (moves q m [] w (map bare xs)) e ∙ moves-bare q m [] w xs p′
 
@@ -149,113 +178,122 @@ from-size r q xs = ap length (ap (texts q) (from-bare r xs) ∙ texts-bare q (fr
 all-size : (q : Role) (xs : List Said) → size q (map bare xs) ≡ size q xs
 all-size q xs = ap length (texts-bare q xs)
 
+-- ---- the parts of a table
+
+four : {a b c d a′ b′ c′ d′ : List ℕ} → a ≡ a′ → b ≡ b′ → c ≡ c′ → d ≡ d′ → a ++ (b ++ (c ++ d)) ≡ a′ ++ (b′ ++ (c′ ++ d′))
+four g h i j = cc
+
 module _ (us hs : List (List ℕ)) (xs : List Said) where
-  pen-1-bare : pen-1 us hs (map bare xs) ≡ pen-1 us hs xs
-  pen-1-bare = all-moves UagName User Groups xs (pen-0 us hs xs) refl
+  abbrev zs : List Said
+  zs = map bare xs
 
-  pen-2-bare : pen-2 us hs (map bare xs) ≡ pen-2 us hs xs
-  pen-2-bare = all-moves HagName Host Groups xs (pen-1 us hs xs) pen-1-bare
+  abbrev cursor-1 : Cursor
+  cursor-1 = behind-1 xs (cursor-0 us hs xs)
 
-  pen-users-bare : pen-users us hs (map bare xs) ≡ pen-users us hs xs
-  pen-users-bare = from-moves UagName User User Names xs (pen-2 us hs xs) pen-2-bare
+  abbrev cursor-2 : Cursor
+  cursor-2 = behind-2 xs (cursor-0 us hs xs)
 
-  pen-3-bare : pen-3 us hs (map bare xs) ≡ pen-3 us hs xs
-  pen-3-bare = from-moves HagName Host Host Names xs (pen-users us hs xs) pen-users-bare
+  abbrev cursor-users : Cursor
+  cursor-users = behind-users xs (cursor-0 us hs xs)
 
-  pen-4-bare : pen-4 us hs (map bare xs) ≡ pen-4 us hs xs
-  pen-4-bare = all-moves AsgName AsgName Access xs (afresh (pen-3 us hs xs)) (ap afresh pen-3-bare)
+  abbrev cursor-4 : Cursor
+  cursor-4 = behind-4 xs (cursor-3 us hs xs)
 
-  pen-5-bare : pen-5 us hs (map bare xs) ≡ pen-5 us hs xs
-  pen-5-bare = from-moves AsgName Input Pvname Inputs xs (pen-4 us hs xs) pen-4-bare
+  cursor-1-bare : behind-1 zs (cursor-0 us hs zs) ≡ cursor-1
+  cursor-1-bare = all-moves UagName User Groups xs (cursor-0 us hs xs) refl
 
-  behind-bare : behind-rules us hs (map bare xs) ≡ behind-rules us hs xs
-  behind-bare = ap₂ (λ (p : Pen) (k : ℕ). pen (p .at + 14 * k) (p .off) 0 0) pen-5-bare (from-size AsgName RuleWord xs)
+  cursor-2-bare : behind-2 zs (cursor-0 us hs zs) ≡ cursor-2
+  cursor-2-bare = all-moves HagName Host Groups xs cursor-1 cursor-1-bare
 
-  pen-7-bare : pen-7 us hs (map bare xs) ≡ pen-7 us hs xs
-  pen-7-bare =
-      ap₂ (λ (l : List Said) (p : Pen). refers-to References us hs l p) (from-bare AsgName xs) behind-bare
-      ∙ refers-to-bare References us hs (from AsgName xs) (behind-rules us hs xs)
+  cursor-users-bare : behind-users zs (cursor-0 us hs zs) ≡ cursor-users
+  cursor-users-bare = from-moves UagName User User Names xs cursor-2 cursor-2-bare
 
-  before-bare : before-rules us hs (map bare xs) ≡ before-rules us hs xs
-  before-bare = ap₂ (λ (p r : Pen). pen (p .at) (r .off) 0 0) pen-5-bare pen-7-bare
+  cursor-3-bare : cursor-3 us hs zs ≡ cursor-3 us hs xs
+  cursor-3-bare = from-moves HagName Host Host Names xs cursor-users cursor-users-bare
 
-  pen-6-bare : pen-6 us hs (map bare xs) ≡ pen-6 us hs xs
-  pen-6-bare = from-moves AsgName RuleWord Calculation Rules xs (before-rules us hs xs) before-bare
+  cursor-4-bare : behind-4 zs (cursor-3 us hs zs) ≡ cursor-4
+  cursor-4-bare = all-moves AsgName AsgName Access xs (new-runs (cursor-3 us hs xs)) (ap new-runs cursor-3-bare)
 
-  first-bare : first-records us hs (map bare xs) ≡ first-records us hs xs
-  first-bare =
-      six
-      (all-emits UagName User Groups xs (pen-0 us hs xs) refl)
-      (all-emits HagName Host Groups xs (pen-1 us hs xs) pen-1-bare)
-      (from-emits UagName User User Names xs (pen-2 us hs xs) pen-2-bare)
-      (from-emits HagName Host Host Names xs (pen-users us hs xs) pen-users-bare)
-      (all-emits AsgName AsgName Access xs (afresh (pen-3 us hs xs)) (ap afresh pen-3-bare))
-      (from-emits AsgName Input Pvname Inputs xs (pen-4 us hs xs) pen-4-bare)
-    where
-      six : {a b c d e f a′ b′ c′ d′ e′ f′ : List ℕ} → a ≡ a′ → b ≡ b′ → c ≡ c′ → d ≡ d′ → e ≡ e′ → f ≡ f′ → a ++ (b ++ (c ++ (d ++ (e ++ f)))) ≡ a′ ++ (b′ ++ (c′ ++ (d′ ++ (e′ ++ f′))))
-      six g h i j k l = cc
+  cursor-5-bare : cursor-5 us hs zs ≡ cursor-5 us hs xs
+  cursor-5-bare = from-moves AsgName Input Pvname Inputs xs cursor-4 cursor-4-bare
 
-  rules-bare : rule-records us hs (map bare xs) ≡ rule-records us hs xs
-  rules-bare = from-emits AsgName RuleWord Calculation Rules xs (before-rules us hs xs) before-bare
+  references-at-bare : at-references us hs zs (cursor-5 us hs zs) ≡ at-references us hs xs (cursor-5 us hs xs)
+  references-at-bare = ap₂ (λ (p : Cursor) (k : ℕ). cursor (p .at + 14 * k) (p .string) 0 0) cursor-5-bare (from-size AsgName RuleWord xs)
 
-  references-bare : reference-records us hs (map bare xs) ≡ reference-records us hs xs
+  cursor-7-bare : cursor-7 us hs zs ≡ cursor-7 us hs xs
+  cursor-7-bare =
+      ap₂ (λ (l : List Said) (p : Cursor). refer-moves References us hs l p) (from-bare AsgName xs) references-at-bare
+      ∙ refer-moves-bare References us hs (from AsgName xs) (at-references us hs xs (cursor-5 us hs xs))
+
+  rules-at-bare : at-rules us hs zs (cursor-5 us hs zs) ≡ at-rules us hs xs (cursor-5 us hs xs)
+  rules-at-bare = ap₂ (λ (p r : Cursor). cursor (p .at) (r .string) 0 0) cursor-5-bare cursor-7-bare
+
+  cursor-6-bare : behind-6 us hs zs (cursor-5 us hs zs) ≡ behind-6 us hs xs (cursor-5 us hs xs)
+  cursor-6-bare = from-moves AsgName RuleWord Calculation Rules xs (at-rules us hs xs (cursor-5 us hs xs)) rules-at-bare
+
+  groups-bare : bytes-1-3 zs (cursor-0 us hs zs) ≡ bytes-1-3 xs (cursor-0 us hs xs)
+  groups-bare =
+      four
+      (all-emits UagName User Groups xs (cursor-0 us hs xs) refl)
+      (all-emits HagName Host Groups xs cursor-1 cursor-1-bare)
+      (from-emits UagName User User Names xs cursor-2 cursor-2-bare)
+      (from-emits HagName Host Host Names xs cursor-users cursor-users-bare)
+
+  access-bare : bytes-4-5 zs (cursor-3 us hs zs) ≡ bytes-4-5 xs (cursor-3 us hs xs)
+  access-bare =
+      ap₂
+      (λ (a b : List ℕ). a ++ b)
+      (all-emits AsgName AsgName Access xs (new-runs (cursor-3 us hs xs)) (ap new-runs cursor-3-bare))
+      (from-emits AsgName Input Pvname Inputs xs cursor-4 cursor-4-bare)
+
+  rules-bare : bytes-6 us hs zs (cursor-5 us hs zs) ≡ bytes-6 us hs xs (cursor-5 us hs xs)
+  rules-bare = from-emits AsgName RuleWord Calculation Rules xs (at-rules us hs xs (cursor-5 us hs xs)) rules-at-bare
+
+  references-bare : bytes-7 us hs zs (cursor-5 us hs zs) ≡ bytes-7 us hs xs (cursor-5 us hs xs)
   references-bare =
-      ap₂ (λ (l : List Said) (p : Pen). refers References us hs l p) (from-bare AsgName xs) behind-bare
-      ∙ refers-bare References us hs (from AsgName xs) (behind-rules us hs xs)
+      ap₂ (λ (l : List Said) (p : Cursor). refer-emits References us hs l p) (from-bare AsgName xs) references-at-bare
+      ∙ refer-emits-bare References us hs (from AsgName xs) (at-references us hs xs (cursor-5 us hs xs))
 
-  strings-bare : (p : Pen) → strings us hs (map bare xs) p ≡ strings us hs xs p
-  strings-bare p =
-      eight
-      (all-emits UagName UagName Texts xs p refl)
-      (all-emits HagName HagName Texts xs p refl)
-      (from-emits UagName User User Texts xs p refl)
-      (from-emits HagName Host Host Lowered xs p refl)
-      (all-emits AsgName AsgName Texts xs p refl)
-      (from-emits AsgName Input Pvname Firsts xs p refl)
-      (ap (λ (l : List Said). refers Texts [] [] l p) (from-bare AsgName xs) ∙ refers-bare Texts [] [] (from AsgName xs) p)
-      (from-emits AsgName RuleWord Calculation Firsts xs p refl)
-    where
-      eight : {a b c d e f g h a′ b′ c′ d′ e′ f′ g′ h′ : List ℕ} → a ≡ a′ → b ≡ b′ → c ≡ c′ → d ≡ d′ → e ≡ e′ → f ≡ f′ → g ≡ g′ → h ≡ h′ → a ++ (b ++ (c ++ (d ++ (e ++ (f ++ (g ++ h)))))) ≡ a′ ++ (b′ ++ (c′ ++ (d′ ++ (e′ ++ (f′ ++ (g′ ++ h′))))))
-      eight i j k l m n o p = cc
+  strings-bare : strings us hs zs ≡ strings us hs xs
+  strings-bare =
+      ap₂
+      (λ (a b : List ℕ). a ++ b)
+      (four
+      (all-emits UagName UagName Texts xs zero-cursor refl)
+      (all-emits HagName HagName Texts xs zero-cursor refl)
+      (from-emits UagName User User Texts xs zero-cursor refl)
+      (from-emits HagName Host Host Lowered xs zero-cursor refl))
+      (four
+      (all-emits AsgName AsgName Texts xs zero-cursor refl)
+      (from-emits AsgName Input Pvname Firsts xs zero-cursor refl)
+      (ap (λ (l : List Said). refer-emits Texts [] [] l zero-cursor) (from-bare AsgName xs) ∙ refer-emits-bare Texts [] [] (from AsgName xs) zero-cursor)
+      (from-emits AsgName RuleWord Calculation Firsts xs zero-cursor refl))
 
-  strings-at : strings us hs (map bare xs) (pen-7 us hs (map bare xs)) ≡ strings us hs xs (pen-7 us hs xs)
-  strings-at = ap (strings us hs (map bare xs)) pen-7-bare ∙ strings-bare (pen-7 us hs xs)
+  body-bare : body us hs zs ≡ body us hs xs
+  body-bare = four groups-bare access-bare (ap₂ (λ (a b : List ℕ). a ++ b) rules-bare references-bare) strings-bare
 
-  body-bare : body us hs (map bare xs) ≡ body us hs xs
-  body-bare = four first-bare rules-bare references-bare strings-at
-    where
-      four : {a b c d a′ b′ c′ d′ : List ℕ} → a ≡ a′ → b ≡ b′ → c ≡ c′ → d ≡ d′ → a ++ (b ++ (c ++ d)) ≡ a′ ++ (b′ ++ (c′ ++ d′))
-      four g h i j = cc
-
-  header-bare : header-words us hs (map bare xs) ≡ header-words us hs xs
+  header-bare : header-words us hs zs ≡ header-words us hs xs
   header-bare =
-      rows
+      same-words
       (ap (λ (l : List ℕ). header-bytes + length l) body-bare)
       (all-size UagName xs)
       (all-size HagName xs)
-      (ap at pen-1-bare)
+      (ap at cursor-1-bare)
       (ap₂ (λ (k l : ℕ). k + l) (from-size UagName User xs) (from-size HagName Host xs))
-      (ap at pen-2-bare)
+      (ap at cursor-2-bare)
       (all-size AsgName xs)
-      (ap at pen-3-bare)
+      (ap at cursor-3-bare)
       (from-size AsgName Input xs)
-      (ap at pen-4-bare)
+      (ap at cursor-4-bare)
       (from-size AsgName RuleWord xs)
-      (ap at pen-5-bare)
-      (ap (λ (p : Pen). p .first) pen-6-bare)
-      (ap at behind-bare)
-      (ap length strings-at)
-      (ap at pen-7-bare)
+      (ap at cursor-5-bare)
+      (ap (λ (p : Cursor). p .first) cursor-6-bare)
+      (ap at references-at-bare)
+      (ap length strings-bare)
+      (ap at cursor-7-bare)
     where
-      at : Pen → ℕ
+      at : Cursor → ℕ
       at p = p .at
 
-      rows :
-          {a b c d e f g h i j k l m n o p a′ b′ c′ d′ e′ f′ g′ h′ i′ j′ k′ l′ m′ n′ o′ p′ : ℕ}
-          → a ≡ a′ → b ≡ b′ → c ≡ c′ → d ≡ d′ → e ≡ e′ → f ≡ f′ → g ≡ g′ → h ≡ h′ → i ≡ i′ → j ≡ j′ → k ≡ k′ → l ≡ l′ → m ≡ m′ → n ≡ n′ → o ≡ o′ → p ≡ p′
-          → form ∷ a ∷ b ∷ header-bytes ∷ c ∷ d ∷ e ∷ f ∷ g ∷ h ∷ i ∷ j ∷ k ∷ l ∷ m ∷ n ∷ o ∷ p ∷ []
-          ≡ form ∷ a′ ∷ b′ ∷ header-bytes ∷ c′ ∷ d′ ∷ e′ ∷ f′ ∷ g′ ∷ h′ ∷ i′ ∷ j′ ∷ k′ ∷ l′ ∷ m′ ∷ n′ ∷ o′ ∷ p′ ∷ []
-      rows a b c d e f g h i j k l m n o p = cc
-
-  pub whole-bare : whole-table us hs (map bare xs) ≡ whole-table us hs xs
+  pub whole-bare : whole-table us hs zs ≡ whole-table us hs xs
   whole-bare = ap₂ (λ (ws bs : List ℕ). spelled-out ws ++ bs) header-bare body-bare

@@ -13,10 +13,10 @@ use Rattle.grammar.specs.Reading.{Said}
 use Rattle.file.specs.Contents.{file-of, groups, Rule-text, File}
 use Rattle.file.specs.Limit.{user-groups, host-groups, members, access-groups, inputs, rules, references}
 use Rattle.table.specs.Written.{two-runs, records, references-to, reference-lists}
-use Rattle.load_flags.specs.Part.{size}
+use Rattle.load_flags.specs.Tokens.{size}
 use Rattle.load_sections.specs.Sections.{from}
-use Rattle.writer.specs.laws.Bodies.{parts-size}
-use Rattle.writer.specs.laws.Flat.{flat-links, length-cuts, flat-rules}
+use Rattle.writer.specs.laws.Flat.{flat-links, flat-rules, length-cuts}
+use Rattle.writer.specs.laws.GroupRecords.{parts-size}
 use Rattle.writer.specs.laws.Sections.{file-members}
 
 -- two runs for each

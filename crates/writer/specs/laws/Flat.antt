@@ -14,8 +14,9 @@ use Rattle.grammar.specs.Reading.{Said}
 use Rattle.grammar.specs.Role.{role-number, same-role}
 use Rattle.file.specs.Contents.{says, Part, text, texts, parts, until, Link, asg, file-of, rule-text}
 use Rattle.table.specs.Written.{all-links, all-rules}
-use Rattle.load_flags.specs.Part.{cut, size, first-text}
+use Rattle.load_flags.specs.Tokens.{cut, first-text, size}
 use Rattle.load_sections.specs.Sections.{from}
+use Rattle.writer.specs.Passes.{body}
 
 -- each token that says q, with what follows it up to the next one or the next access group
 abbrev pub cuts : Role → List Said → List Part
@@ -26,7 +27,9 @@ pub length-cuts : (q : Role) (xs : List Said) → length (cuts q xs) ≡ size q 
 length-cuts q [] = refl
 length-cuts q (x ∷ xs) = go (says q x) (length-cuts q xs)
   where
-    go : (b : Bool) → length (cuts q xs) ≡ size q xs → length (cond b (record { head = x; body = cut q xs } ∷ cuts q xs) (cuts q xs)) ≡ length (map text (prepend-if b x (select (says q) xs)))
+    go :
+        (b : Bool) → length (cuts q xs) ≡ size q xs
+        → length (cond b (record { head = x; body = cut q xs } ∷ cuts q xs) (cuts q xs)) ≡ length (map text (prepend-if b x (select (says q) xs)))
     go true e = ap suc e
     go false e = e
 
@@ -46,13 +49,16 @@ module _ (q m : Role) (d : same-role m q ≡ false) where
   texts-on [] = refl
   texts-on (x ∷ xs) = go (says q x) refl (texts-on xs)
     where
-      own : (b : Bool) → texts m (until q xs) ++ bodies xs ≡ texts m xs → map text (prepend-if b x (select (says m) (until q xs))) ++ bodies xs ≡ map text (prepend-if b x (select (says m) xs))
+      own :
+          (b : Bool) → texts m (until q xs) ++ bodies xs ≡ texts m xs
+          → map text (prepend-if b x (select (says m) (until q xs))) ++ bodies xs ≡ map text (prepend-if b x (select (says m) xs))
       own true e = ap (λ (l : List (List ℕ)). text x ∷ l) e
       own false e = e
 
       go :
           (b : Bool) → says q x ≡ b → texts m (until q xs) ++ bodies xs ≡ texts m xs
-          → texts m (keep-if (not b) x (until q xs)) ++ joined (map (λ p. texts m (p .body)) (cond b (record { head = x; body = until q xs } ∷ parts q xs) (parts q xs)))
+          → texts m (keep-if (not b) x (until q xs))
+          ++ joined (map (λ p. texts m (p .body)) (cond b (record { head = x; body = until q xs } ∷ parts q xs) (parts q xs)))
           ≡ texts m (x ∷ xs)
       go true h e = rw (says-one q m d x h) e
       go false h e = own (says m x) e
@@ -86,7 +92,8 @@ module _ (q : Role) (d : same-role q AsgName ≡ false) where
 
       go :
           (b : Bool) → says AsgName x ≡ b → parts q (until AsgName xs) ++ inner xs ≡ cuts q xs
-          → parts q (keep-if (not b) x (until AsgName xs)) ++ joined (map (λ p. parts q (p .body)) (cond b (record { head = x; body = until AsgName xs } ∷ parts AsgName xs) (parts AsgName xs)))
+          → parts q (keep-if (not b) x (until AsgName xs))
+          ++ joined (map (λ p. parts q (p .body)) (cond b (record { head = x; body = until AsgName xs } ∷ parts AsgName xs) (parts AsgName xs)))
           ≡ cuts q (x ∷ xs)
       go true h e = rw (says-one AsgName q d x h) e
       go false h e = own (says q x) e
@@ -103,7 +110,9 @@ module _ (q : Role) (d : same-role q AsgName ≡ false) where
       go false h e = e
 
   -- and what they are read as
-  pub cuts-read : {A : Type 0} (f : Part → A) (xs : List Said) → joined (map (λ p. map f (parts q (p .body))) (parts AsgName xs)) ≡ map f (cuts q (from AsgName xs))
+  pub cuts-read :
+      {A : Type 0} (f : Part → A) (xs : List Said)
+      → joined (map (λ p. map f (parts q (p .body))) (parts AsgName xs)) ≡ map f (cuts q (from AsgName xs))
   cuts-read f xs =
       ap joined (sym (map-map (map f) (λ p. parts q (p .body)) (parts AsgName xs)))
       ∙ sym (map-joined f (map (λ p. parts q (p .body)) (parts AsgName xs)))

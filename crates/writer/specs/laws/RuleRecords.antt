@@ -1,7 +1,7 @@
 -- What the passes over inputs, rules and references write, all access groups in one.
 use mathlib.Core.Bool.{Bool, true, false, cond}
 use mathlib.Core.List.{List, [], _∷_, _++_, map, append-assoc}
-use mathlib.Core.Option.{Option·getD, Option, none, some}
+use mathlib.Core.Option.{Option·getD}
 use mathlib.Core.Path.{_≡_, refl, ap, _∙_, sym, ap₂}
 use Prim.Native.Nat.{ℕ, _+_, _*_}
 use native.Mathlib.Nat.{add-assoc}
@@ -17,13 +17,14 @@ use Rattle.grammar.specs.declared.Role.the-variants.{Input, Pvname, RuleWord, C
 use Rattle.grammar.specs.Reading.{Said}
 use Rattle.file.specs.Contents.{Part, says, Link, Rule-text, rule-text, Group, text, texts}
 use Rattle.table.specs.Written.{run-words, flags, calculation-words, references-to, Reference, two-runs, number-of}
-use Rattle.load_flags.specs.Part.{cut, first-text, numbered}
-use Rattle.load_records.specs.declared.Pen.{Pen}
+use Rattle.load_flags.specs.Tokens.{cut, first-text, numbered}
+use Rattle.load_records.specs.declared.Cursor.{Cursor}
 use Rattle.load_records.specs.declared.Work.the-variants.{Firsts, Inputs, Rules, References, Texts}
-use Rattle.load_records.specs.Pen.{pen}
-use Rattle.load_records.specs.Record.{move, emit}
-use Rattle.load_records.specs.laws.Pens.{same-pen}
-use Rattle.load_passes.specs.Pass.{emits, moves, rule-emits, rule-moves, refers, refers-to}
+use Rattle.load_records.specs.Cursor.{cursor}
+use Rattle.load_records.specs.Record.{emit, move}
+use Rattle.load_records.specs.laws.Cursors.{same-cursor}
+use Rattle.load_records.specs.laws.Rules.{rule-length}
+use Rattle.load_passes.specs.Pass.{each-emits, each-moves, emits, moves, refer-emits, refer-moves, rule-emits, rule-moves}
 use Rattle.writer.specs.laws.Flat.{cuts, link-of}
 
 -- a token that says what is looked for, or not
@@ -33,8 +34,8 @@ either F false h k = k
 
 -- ---- the first texts that belong to tokens: names of inputs, calculations
 
-pub firsts-are : (q m : Role) (xs : List Said) (p : Pen) → emits q m [] Firsts xs p ≡ joined (map (λ c. first-text m (c .body)) (cuts q xs))
-unfolding emits
+pub firsts-are : (q m : Role) (xs : List Said) (p : Cursor) → emits q m [] Firsts xs p ≡ joined (map (λ c. first-text m (c .body)) (cuts q xs))
+unfolding each-emits
 firsts-are q m [] p = refl
 firsts-are q m (x ∷ xs) p =
     either
@@ -52,29 +53,29 @@ link-names ls = map (λ i. i .name) ls
 abbrev pub link-block : List Link → ℕ → List ℕ
 link-block ls o = spelled-out (joined (beside (λ i name. i .letter ∷ run-words name) ls (runs o (link-names ls))))
 
--- the pen behind them
-abbrev pub link-pen : List Link → Pen → Pen
-link-pen ls p = pen (p .at + 6 * length ls) (p .off + length (joined (link-names ls))) (p .first) (p .second)
+-- the cursor behind them
+abbrev pub link-cursor : List Link → Cursor → Cursor
+link-cursor ls p = cursor (p .at + 6 * length ls) (p .string + length (joined (link-names ls))) (p .first) (p .second)
 
-pub inputs-are : (xs : List Said) (p : Pen) → emits Input Pvname [] Inputs xs p ≡ link-block (map link-of (cuts Input xs)) (p .off)
-unfolding emits
+pub inputs-are : (xs : List Said) (p : Cursor) → emits Input Pvname [] Inputs xs p ≡ link-block (map link-of (cuts Input xs)) (p .string)
+unfolding each-emits
 inputs-are [] p = refl
 inputs-are (x ∷ xs) p =
     either
-    (λ l cs. l ≡ link-block (map link-of cs) (p .off))
+    (λ l cs. l ≡ link-block (map link-of cs) (p .string))
     (says Input x)
     (ap (λ (l : List ℕ). emit Input Pvname [] Inputs x xs p ++ l) (inputs-are xs (move Input Pvname [] Inputs x xs p)))
     (inputs-are xs p)
 
-pub inputs-move : (xs : List Said) (p : Pen) → moves Input Pvname [] Inputs xs p ≡ link-pen (map link-of (cuts Input xs)) p
-unfolding moves
-inputs-move [] p = same-pen (omega arith) (omega arith) refl refl
+pub inputs-move : (xs : List Said) (p : Cursor) → moves Input Pvname [] Inputs xs p ≡ link-cursor (map link-of (cuts Input xs)) p
+unfolding each-moves
+inputs-move [] p = same-cursor (omega arith) (omega arith) refl refl
 inputs-move (x ∷ xs) p =
     either
-    (λ r cs. r ≡ link-pen (map link-of cs) p)
+    (λ r cs. r ≡ link-cursor (map link-of cs) p)
     (says Input x)
     (inputs-move xs (move Input Pvname [] Inputs x xs p)
-    ∙ same-pen
+    ∙ same-cursor
     (omega arith)
     (omega (arith, length-append (first-text Pvname (cut Input xs)) (joined (link-names (map link-of (cuts Input xs))))))
     (omega arith)
@@ -97,11 +98,6 @@ pub spelled-append : (ws vs : List ℕ) → spelled-out (ws ++ vs) ≡ spelled-o
 spelled-append [] vs = refl
 spelled-append (w ∷ ws) vs = ap (λ (l : List ℕ). word-bytes w ++ l) (spelled-append ws vs)
 
--- a rule has 14 bytes, with a calculation or without
-rule-length : (a b c d e : ℕ) (o : Option (List ℕ)) (r : Run) → length (spelled-out (a ∷ b ∷ c ∷ d ∷ e ∷ calculation-words o r)) ≡ 14
-rule-length a b c d e none r = refl
-rule-length a b c d e (some t) r = refl
-
 refs-length : (gs : List Group) (ts : List (List ℕ)) → length (references-to gs ts) ≡ length ts
 refs-length gs ts = length-map ts _
 
@@ -115,9 +111,9 @@ module _ (us hs : List Group) where
   abbrev pub rule-block : List Rule-text → ℕ → ℕ → List ℕ
   rule-block rs f o = spelled-out (joined (beside₃ rule-words rs (two-runs (runs f (rule-refs rs))) (runs o (calculations rs))))
 
-  -- the pen behind them
-  abbrev pub rule-pen : List Rule-text → Pen → Pen
-  rule-pen rs p = pen (p .at + 14 * length rs) (p .off + length (joined (calculations rs))) (p .first + length (joined (rule-refs rs))) (p .second)
+  -- the cursor behind them
+  abbrev pub rule-cursor : List Rule-text → Cursor → Cursor
+  rule-cursor rs p = cursor (p .at + 14 * length rs) (p .string + length (joined (calculations rs))) (p .first + length (joined (rule-refs rs))) (p .second)
 
   abbrev one-rule : Rule-text → ℕ → ℕ → List ℕ
   one-rule r f o =
@@ -136,31 +132,35 @@ module _ (us hs : List Group) where
       rw (refs-length us (r .uags), refs-length hs (r .hags), add-assoc f (length (r .uags)) (length (r .hags)))
       (spelled-append (one-rule r f o) _)
 
-  pub rules-are : (xs : List Said) (p : Pen) → emits RuleWord Calculation [] Rules xs p ≡ rule-block (rule-texts (cuts RuleWord xs)) (p .first) (p .off)
-  unfolding emits
+  pub rules-are : (xs : List Said) (p : Cursor) → emits RuleWord Calculation [] Rules xs p ≡ rule-block (rule-texts (cuts RuleWord xs)) (p .first) (p .string)
+  unfolding each-emits
   rules-are [] p = refl
   rules-are (x ∷ xs) p =
       either
-      (λ l cs. l ≡ rule-block (rule-texts cs) (p .first) (p .off))
+      (λ l cs. l ≡ rule-block (rule-texts cs) (p .first) (p .string))
       (says RuleWord x)
       (ap (λ (l : List ℕ). emit RuleWord Calculation [] Rules x xs p ++ l) (rules-are xs (move RuleWord Calculation [] Rules x xs p))
-      ∙ sym (rule-on (rule-text (cut RuleWord xs)) (rule-texts (cuts RuleWord xs)) (p .first) (p .off)))
+      ∙ sym (rule-on (rule-text (cut RuleWord xs)) (rule-texts (cuts RuleWord xs)) (p .first) (p .string)))
       (rules-are xs p)
 
-  pub rules-move : (xs : List Said) (p : Pen) → moves RuleWord Calculation [] Rules xs p ≡ rule-pen (rule-texts (cuts RuleWord xs)) p
-  unfolding moves
-  rules-move [] p = same-pen (omega arith) (omega arith) (omega arith) refl
+  pub rules-move : (xs : List Said) (p : Cursor) → moves RuleWord Calculation [] Rules xs p ≡ rule-cursor (rule-texts (cuts RuleWord xs)) p
+  unfolding each-moves
+  rules-move [] p = same-cursor (omega arith) (omega arith) (omega arith) refl
   rules-move (x ∷ xs) p =
       let r = rule-text (cut RuleWord xs) in
       let rs = rule-texts (cuts RuleWord xs) in
       let ru = references-to us (r .uags) in
       let rh = references-to hs (r .hags) in
       either
-      (λ t cs. t ≡ rule-pen (rule-texts cs) p)
+      (λ t cs. t ≡ rule-cursor (rule-texts cs) p)
       (says RuleWord x)
       (rules-move xs (move RuleWord Calculation [] Rules x xs p)
-      ∙ same-pen
-      (omega (arith, rule-length (flags r) (p .first) (length (r .uags)) (p .first + length (r .uags)) (length (r .hags)) (r .calculation) (record { first = p .off; count = length (Option·getD (r .calculation) []) })))
+      ∙ same-cursor
+      (omega (
+        arith,
+        rule-length (flags r) (p .first) (length (r .uags)) (p .first + length (r .uags)) (length (r .hags)) (r .calculation)
+            (record { first = p .string; count = length (Option·getD (r .calculation) []) }),
+      ))
       (omega (arith, length-append (Option·getD (r .calculation) []) (joined (calculations rs))))
       (omega (
         arith,
@@ -196,24 +196,25 @@ ref-names rs = map (λ r. r .name) rs
 abbrev pub ref-block : List Reference → ℕ → List ℕ
 ref-block rs o = spelled-out (joined (beside (λ r name. r .number ∷ run-words name) rs (runs o (ref-names rs))))
 
--- the pen behind them
-abbrev pub ref-pen : List Reference → Pen → Pen
-ref-pen rs p = pen (p .at + 6 * length rs) (p .off + length (joined (ref-names rs))) (p .first) (p .second)
+-- the cursor behind them
+abbrev pub ref-cursor : List Reference → Cursor → Cursor
+ref-cursor rs p = cursor (p .at + 6 * length rs) (p .string + length (joined (ref-names rs))) (p .first) (p .second)
 
 ref-append : (rs ss : List Reference) (o : ℕ) → ref-block (rs ++ ss) o ≡ ref-block rs o ++ ref-block ss (o + length (joined (ref-names rs)))
 ref-append [] ss o = ap (λ (k : ℕ). ref-block ss k) (omega arith)
 ref-append (r ∷ rs) ss o =
-    let e : (o + length (r .name)) + length (joined (ref-names rs)) ≡ o + length (r .name ++ joined (ref-names rs)) = omega (arith, length-append (r .name) (joined (ref-names rs))) in
+    let a = length-append (r .name) (joined (ref-names rs)) in
+    let e : (o + length (r .name)) + length (joined (ref-names rs)) ≡ o + length (r .name ++ joined (ref-names rs)) = omega (arith, a) in
     ap (λ (l : List ℕ). spelled-out (r .number ∷ o ∷ length (r .name) ∷ []) ++ l)
     (ref-append rs ss (o + length (r .name)) ∙ ap (λ (k : ℕ). ref-block rs (o + length (r .name)) ++ ref-block ss k) e)
 
 names-append : (rs ss : List Reference) → joined (ref-names (rs ++ ss)) ≡ joined (ref-names rs) ++ joined (ref-names ss)
 names-append rs ss = ap joined (map-append (λ r. r .name) rs ss) ∙ joined-append (ref-names rs) (ref-names ss)
 
-pen-append : (rs ss : List Reference) (p : Pen) → ref-pen ss (ref-pen rs p) ≡ ref-pen (rs ++ ss) p
-pen-append rs ss p =
+cursor-append : (rs ss : List Reference) (p : Cursor) → ref-cursor ss (ref-cursor rs p) ≡ ref-cursor (rs ++ ss) p
+cursor-append rs ss p =
     let e = length-append (joined (ref-names rs)) (joined (ref-names ss)) in
-    same-pen
+    same-cursor
     (omega (arith, length-append rs ss))
     (omega (arith, e, ap length (names-append rs ss)))
     refl
@@ -221,32 +222,32 @@ pen-append rs ss p =
 
 -- q: the role of the references; gs: the groups that they refer to
 module _ (q m : Role) (gs : List Group) where
-  refs-are : (xs : List Said) (p : Pen) → emits q m (group-names gs) References xs p ≡ ref-block (references-to gs (texts q xs)) (p .off)
-  unfolding emits
+  refs-are : (xs : List Said) (p : Cursor) → emits q m (group-names gs) References xs p ≡ ref-block (references-to gs (texts q xs)) (p .string)
+  unfolding each-emits
   refs-are [] p = refl
   refs-are (x ∷ xs) p =
       either-text
-      (λ l ts. l ≡ ref-block (references-to gs ts) (p .off))
+      (λ l ts. l ≡ ref-block (references-to gs ts) (p .string))
       (says q x)
       x
       (select (says q) xs)
       (ap₂
-      (λ (n : ℕ) (l : List ℕ). spelled-out (n ∷ p .off ∷ length (text x) ∷ []) ++ l)
+      (λ (n : ℕ) (l : List ℕ). spelled-out (n ∷ p .string ∷ length (text x) ∷ []) ++ l)
       (numbered-by 0 (text x) gs)
       (refs-are xs (move q m (group-names gs) References x xs p)))
       (refs-are xs p)
 
-  refs-move : (xs : List Said) (p : Pen) → moves q m (group-names gs) References xs p ≡ ref-pen (references-to gs (texts q xs)) p
-  unfolding moves
-  refs-move [] p = same-pen (omega arith) (omega arith) refl refl
+  refs-move : (xs : List Said) (p : Cursor) → moves q m (group-names gs) References xs p ≡ ref-cursor (references-to gs (texts q xs)) p
+  unfolding each-moves
+  refs-move [] p = same-cursor (omega arith) (omega arith) refl refl
   refs-move (x ∷ xs) p =
       either-text
-      (λ t ts. t ≡ ref-pen (references-to gs ts) p)
+      (λ t ts. t ≡ ref-cursor (references-to gs ts) p)
       (says q x)
       x
       (select (says q) xs)
       (refs-move xs (move q m (group-names gs) References x xs p)
-      ∙ same-pen
+      ∙ same-cursor
       (omega arith)
       (omega (arith, length-append (text x) (joined (ref-names (references-to gs (texts q xs))))))
       (omega arith)
@@ -254,8 +255,8 @@ module _ (q m : Role) (gs : List Group) where
       (refs-move xs p)
 
   -- the strings, whatever the references are numbered by
-  ref-texts : (ns : List (List ℕ)) (xs : List Said) (p : Pen) → emits q m ns Texts xs p ≡ joined (ref-names (references-to gs (texts q xs)))
-  unfolding emits
+  ref-texts : (ns : List (List ℕ)) (xs : List Said) (p : Cursor) → emits q m ns Texts xs p ≡ joined (ref-names (references-to gs (texts q xs)))
+  unfolding each-emits
   ref-texts ns [] p = refl
   ref-texts ns (x ∷ xs) p =
       either-text
@@ -278,57 +279,60 @@ module _ (us hs : List Group) where
   h-refs ys = references-to hs (texts HagNamed ys)
 
   rule-refers :
-      (ys : List Said) (p : Pen) → rule-emits References (group-names us) (group-names hs) ys p ≡ ref-block (u-refs ys ++ h-refs ys) (p .off)
+      (ys : List Said) (p : Cursor) → rule-emits References (group-names us) (group-names hs) ys p ≡ ref-block (u-refs ys ++ h-refs ys) (p .string)
   rule-refers ys p =
-      rw (refs-move UagNamed UagNamed us ys p, refs-are UagNamed UagNamed us ys p, refs-are HagNamed HagNamed hs ys (ref-pen (u-refs ys) p))
-      (sym (ref-append (u-refs ys) (h-refs ys) (p .off)))
+      rw (refs-move UagNamed UagNamed us ys p, refs-are UagNamed UagNamed us ys p, refs-are HagNamed HagNamed hs ys (ref-cursor (u-refs ys) p))
+      (sym (ref-append (u-refs ys) (h-refs ys) (p .string)))
 
   rule-refers-to :
-      (ys : List Said) (p : Pen) → rule-moves References (group-names us) (group-names hs) ys p ≡ ref-pen (u-refs ys ++ h-refs ys) p
+      (ys : List Said) (p : Cursor) → rule-moves References (group-names us) (group-names hs) ys p ≡ ref-cursor (u-refs ys ++ h-refs ys) p
   rule-refers-to ys p =
-      rw (refs-move UagNamed UagNamed us ys p, refs-move HagNamed HagNamed hs ys (ref-pen (u-refs ys) p))
-      (pen-append (u-refs ys) (h-refs ys) p)
+      rw (refs-move UagNamed UagNamed us ys p, refs-move HagNamed HagNamed hs ys (ref-cursor (u-refs ys) p))
+      (cursor-append (u-refs ys) (h-refs ys) p)
 
   -- a rule before others
   refs-on : (ys : List Said) (cs : List Part) → (u-refs ys ++ h-refs ys) ++ all-refs cs ≡ u-refs ys ++ (h-refs ys ++ all-refs cs)
   refs-on ys cs = append-assoc (u-refs ys) (h-refs ys) (all-refs cs)
 
-  pub references-are : (xs : List Said) (p : Pen) → refers References (group-names us) (group-names hs) xs p ≡ ref-block (all-refs (cuts RuleWord xs)) (p .off)
-  unfolding refers
+  pub references-are :
+      (xs : List Said) (p : Cursor)
+      → refer-emits References (group-names us) (group-names hs) xs p ≡ ref-block (all-refs (cuts RuleWord xs)) (p .string)
+  unfolding each-emits
   references-are [] p = refl
   references-are (x ∷ xs) p =
       let ys = cut RuleWord xs in
       let cs = cuts RuleWord xs in
       either
-      (λ l ds. l ≡ ref-block (all-refs ds) (p .off))
+      (λ l ds. l ≡ ref-block (all-refs ds) (p .string))
       (says RuleWord x)
       (ap₂
-      (λ (l : List ℕ) (t : Pen). l ++ refers References (group-names us) (group-names hs) xs t)
+      (λ (l : List ℕ) (t : Cursor). l ++ refer-emits References (group-names us) (group-names hs) xs t)
       (rule-refers ys p)
       (rule-refers-to ys p)
-      ∙ ap (λ (l : List ℕ). ref-block (u-refs ys ++ h-refs ys) (p .off) ++ l) (references-are xs (ref-pen (u-refs ys ++ h-refs ys) p))
-      ∙ sym (ref-append (u-refs ys ++ h-refs ys) (all-refs cs) (p .off))
-      ∙ ap (λ (rs : List Reference). ref-block rs (p .off)) (refs-on ys cs))
+      ∙ ap (λ (l : List ℕ). ref-block (u-refs ys ++ h-refs ys) (p .string) ++ l) (references-are xs (ref-cursor (u-refs ys ++ h-refs ys) p))
+      ∙ sym (ref-append (u-refs ys ++ h-refs ys) (all-refs cs) (p .string))
+      ∙ ap (λ (rs : List Reference). ref-block rs (p .string)) (refs-on ys cs))
       (references-are xs p)
 
-  pub references-move : (xs : List Said) (p : Pen) → refers-to References (group-names us) (group-names hs) xs p ≡ ref-pen (all-refs (cuts RuleWord xs)) p
-  unfolding refers-to
-  references-move [] p = same-pen (omega arith) (omega arith) refl refl
+  pub references-move :
+      (xs : List Said) (p : Cursor) → refer-moves References (group-names us) (group-names hs) xs p ≡ ref-cursor (all-refs (cuts RuleWord xs)) p
+  unfolding each-moves
+  references-move [] p = same-cursor (omega arith) (omega arith) refl refl
   references-move (x ∷ xs) p =
       let ys = cut RuleWord xs in
       let cs = cuts RuleWord xs in
       either
-      (λ t ds. t ≡ ref-pen (all-refs ds) p)
+      (λ t ds. t ≡ ref-cursor (all-refs ds) p)
       (says RuleWord x)
-      (ap (λ (t : Pen). refers-to References (group-names us) (group-names hs) xs t) (rule-refers-to ys p)
-      ∙ references-move xs (ref-pen (u-refs ys ++ h-refs ys) p)
-      ∙ pen-append (u-refs ys ++ h-refs ys) (all-refs cs) p
-      ∙ ap (λ (rs : List Reference). ref-pen rs p) (refs-on ys cs))
+      (ap (λ (t : Cursor). refer-moves References (group-names us) (group-names hs) xs t) (rule-refers-to ys p)
+      ∙ references-move xs (ref-cursor (u-refs ys ++ h-refs ys) p)
+      ∙ cursor-append (u-refs ys ++ h-refs ys) (all-refs cs) p
+      ∙ ap (λ (rs : List Reference). ref-cursor rs p) (refs-on ys cs))
       (references-move xs p)
 
   -- the names of all references, by whatever names they are numbered
-  pub reference-texts : (ms ns : List (List ℕ)) (xs : List Said) (p : Pen) → refers Texts ms ns xs p ≡ joined (ref-names (all-refs (cuts RuleWord xs)))
-  unfolding refers
+  pub reference-texts : (ms ns : List (List ℕ)) (xs : List Said) (p : Cursor) → refer-emits Texts ms ns xs p ≡ joined (ref-names (all-refs (cuts RuleWord xs)))
+  unfolding each-emits
   reference-texts ms ns [] p = refl
   reference-texts ms ns (x ∷ xs) p =
       let ys = cut RuleWord xs in
