@@ -24,7 +24,7 @@ use Rattle.texts.specs.Listed.{indices}
 use Rattle.writer.specs.declared.Written.{Written}
 use Rattle.writer.specs.declared.Written.the-variants as written
 use Rattle.writer.specs.Table.{table-told, Wrote}
-use Rattle.writer.specs.Whole.{table-is}
+use Rattle.writer.specs.laws.Whole.{table-is}
 use Rattle.load_syntax.specs.declared.Judgment.{Judgment}
 use Rattle.load_syntax.specs.declared.Judgment.the-variants as judgment
 use Rattle.load_judge.specs.Judged.{Judged}

@@ -1,9 +1,9 @@
-use native.Mathlib.Omega.{arith}
-use Prim.Native.Nat.{ℕ, _+_, _-_}
 use mathlib.Core.Path.{ap₂}
-use Rattle.texts.specs.Rolls.{tally-bound}
-use Rattle.writer.specs.Parts.{counted-all, counted-from}
+use Prim.Native.Nat.{ℕ, _+_, _-_}
+use native.Mathlib.Omega.{arith}
 use borrow.Author.Needs.{needs}
+use Rattle.texts.specs.Rolls.{tally-bound}
+use Rattle.writer.specs.laws.Header.{counted-all, counted-from}
 use Rattle.writer.proofs.count_all.Statement.{statement}
 use Rattle.writer.proofs.count_all.Tie as tie
 
@@ -29,7 +29,18 @@ count-requires-4 : tie.Need-count-requires-4
 count-requires-4 c κs = search needs
 
 add-t10 : tie.Need-add-t10
-add-t10 c = omega (arith, c .before .before .before .before .before .before .before .before .pre .0, c .before .before .before .count .ensures, c .before .before .count2 .ensures, tally-bound 2 (c .before .before .before .before .before .before .before .before .args .roles .now) (c .before .before .before .before .before .before .next .result) ((c .before .before .before .before .before .before .before .before .args .n) - c .before .before .before .before .before .before .next .result), tally-bound 4 (c .before .before .before .before .before .before .before .before .args .roles .now) (c .before .before .before .before .before .next2 .result) ((c .before .before .before .before .before .before .before .before .args .n) - c .before .before .before .before .before .next2 .result))
+add-t10 c =
+    let a = c .before .before .before .before .before .before .before .before .args in
+    let end = c .before .before .before .before .before .before .next in
+    let by-next2 = c .before .before .before .before .before .next2 in
+    omega (
+      arith,
+      c .before .before .before .before .before .before .before .before .pre .0,
+      c .before .before .before .count .ensures,
+      c .before .before .count2 .ensures,
+      tally-bound 2 (a .roles .now) (end .result) ((a .n) - end .result),
+      tally-bound 4 (a .roles .now) (by-next2 .result) ((a .n) - by-next2 .result),
+    )
 
 count-requires-5 : tie.Need-count-requires-5
 count-requires-5 c κs = search needs
@@ -41,7 +52,36 @@ count-requires-7 : tie.Need-count-requires-7
 count-requires-7 c κs = search needs
 
 returns : tie.Need-returns
-returns c = λ s ar. record { uags = counted-all s ar (c .before .before .before .before .before .before .before .before .before .before .before .args .roles .now) 1 (c .before .before .before .before .before .before .before .before .before .before .before .args .n) (c .before .before .before .before .count3 .result) (record { some = omega arith; known = omega arith }) (c .before .before .before .before .count3 .ensures); hags = counted-all s ar (c .before .before .before .before .before .before .before .before .before .before .before .args .roles .now) 3 (c .before .before .before .before .before .before .before .before .before .before .before .args .n) (c .before .before .before .count4 .result) (record { some = omega arith; known = omega arith }) (c .before .before .before .count4 .ensures); members = ap₂ (λ (a b : ℕ). a + b) (counted-from s ar (c .before .before .before .before .before .before .before .before .before .before .before .args .roles .now) 1 2 (c .before .before .before .before .before .before .before .before .before .before .before .args .n) (c .before .before .before .before .before .before .before .before .before .next .result) (c .before .before .before .before .before .before .count .result) (record { some = omega arith; known = omega arith }) (record { some = omega arith; known = omega arith }) (c .before .before .before .before .before .before .before .before .before .next .ensures) (c .before .before .before .before .before .before .count .ensures)) (counted-from s ar (c .before .before .before .before .before .before .before .before .before .before .before .args .roles .now) 3 4 (c .before .before .before .before .before .before .before .before .before .before .before .args .n) (c .before .before .before .before .before .before .before .before .next2 .result) (c .before .before .before .before .before .count2 .result) (record { some = omega arith; known = omega arith }) (record { some = omega arith; known = omega arith }) (c .before .before .before .before .before .before .before .before .next2 .ensures) (c .before .before .before .before .before .count2 .ensures)); asgs = counted-all s ar (c .before .before .before .before .before .before .before .before .before .before .before .args .roles .now) 5 (c .before .before .before .before .before .before .before .before .before .before .before .args .n) (c .before .before .count5 .result) (record { some = omega arith; known = omega arith }) (c .before .before .count5 .ensures); inputs = counted-from s ar (c .before .before .before .before .before .before .before .before .before .before .before .args .roles .now) 5 6 (c .before .before .before .before .before .before .before .before .before .before .before .args .n) (c .before .before .before .before .before .before .before .next3 .result) (c .before .count6 .result) (record { some = omega arith; known = omega arith }) (record { some = omega arith; known = omega arith }) (c .before .before .before .before .before .before .before .next3 .ensures) (c .before .count6 .ensures); rules = counted-from s ar (c .before .before .before .before .before .before .before .before .before .before .before .args .roles .now) 5 8 (c .before .before .before .before .before .before .before .before .before .before .before .args .n) (c .before .before .before .before .before .before .before .next3 .result) (c .count7 .result) (record { some = omega arith; known = omega arith }) (record { some = omega arith; known = omega arith }) (c .before .before .before .before .before .before .before .next3 .ensures) (c .count7 .ensures) }
+returns c =
+    let a = c .before .before .before .before .before .before .before .before .before .before .before .args in
+    let by-count3 = c .before .before .before .before .count3 in
+    let by-count4 = c .before .before .before .count4 in
+    let end = c .before .before .before .before .before .before .before .before .before .next in
+    let by-count = c .before .before .before .before .before .before .count in
+    let by-next2 = c .before .before .before .before .before .before .before .before .next2 in
+    let by-count2 = c .before .before .before .before .before .count2 in
+    let by-next3 = c .before .before .before .before .before .before .before .next3 in
+    λ s ar.
+    record {
+      uags = counted-all s ar (a .roles .now) 1 (a .n) (by-count3 .result) (record { some = omega arith; known = omega arith }) (by-count3 .ensures);
+      hags = counted-all s ar (a .roles .now) 3 (a .n) (by-count4 .result) (record { some = omega arith; known = omega arith }) (by-count4 .ensures);
+      members =
+          ap₂ (λ (a b : ℕ). a + b)
+          (counted-from s ar (a .roles .now) 1 2 (a .n) (end .result) (by-count .result) (record { some = omega arith; known = omega arith })
+          (record { some = omega arith; known = omega arith }) (end .ensures) (by-count .ensures))
+          (counted-from s ar (a .roles .now) 3 4 (a .n) (by-next2 .result) (by-count2 .result) (record { some = omega arith; known = omega arith })
+          (record { some = omega arith; known = omega arith }) (by-next2 .ensures) (by-count2 .ensures));
+      asgs =
+          counted-all s ar (a .roles .now) 5 (a .n) (c .before .before .count5 .result) (record { some = omega arith; known = omega arith })
+          (c .before .before .count5 .ensures);
+      inputs =
+          counted-from s ar (a .roles .now) 5 6 (a .n) (by-next3 .result) (c .before .count6 .result)
+          (record { some = omega arith; known = omega arith }) (record { some = omega arith; known = omega arith }) (by-next3 .ensures)
+          (c .before .count6 .ensures);
+      rules =
+          counted-from s ar (a .roles .now) 5 8 (a .n) (by-next3 .result) (c .count7 .result) (record { some = omega arith; known = omega arith })
+          (record { some = omega arith; known = omega arith }) (by-next3 .ensures) (c .count7 .ensures);
+    }
 
 pub count-all-spec : {M : Type 1} → statement M
 count-all-spec =

@@ -1,50 +1,92 @@
 use native.Mathlib.Omega.{arith}
-use mathlib.Core.List.{map}
-use Rattle.texts.specs.Lies.{text-at}
-use Rattle.texts.specs.Rolls.{arrays, tokens}
-use Rattle.writer.specs.Put.{put-length}
-use Rattle.writer.specs.Table.{tabled, table-told}
+use Rattle.texts.specs.Rolls.{arrays}
+use Rattle.byte_write.specs.laws.Puts.{put-length}
+use Rattle.load_flags.specs.Tokens.{texts-at, tokens-in}
+use Rattle.writer.specs.Table.{table-told}
+use Rattle.writer.specs.laws.Table.{table-put}
 use Rattle.writer.proofs.table.Statement.{statement}
 use Rattle.writer.proofs.table.Tie as tie
 
-groups-requires : tie.Need-groups-requires
-groups-requires c κs = c .before .before .before .before .before .before .before .before .pre .lie
+group-sections-requires : tie.Need-group-sections-requires
+group-sections-requires c κs = c .before .before .before .before .before .before .before .before .pre .lie
 
-access-requires : tie.Need-access-requires
-access-requires c κs = (c .before .before .before .before .before .before .before .before .before .before .before .before .before .pre .lie, c .before .before .before .before .groups .ensures .near)
+access-sections-requires : tie.Need-access-sections-requires
+access-sections-requires c κs = (
+  c .before .before .before .before .before .before .before .before .before .before .before .before .before .pre .lie,
+  c .before .before .before .before .group-sections .ensures .bounded,
+)
 
-rules-requires : tie.Need-rules-requires
-rules-requires c κs = record { lie = c .before .before .before .before .before .before .before .before .before .before .before .before .before .before .before .before .before .before .pre .lie; users = c .before .before .before .before .before .before .before .before .before .before .before .before .before .before .before .before .before .before .pre .users; hosts = c .before .before .before .before .before .before .before .before .before .before .before .before .before .before .before .before .before .before .pre .hosts; near = c .before .before .before .before .access .ensures .near }
+rule-sections-requires : tie.Need-rule-sections-requires
+rule-sections-requires c κs = (
+  c .before .before .before .before .before .before .before .before .before .before .before .before .before .before .before .before .before .before .pre,
+  c .before .before .before .before .access-sections .ensures .bounded,
+)
 
-group-names-requires : tie.Need-group-names-requires
-group-names-requires c κs = (c .before .before .before .before .before .before .before .before .before .before .before .before .before .before .before .before .before .before .before .before .before .before .before .pre .lie, c .before .before .before .before .rules .ensures .near)
+group-strings-requires : tie.Need-group-strings-requires
+group-strings-requires c κs = (
+  c .before .before .before .before .before .before .before .before .before .before .before .before .before .before .before .before .before .before .before .before .before .before .before .pre .lie,
+  c .before .before .before .before .rule-sections .ensures .bounded,
+)
 
-access-names-requires : tie.Need-access-names-requires
-access-names-requires c κs = record { lie = c .before .before .before .before .before .before .before .before .before .before .before .before .before .before .before .before .before .before .before .before .before .before .before .before .before .before .before .pre .lie; users = c .before .before .before .before .before .before .before .before .before .before .before .before .before .before .before .before .before .before .before .before .before .before .before .before .before .before .before .pre .users; hosts = c .before .before .before .before .before .before .before .before .before .before .before .before .before .before .before .before .before .before .before .before .before .before .before .before .before .before .before .pre .hosts; near = c .before .before .before .group-names .ensures .near }
+access-strings-requires : tie.Need-access-strings-requires
+access-strings-requires c κs = (
+  c .before .before .before .before .before .before .before .before .before .before .before .before .before .before .before .before .before .before .before .before .before .before .before .before .before .before .before .pre,
+  c .before .before .before .group-strings .ensures .bounded,
+)
 
 count-all-requires : tie.Need-count-all-requires
-count-all-requires c κs = (c .before .before .before .before .before .before .before .before .before .before .before .before .before .before .before .before .before .before .before .before .before .before .before .before .before .before .before .before .before .before .pre .lie .few, c .before .before .before .before .before .before .before .before .before .before .before .before .before .before .before .before .before .before .before .before .before .before .before .before .before .before .before .before .before .before .pre .lie .has-roles)
+count-all-requires c κs =
+    let pre = c .before .before .before .before .before .before .before .before .before .before .before .before .before .before .before .before .before .before .before .before .before .before .before .before .before .before .before .before .before .before .pre in
+    (pre .lie .few, pre .lie .has-roles)
 
 put-header-requires : tie.Need-put-header-requires
-put-header-requires c κs = omega (arith, c .before .before .before .before .access-names .ensures .end, c .before .before .before .before .before .before .before .before .group-names .ensures .bytes .end)
+put-header-requires c κs =
+    omega (
+      arith,
+      c .before .before .before .before .access-strings .ensures .end,
+      c .before .before .before .before .before .before .before .before .group-strings .ensures .bytes .end,
+    )
 
 same-length : tie.Need-same-length
 unfolding table-told
-same-length c = put-length (tabled (map (text-at (c .before .before .before .before .before .before .before .before .before .before .before .before .before .before .before .before .before .before .before .before .before .before .before .before .before .before .before .before .before .before .before .before .before .before .before .args .s .now) (c .before .before .before .before .before .before .before .before .before .before .before .before .before .before .before .before .before .before .before .before .before .before .before .before .before .before .before .before .before .before .before .before .before .before .before .args .starts .now) (c .before .before .before .before .before .before .before .before .before .before .before .before .before .before .before .before .before .before .before .before .before .before .before .before .before .before .before .before .before .before .before .before .before .before .before .args .ends .now)) (c .before .before .before .before .before .before .before .before .before .before .before .before .before .before .before .before .before .before .before .before .before .before .before .before .before .before .before .before .before .before .before .before .before .before .before .args .uags .now)) (map (text-at (c .before .before .before .before .before .before .before .before .before .before .before .before .before .before .before .before .before .before .before .before .before .before .before .before .before .before .before .before .before .before .before .before .before .before .before .args .s .now) (c .before .before .before .before .before .before .before .before .before .before .before .before .before .before .before .before .before .before .before .before .before .before .before .before .before .before .before .before .before .before .before .before .before .before .before .args .starts .now) (c .before .before .before .before .before .before .before .before .before .before .before .before .before .before .before .before .before .before .before .before .before .before .before .before .before .before .before .before .before .before .before .before .before .before .before .args .ends .now)) (c .before .before .before .before .before .before .before .before .before .before .before .before .before .before .before .before .before .before .before .before .before .before .before .before .before .before .before .before .before .before .before .before .before .before .before .args .hags .now)) (tokens (c .before .before .before .before .before .before .before .before .before .before .before .before .before .before .before .before .before .before .before .before .before .before .before .before .before .before .before .before .before .before .before .before .before .before .before .args .s .now) (arrays (c .before .before .before .before .before .before .before .before .before .before .before .before .before .before .before .before .before .before .before .before .before .before .before .before .before .before .before .before .before .before .before .before .before .before .before .args .starts .now) (c .before .before .before .before .before .before .before .before .before .before .before .before .before .before .before .before .before .before .before .before .before .before .before .before .before .before .before .before .before .before .before .before .before .before .before .args .ends .now)) (c .before .before .before .before .before .before .before .before .before .before .before .before .before .before .before .before .before .before .before .before .before .before .before .before .before .before .before .before .before .before .before .before .before .before .before .args .roles .now) 0 (c .before .before .before .before .before .before .before .before .before .before .before .before .before .before .before .before .before .before .before .before .before .before .before .before .before .before .before .before .before .before .before .before .before .before .before .args .n)) (c .before .before .before .before .before .before .before .before .before .before .before .before .before .before .before .before .before .before .before .before .before .before .before .before .before .before .groups .ensures) (c .before .before .before .before .before .before .before .before .before .before .before .before .before .before .before .before .before .before .before .before .before .access .ensures) (c .before .before .before .before .before .before .before .before .before .before .before .before .before .before .before .before .rules .ensures) (c .before .before .before .before .before .before .before .before .before .before .before .group-names .ensures) (c .before .before .before .before .before .before .before .access-names .ensures) (c .before .before .before .before .count-all .ensures (c .before .before .before .before .before .before .before .before .before .before .before .before .before .before .before .before .before .before .before .before .before .before .before .before .before .before .before .before .before .before .before .before .before .before .before .args .s .now) (arrays (c .before .before .before .before .before .before .before .before .before .before .before .before .before .before .before .before .before .before .before .before .before .before .before .before .before .before .before .before .before .before .before .before .before .before .before .args .starts .now) (c .before .before .before .before .before .before .before .before .before .before .before .before .before .before .before .before .before .before .before .before .before .before .before .before .before .before .before .before .before .before .before .before .before .before .before .args .ends .now))) (c .before .before .put-header .ensures))
+same-length c =
+    let a = c .before .before .before .before .before .before .before .before .before .before .before .before .before .before .before .before .before .before .before .before .before .before .before .before .before .before .before .before .before .before .before .before .before .before .before .args in
+    put-length
+    (table-put (texts-at (a .s .now) (a .starts .now) (a .ends .now) (a .uags .now))
+    (texts-at (a .s .now) (a .starts .now) (a .ends .now) (a .hags .now))
+    (tokens-in (a .s .now) (a .starts .now) (a .ends .now) (a .roles .now) 0 (a .n))
+    (c .before .before .before .before .before .before .before .before .before .before .before .before .before .before .before .before .before .before .before .before .before .before .before .before .before .before .group-sections .ensures)
+    (c .before .before .before .before .before .before .before .before .before .before .before .before .before .before .before .before .before .before .before .before .before .access-sections .ensures)
+    (c .before .before .before .before .before .before .before .before .before .before .before .before .before .before .before .before .rule-sections .ensures)
+    (c .before .before .before .before .before .before .before .before .before .before .before .group-strings .ensures)
+    (c .before .before .before .before .before .before .before .access-strings .ensures)
+    (c .before .before .before .before .count-all .ensures (a .s .now) (arrays (a .starts .now) (a .ends .now)))
+    (c .before .before .put-header .ensures))
 
 returns : tie.Need-returns
 unfolding table-told
-returns c = tabled (map (text-at (c .before .before .before .before .before .before .before .before .before .before .before .before .before .before .before .before .before .before .before .before .before .before .before .before .before .before .before .before .before .before .before .before .before .before .before .args .s .now) (c .before .before .before .before .before .before .before .before .before .before .before .before .before .before .before .before .before .before .before .before .before .before .before .before .before .before .before .before .before .before .before .before .before .before .before .args .starts .now) (c .before .before .before .before .before .before .before .before .before .before .before .before .before .before .before .before .before .before .before .before .before .before .before .before .before .before .before .before .before .before .before .before .before .before .before .args .ends .now)) (c .before .before .before .before .before .before .before .before .before .before .before .before .before .before .before .before .before .before .before .before .before .before .before .before .before .before .before .before .before .before .before .before .before .before .before .args .uags .now)) (map (text-at (c .before .before .before .before .before .before .before .before .before .before .before .before .before .before .before .before .before .before .before .before .before .before .before .before .before .before .before .before .before .before .before .before .before .before .before .args .s .now) (c .before .before .before .before .before .before .before .before .before .before .before .before .before .before .before .before .before .before .before .before .before .before .before .before .before .before .before .before .before .before .before .before .before .before .before .args .starts .now) (c .before .before .before .before .before .before .before .before .before .before .before .before .before .before .before .before .before .before .before .before .before .before .before .before .before .before .before .before .before .before .before .before .before .before .before .args .ends .now)) (c .before .before .before .before .before .before .before .before .before .before .before .before .before .before .before .before .before .before .before .before .before .before .before .before .before .before .before .before .before .before .before .before .before .before .before .args .hags .now)) (tokens (c .before .before .before .before .before .before .before .before .before .before .before .before .before .before .before .before .before .before .before .before .before .before .before .before .before .before .before .before .before .before .before .before .before .before .before .args .s .now) (arrays (c .before .before .before .before .before .before .before .before .before .before .before .before .before .before .before .before .before .before .before .before .before .before .before .before .before .before .before .before .before .before .before .before .before .before .before .args .starts .now) (c .before .before .before .before .before .before .before .before .before .before .before .before .before .before .before .before .before .before .before .before .before .before .before .before .before .before .before .before .before .before .before .before .before .before .before .args .ends .now)) (c .before .before .before .before .before .before .before .before .before .before .before .before .before .before .before .before .before .before .before .before .before .before .before .before .before .before .before .before .before .before .before .before .before .before .before .args .roles .now) 0 (c .before .before .before .before .before .before .before .before .before .before .before .before .before .before .before .before .before .before .before .before .before .before .before .before .before .before .before .before .before .before .before .before .before .before .before .args .n)) (c .before .before .before .before .before .before .before .before .before .before .before .before .before .before .before .before .before .before .before .before .before .before .before .before .before .before .groups .ensures) (c .before .before .before .before .before .before .before .before .before .before .before .before .before .before .before .before .before .before .before .before .before .access .ensures) (c .before .before .before .before .before .before .before .before .before .before .before .before .before .before .before .before .rules .ensures) (c .before .before .before .before .before .before .before .before .before .before .before .group-names .ensures) (c .before .before .before .before .before .before .before .access-names .ensures) (c .before .before .before .before .count-all .ensures (c .before .before .before .before .before .before .before .before .before .before .before .before .before .before .before .before .before .before .before .before .before .before .before .before .before .before .before .before .before .before .before .before .before .before .before .args .s .now) (arrays (c .before .before .before .before .before .before .before .before .before .before .before .before .before .before .before .before .before .before .before .before .before .before .before .before .before .before .before .before .before .before .before .before .before .before .before .args .starts .now) (c .before .before .before .before .before .before .before .before .before .before .before .before .before .before .before .before .before .before .before .before .before .before .before .before .before .before .before .before .before .before .before .before .before .before .before .args .ends .now))) (c .before .before .put-header .ensures)
+returns c =
+    let a = c .before .before .before .before .before .before .before .before .before .before .before .before .before .before .before .before .before .before .before .before .before .before .before .before .before .before .before .before .before .before .before .before .before .before .before .args in
+    table-put (texts-at (a .s .now) (a .starts .now) (a .ends .now) (a .uags .now))
+    (texts-at (a .s .now) (a .starts .now) (a .ends .now) (a .hags .now))
+    (tokens-in (a .s .now) (a .starts .now) (a .ends .now) (a .roles .now) 0 (a .n))
+    (c .before .before .before .before .before .before .before .before .before .before .before .before .before .before .before .before .before .before .before .before .before .before .before .before .before .before .group-sections .ensures)
+    (c .before .before .before .before .before .before .before .before .before .before .before .before .before .before .before .before .before .before .before .before .before .access-sections .ensures)
+    (c .before .before .before .before .before .before .before .before .before .before .before .before .before .before .before .before .rule-sections .ensures)
+    (c .before .before .before .before .before .before .before .before .before .before .before .group-strings .ensures)
+    (c .before .before .before .before .before .before .before .access-strings .ensures)
+    (c .before .before .before .before .count-all .ensures (a .s .now) (arrays (a .starts .now) (a .ends .now)))
+    (c .before .before .put-header .ensures)
 
 pub table-spec : {M : Type 1} → statement M
 table-spec =
     tie.close
     (tie.spec
-    groups-requires
-    access-requires
-    rules-requires
-    group-names-requires
-    access-names-requires
+    group-sections-requires
+    access-sections-requires
+    rule-sections-requires
+    group-strings-requires
+    access-strings-requires
     count-all-requires
     put-header-requires
     same-length

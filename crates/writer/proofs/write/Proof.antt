@@ -1,6 +1,6 @@
-use Rattle.writer.specs.Table.{no-room, by-measure, by-length, room, room-length}
 use mathlib.Core.Logic.{⊎-elim}
 use borrow.Author.Needs.{needs}
+use Rattle.writer.specs.laws.Table.{by-length, by-measure, no-room, room, room-length}
 use Rattle.writer.proofs.write.Statement.{statement}
 use Rattle.writer.proofs.write.Tie as tie
 
@@ -26,10 +26,20 @@ table-requires-2 : tie.Need-table-requires-2
 table-requires-2 c κs = search needs
 
 same-length-2 : tie.Need-same-length-2
-same-length-2 c = room-length (⊎-elim (λ w. by-measure (w .2 .ensures) (w .5 .left) (w .6)) (λ w. by-length (c .before .before .before .before .before .before .before .before .before .before .before .before .pre .1) (w .0 .left) (w .1)) (c .before .before .before .before .if1 .came)) (c .before .before .table2 .ensures)
+same-length-2 c =
+    room-length
+    (⊎-elim (λ w. by-measure (w .2 .ensures) (w .5 .left) (w .6))
+    (λ w. by-length (c .before .before .before .before .before .before .before .before .before .before .before .before .pre .1) (w .0 .left) (w .1))
+    (c .before .before .before .before .if1 .came))
+    (c .before .before .table2 .ensures)
 
 returns-2 : tie.Need-returns-2
-returns-2 c = room (⊎-elim (λ w. by-measure (w .2 .ensures) (w .5 .left) (w .6)) (λ w. by-length (c .before .before .before .before .before .before .before .before .before .before .before .before .pre .1) (w .0 .left) (w .1)) (c .before .before .before .before .if1 .came)) (c .before .before .table2 .ensures)
+returns-2 c =
+    room
+    (⊎-elim (λ w. by-measure (w .2 .ensures) (w .5 .left) (w .6))
+    (λ w. by-length (c .before .before .before .before .before .before .before .before .before .before .before .before .pre .1) (w .0 .left) (w .1))
+    (c .before .before .before .before .if1 .came))
+    (c .before .before .table2 .ensures)
 
 pub write-spec : {M : Type 1} → statement M
 write-spec =

@@ -1,0 +1,4 @@
+pub mod Cursor
+pub mod Record
+pub mod Step
+pub mod laws

@@ -1,0 +1,4 @@
+pub mod Tokens
+pub mod Cursors
+pub mod Rules
+pub mod Bounds

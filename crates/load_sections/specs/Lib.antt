@@ -1,0 +1,3 @@
+pub mod Sections
+pub mod Strings
+pub mod laws

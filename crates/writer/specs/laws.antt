@@ -1,0 +1,9 @@
+pub mod Header
+pub mod Table
+pub mod Flat
+pub mod GroupRecords
+pub mod RuleRecords
+pub mod Sections
+pub mod Counts
+pub mod Bare
+pub mod Whole
