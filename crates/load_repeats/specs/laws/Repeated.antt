@@ -55,33 +55,16 @@ since-until q stop d xs = run-same _ _ (λ x. go x (says stop x) refl) xs
 abbrev repeated-any : Context → Bool
 repeated-any c = name-repeated c || (repeated Input AsgName c || repeated CalcWord RuleWord c)
 
-or-false : (b : Bool) → b ≡ b || false
-or-false true = refl
-or-false false = refl
-
 -- what is given again is given again in one of them
-by-role :
-    (b : List Said) (t : Token) (q : Role) (f : List Said)
-    → given-again (record { before = b; here = record { token = t; role = q }; behind = f })
-    ≡ repeated-any (record { before = b; here = record { token = t; role = q }; behind = f })
-by-role b t Mute f = refl
-by-role b t UagName f = rw (since-ever UagName b) (or-false _ ∙ or-false _)
-by-role b t User f = refl
-by-role b t HagName f = rw (since-ever HagName b) (or-false _ ∙ or-false _)
-by-role b t Host f = refl
-by-role b t AsgName f = rw (since-ever AsgName b) (or-false _)
-by-role b t Input f = rw (since-until Input AsgName refl b) (or-false _)
-by-role b t Pvname f = refl
-by-role b t RuleWord f = refl
-by-role b t Level f = refl
-by-role b t Permission f = refl
-by-role b t LogOption f = refl
-by-role b t UagNamed f = refl
-by-role b t HagNamed f = refl
-by-role b t CalcWord f = rw (since-until CalcWord RuleWord refl b)
-by-role b t Calculation f = refl
-by-role b t UnknownItem f = refl
-by-role b t UnknownPredicate f = refl
+again-repeated : (c : Context) → given-again c ≡ repeated-any c
+again-repeated c =
+    rw (
+      since-ever UagName (c .before),
+      since-ever HagName (c .before),
+      since-ever AsgName (c .before),
+      since-until Input AsgName refl (c .before),
+      since-until CalcWord RuleWord refl (c .before),
+    )
 
 module _ (s starts ends roles : List ℕ) (n : ℕ) where
   -- the first of a file's tokens to which p applies
@@ -99,7 +82,7 @@ module _ (s starts ends roles : List ℕ) (n : ℕ) where
   -- the first token given again is the first of the names, the letters and the CALCs
   pub first-again : first given-again ≡ min (first name-repeated) (min (first (repeated Input AsgName)) (first (repeated CalcWord RuleWord)))
   first-again =
-      seek-same given-again repeated-any (λ c. by-role (c .before) (c .here .token) (c .here .role) (c .behind)) [] (tokens s (arrays starts ends) roles 0 n)
+      seek-same given-again repeated-any again-repeated [] (tokens s (arrays starts ends) roles 0 n)
       ∙ rw (
         seek-either name-repeated (λ c. repeated Input AsgName c || repeated CalcWord RuleWord c) [] (tokens s (arrays starts ends) roles 0 n),
         seek-either (repeated Input AsgName) (repeated CalcWord RuleWord) [] (tokens s (arrays starts ends) roles 0 n),
