@@ -42,7 +42,7 @@ Joins s at l (joint.By o n) = Symbol-at s at (operator o) n × (l ≤ level o)
 Joins s at l (joint.Choice n) = Symbol-at s at question n × (l ≡ 0)
 Joins s at l joint.End = ends-of (syms s at) ≤ l
 
--- the sign that the lowest frame awaits behind a tree
+-- the sign that the top of a stack awaits behind a tree
 abbrev pub awaited : Stack → List ℕ
 awaited [] = []
 awaited (begun b ∷ k) = []
