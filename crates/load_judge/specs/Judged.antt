@@ -3,20 +3,24 @@ use mathlib.Core.Path.{_≡_}
 use mathlib.Core.List.{List}
 use Prim.Native.Nat.{ℕ, _≤_}
 use lib.ListN.{length}
-use Rattle.kept.specs.Kept.{Arrays, said-from}
-use Rattle.file.specs.Refusal.{contexts, causes, refused-by}
-use Rattle.file.specs.Load.{by-causes, verdict}
+use Rattle.kept.specs.Stores.{kept-in}
+use Rattle.file.specs.Limit.{most-bytes}
+use Rattle.file.specs.Load.{verdict}
 use Rattle.texts.specs.Rolls.{Lie}
 use Rattle.load_syntax.specs.declared.Judgment.{Judgment}
 use Rattle.load_syntax.specs.Syntax.{count, final-verdict}
 
--- the verdict on n tokens by the causes 5 to 10
-pub record Judged-tokens (s : List ℕ) (a : Arrays) (roles : List ℕ) (n : ℕ) (r : Judgment) : Type 0 where
-  pub same : by-causes (said-from s a roles 0 n) (refused-by causes (contexts (said-from s a roles 0 n))) ≡ final-verdict s a roles r
-  pub few : count r ≤ n
+-- the text is not too long, and the arrays have room for its tokens, of which there are no more than bytes
+pub record Space (s places starts ends roles : List ℕ) : Type 0 where
+  pub short : length s ≤ most-bytes
+  pub place-room : length s ≤ length places
+  pub start-room : length s ≤ length starts
+  pub end-room : length s ≤ length ends
+  pub role-room : length s ≤ length roles
 
--- the verdict on a text
-pub record Judged (s : List ℕ) (a : Arrays) (roles : List ℕ) (r : Judgment) : Type 0 where
-  pub same : verdict s ≡ final-verdict s a roles r
-  pub lie : Lie s (a .starts) (a .ends) roles (count r)
-  pub places : count r ≤ length (a .places)
+-- the verdict on a text; the kinds of its tokens are not handed on
+pub record Judged (s places starts ends roles : List ℕ) (r : Judgment) : Type 0 where
+  pub kinds : List ℕ
+  pub same : verdict s ≡ final-verdict s (kept-in kinds places starts ends) roles r
+  pub lie : Lie s starts ends roles (count r)
+  pub has-places : count r ≤ length places

@@ -1,3 +1,2 @@
-pub mod Cause
 pub mod Judged
 pub mod laws

@@ -1,9 +1,8 @@
 ghost use mathlib.Core.Path.{_≡_};
 ghost use Prim.Native.Nat.{_≤_};
 ghost use lib.ListN.{length};
-ghost use Rattle.kept.specs.Stores.{kept-in};
 ghost use Rattle.load.specs.Listing.{listing};
-ghost use Rattle.load_syntax.specs.Syntax.{Capacity};
+ghost use Rattle.load_judge.specs.Judged.{Space};
 use file::Refusal;
 use load::Listed;
 use load_judge::LONGEST;
@@ -13,29 +12,37 @@ use load_syntax::Judgment;
 // The warnings of a text whose tokens have room in the arrays.
 fn list_in(
     text: &[u8],
-    kinds: &mut [u8],
     places: &mut [u16],
     starts: &mut [u16],
     ends: &mut [u16],
     roles: &mut [u8],
-    seen: &mut [u16],
     skip: usize,
     numbers: &mut [u8],
     at: &mut [u16],
 ) -> Listed
-    requires { ⌜ Capacity (now text) (kept-in (now kinds) (now places) (now starts) (now ends)) (now roles) × (length (now text) ≤ length (now seen)) ⌝ }
+    requires { ⌜ Space (now text) (now places) (now starts) (now ends) (now roles) ⌝ }
     ensures { λ r. ⌜
         record { answer = r; numbers = now (numbers .exit); places = now (at .exit) }
         ≡ listing skip (now (numbers .entry)) (now (at .entry)) (now (text .entry))
         ⌝ }
 {
-    match load_judge::judge(text, kinds, places, starts, ends, roles, seen) {
+    match load_judge::judge(text, places, starts, ends, roles) {
         Judgment::Refused(k, p) => Listed::Refused {
             refusal: k,
             place: p,
         },
         Judgment::Tokens(n) => {
-            let count = load_warnings::warnings(text, places, starts, ends, roles, n, skip, numbers, at);
+            let count = load_warnings::warnings(
+                text,
+                places,
+                starts,
+                ends,
+                roles,
+                n,
+                skip,
+                numbers,
+                at,
+            );
             Listed::Warnings(count)
         }
     }
@@ -48,20 +55,16 @@ fn list_short(text: &[u8], skip: usize, numbers: &mut [u8], at: &mut [u16]) -> L
         ≡ listing skip (now (numbers .entry)) (now (at .entry)) (now (text .entry))
         ⌝ }
 {
-    let mut kinds = [0u8; SHORT];
     let mut places = [0u16; SHORT];
     let mut starts = [0u16; SHORT];
     let mut ends = [0u16; SHORT];
     let mut roles = [0u8; SHORT];
-    let mut seen = [0u16; SHORT];
     list_in(
         text,
-        &mut kinds,
         &mut places,
         &mut starts,
         &mut ends,
         &mut roles,
-        &mut seen,
         skip,
         numbers,
         at,
@@ -75,20 +78,16 @@ fn list_long(text: &[u8], skip: usize, numbers: &mut [u8], at: &mut [u16]) -> Li
         ≡ listing skip (now (numbers .entry)) (now (at .entry)) (now (text .entry))
         ⌝ }
 {
-    let mut kinds = [0u8; LONGEST];
     let mut places = [0u16; LONGEST];
     let mut starts = [0u16; LONGEST];
     let mut ends = [0u16; LONGEST];
     let mut roles = [0u8; LONGEST];
-    let mut seen = [0u16; LONGEST];
     list_in(
         text,
-        &mut kinds,
         &mut places,
         &mut starts,
         &mut ends,
         &mut roles,
-        &mut seen,
         skip,
         numbers,
         at,

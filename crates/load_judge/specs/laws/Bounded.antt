@@ -6,6 +6,7 @@ use native.Mathlib.Omega.{arith}
 use Rattle.lists.specs.Sums.{sum, length-sum}
 use Rattle.grammar.specs.declared.Role.the-variants.{UagName, HagName}
 use Rattle.kept.specs.Kept.{Arrays, said-from}
+use Rattle.kept.specs.Stores.{kept-in}
 use Rattle.file.specs.Limit.{user-groups, host-groups}
 use Rattle.file.specs.Contents.{texts}
 use Rattle.file.specs.Refusal.{contexts}
@@ -35,20 +36,24 @@ module _ (s : List ℕ) (a : Arrays) (roles : List ℕ) (n : ℕ) (e : verdict s
       let c = clear (contexts xs) (unanswered (contexts xs) (accepted-is s xs e .uncaused)) .few in
       omega (arith, tally-is s a roles 3 0 n (record { some = omega arith; known = omega arith }), length-sum (texts HagName xs), sum-texts HagName (λ t. 1) xs, counted-roles host-groups (HagName ∷ []) (λ x. once x .host-group) xs c)
 
-module _ {s : List ℕ} {a : Arrays} {roles : List ℕ} {r : Judgment} (f : Judged s a roles r) where
-  pub accepted-as : {n : ℕ} → r ≡ Tokens n → verdict s ≡ accept (said-from s a roles 0 n)
-  accepted-as e = f .same ∙ ap (final-verdict s a roles) e
+module _ {s places starts ends roles : List ℕ} {r : Judgment} (f : Judged s places starts ends roles r) where
+  -- the arrays with the kinds that the verdict speaks of
+  abbrev pub arrays-of : Arrays
+  arrays-of = kept-in (f .kinds) places starts ends
+
+  pub accepted-as : {n : ℕ} → r ≡ Tokens n → verdict s ≡ accept (said-from s arrays-of roles 0 n)
+  accepted-as e = f .same ∙ ap (final-verdict s arrays-of roles) e
 
   pub refused-as : {k : Refusal} {p : ℕ} → r ≡ Refused k p → verdict s ≡ refuse k p
-  refused-as e = f .same ∙ ap (final-verdict s a roles) e
+  refused-as e = f .same ∙ ap (final-verdict s arrays-of roles) e
 
-  pub bounded : {n : ℕ} → r ≡ Tokens n → Bounded s (a .places) (a .starts) (a .ends) roles n
+  pub bounded : {n : ℕ} → r ≡ Tokens n → Bounded s places starts ends roles n
   bounded {n} e =
       let v = accepted-as e in
       let k : count r ≡ n = ap count e in
       record {
         lie = rw k at (f .lie);
-        has-places = rw k at (f .places);
-        user-groups = few-users s a roles n v;
-        host-groups = few-hosts s a roles n v;
+        has-places = rw k at (f .has-places);
+        user-groups = few-users s arrays-of roles n v;
+        host-groups = few-hosts s arrays-of roles n v;
       }

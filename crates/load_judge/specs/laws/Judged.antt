@@ -15,7 +15,8 @@ use Rattle.texts.specs.Rolls.{Lie, lie-less}
 use Rattle.load_syntax.specs.declared.Judgment.{Judgment}
 use Rattle.load_syntax.specs.declared.Judgment.the-variants.{Tokens, Refused}
 use Rattle.load_syntax.specs.Syntax.{count, open-verdict, Read}
-use Rattle.load_judge.specs.Judged.{Judged-tokens, Judged}
+use Rattle.load_causes.specs.Cause.{Judged-tokens}
+use Rattle.load_judge.specs.Judged.{Judged}
 
 verdict-short : (s : List ℕ) → length s ≤ most-bytes → verdict s ≡ by-tokens (length s) (scanned s)
 unfolding verdict
@@ -49,20 +50,22 @@ module _ {s : List ℕ} {a : Arrays} {roles : List ℕ} {r : Judgment} (l : Read
       (lie-less (omega arith) lies, omega (arith, l .few, l .capacity .room .places), omega (arith, l .few))
 
   -- refused by 2 to 4
-  pub refused-early : {k : Refusal} {p : ℕ} → r ≡ Refused k p → Judged s a roles (Refused k p)
+  pub refused-early : {k : Refusal} {p : ℕ} → r ≡ Refused k p → Judged s (a .places) (a .starts) (a .ends) roles (Refused k p)
   refused-early e =
       record {
+        kinds = a .kinds;
         same = verdict-short s (l .capacity .short) ∙ l .same ∙ ap (open-verdict s a roles) e;
         lie = lie-less (omega arith) lies;
-        places = omega arith;
+        has-places = omega arith;
       }
 
   -- judged by 5 to 10
-  pub judged-late : {n : ℕ} {t : Judgment} → r ≡ Tokens n → Judged-tokens s a roles n t → Judged s a roles t
+  pub judged-late : {n : ℕ} {t : Judgment} → r ≡ Tokens n → Judged-tokens s a roles n t → Judged s (a .places) (a .starts) (a .ends) roles t
   judged-late {n} {t} e j =
       let f : n ≡ count r = sym (ap count e) in
       record {
+        kinds = a .kinds;
         same = verdict-short s (l .capacity .short) ∙ l .same ∙ ap (open-verdict s a roles) e ∙ j .same;
         lie = lie-less (omega (arith, j .few)) lies;
-        places = omega (arith, j .few, l .few, l .capacity .room .places);
+        has-places = omega (arith, j .few, l .few, l .capacity .room .places);
       }

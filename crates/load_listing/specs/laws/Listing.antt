@@ -3,7 +3,7 @@ use mathlib.Core.Path.{_≡_}
 use mathlib.Core.List.{List, map}
 use Prim.Native.Nat.{ℕ, _<_}
 use lib.ListN.{length, drop}
-use Rattle.kept.specs.Kept.{Arrays, said-from}
+use Rattle.kept.specs.Kept.{said-from}
 use Rattle.file.specs.Limit.{most-bytes}
 use Rattle.file.specs.declared.Refusal.{Refusal}
 use Rattle.file.specs.declared.Refusal.the-variants.{FileTooLong}
@@ -14,24 +14,34 @@ use Rattle.load_syntax.specs.declared.Judgment.{Judgment}
 use Rattle.load_syntax.specs.declared.Judgment.the-variants as judgment
 use Rattle.load_judge.specs.Judged.{Judged}
 use Rattle.load_judge.specs.laws.Judged.{verdict-long}
-use Rattle.load_judge.specs.laws.Bounded.{accepted-as, refused-as}
+use Rattle.load_judge.specs.laws.Bounded.{arrays-of, accepted-as, refused-as}
 use Rattle.load_warnings.specs.Filled.{Filled, warnings-of}
 use Rattle.load_warnings.specs.laws.Kind.{warnings-kindless}
 use Rattle.load_listing.specs.laws.Over.{over}
 
-module _ {s : List ℕ} {a : Arrays} {roles : List ℕ} {r : Judgment} (f : Judged s a roles r) (skip : ℕ) (numbers places : List ℕ) where
-  pub listed-refused : {k : Refusal} {p : ℕ} → r ≡ judgment.Refused k p → record { answer = Refused k p; numbers = numbers; places = places } ≡ listing skip numbers places s
+module _ {s places starts ends roles : List ℕ} {r : Judgment} (f : Judged s places starts ends roles r) (skip : ℕ) (numbers at : List ℕ) where
+  pub listed-refused :
+      {k : Refusal} {p : ℕ} → r ≡ judgment.Refused k p
+      → record { answer = Refused k p; numbers = numbers; places = at } ≡ listing skip numbers at s
   unfolding listing
   listed-refused e = rw (refused-as f e)
 
   pub listed-warnings :
       {n count : ℕ} {c d : List ℕ} → r ≡ judgment.Tokens n
-      → Filled (warnings-of s (a .places) (a .starts) (a .ends) roles n) skip numbers c places d count
-      → record { answer = Warnings count; numbers = c; places = d } ≡ listing skip numbers places s
+      → Filled (warnings-of s places starts ends roles n) skip numbers c at d count
+      → record { answer = Warnings count; numbers = c; places = d } ≡ listing skip numbers at s
   unfolding listing
   listed-warnings {n} e t =
-      let ws = warnings (said-from s a roles 0 n) in
-      rw (accepted-as f e, t .count, t .numbers, t .places, warnings-kindless s a roles n, over (drop skip (map (λ x. number (x .warning)) ws)) numbers, over (drop skip (map (λ x. x .place) ws)) places)
+      let ws = warnings (said-from s (arrays-of f) roles 0 n) in
+      rw (
+        accepted-as f e,
+        t .count,
+        t .numbers,
+        t .places,
+        warnings-kindless s (arrays-of f) roles n,
+        over (drop skip (map (λ x. number (x .warning)) ws)) numbers,
+        over (drop skip (map (λ x. x .place) ws)) at,
+      )
 
 -- a text over 16,384 bytes
 pub listed-long :

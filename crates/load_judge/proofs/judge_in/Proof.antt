@@ -1,7 +1,7 @@
 use Rattle.load_judge.specs.laws.Judged.{causes-ready, refused-early, judged-late}
 use borrow.Author.Needs.{needs}
-use Rattle.load_judge.proofs.judge.Statement.{statement}
-use Rattle.load_judge.proofs.judge.Tie as tie
+use Rattle.load_judge.proofs.judge_in.Statement.{statement}
+use Rattle.load_judge.proofs.judge_in.Tie as tie
 
 read-requires : tie.Need-read-requires
 read-requires c κs = search needs
@@ -54,8 +54,8 @@ same-length-11 c = search needs
 returns-2 : tie.Need-returns-2
 returns-2 c = judged-late (c .before .before .before .before .before .before .before .before .before .before .before .before .before .before .before .before .before .before .before .before .before .read .ensures) (c .before .before .before .before .before .before .before .before .before .n .given .1) (c .before .before .by-causes .ensures _)
 
-pub judge-spec : {M : Type 1} → statement M
-judge-spec =
+pub judge-in-spec : {M : Type 1} → statement M
+judge-in-spec =
     tie.close
     (tie.spec
     read-requires

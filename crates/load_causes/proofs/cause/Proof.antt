@@ -1,7 +1,7 @@
-use Rattle.load_judge.specs.laws.Cause.{last-cause}
+use Rattle.load_causes.specs.laws.Cause.{last-cause}
 use borrow.Author.Needs.{needs}
-use Rattle.load_judge.proofs.cause.Statement.{statement}
-use Rattle.load_judge.proofs.cause.Tie as tie
+use Rattle.load_causes.proofs.cause.Statement.{statement}
+use Rattle.load_causes.proofs.cause.Tie as tie
 
 returns : tie.Need-returns
 returns c = search needs

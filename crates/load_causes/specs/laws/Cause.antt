@@ -22,8 +22,7 @@ use Rattle.texts.specs.Bare.{bare-from, bare-context, seek-bare}
 use Rattle.texts.specs.Bare.{too-long-bare, too-many-bare, given-again-bare, bad-level-bare, unknown-word-bare, bad-calculation-bare}
 use Rattle.load_syntax.specs.declared.Judgment.the-variants.{Tokens, Refused}
 use Rattle.texts.specs.Search.{first-of}
-use Rattle.load_judge.specs.Cause.{cause-at, applies}
-use Rattle.load_judge.specs.Judged.{Judged-tokens}
+use Rattle.load_causes.specs.Cause.{cause-at, applies, Judged-tokens}
 
 -- ---- the list of the causes
 

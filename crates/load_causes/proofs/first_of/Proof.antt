@@ -1,5 +1,5 @@
-use Rattle.load_judge.specs.laws.Cause.{first-never}
-use Rattle.load_judge.specs.Cause.{applies}
+use Rattle.load_causes.specs.laws.Cause.{first-never}
+use Rattle.load_causes.specs.Cause.{applies}
 use Rattle.file.specs.Refusal.{Context}
 use Rattle.file.specs.declared.Refusal.the-variants.{StringTooLong, TooMany, GivenAgain, BadLevel, UnknownWord, BadCalculation}
 use Rattle.file.specs.declared.Refusal.the-variants.{FileTooLong, BadByte, TooDeep, Ungrammatical, NoRoom}
@@ -14,8 +14,8 @@ use mathlib.Core.Bool.{false}
 use mathlib.Core.Logic.{⊎-elim}
 use mathlib.Core.Path.{_≡_, refl}
 use borrow.Author.Needs.{needs}
-use Rattle.load_judge.proofs.first_of.Statement.{statement}
-use Rattle.load_judge.proofs.first_of.Tie as tie
+use Rattle.load_causes.proofs.first_of.Statement.{statement}
+use Rattle.load_causes.proofs.first_of.Tie as tie
 
 -- the tags of the refusals that are no cause
 no-tag : {x : ℕ} → OneOf (0 ∷ 1 ∷ 2 ∷ 3 ∷ 10 ∷ []) x → 4 ≤ x → x < 10 → ⊥

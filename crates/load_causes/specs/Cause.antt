@@ -1,12 +1,18 @@
 -- The causes 5 to 10 by their refusals.
+use mathlib.Core.Path.{_≡_}
 use mathlib.Core.Bool.{Bool, false}
-use mathlib.Core.List.{map}
-use Prim.Native.Nat.{ℕ}
+use mathlib.Core.List.{List, map}
+use Prim.Native.Nat.{ℕ, _≤_}
 use lib.ListN.{getD}
+use Rattle.kept.specs.Kept.{Arrays, said-from}
 use Rattle.file.specs.declared.Refusal.{Refusal}
 use Rattle.file.specs.declared.Refusal.the-variants.{FileTooLong, BadByte, TooDeep, Ungrammatical, NoRoom}
 use Rattle.file.specs.declared.Refusal.the-variants.{StringTooLong, TooMany, GivenAgain, BadLevel, UnknownWord, BadCalculation}
-use Rattle.file.specs.Refusal.{Context, too-long, too-many, given-again, bad-level, unknown-word, bad-calculation, causes}
+use Rattle.file.specs.Refusal.{Context, too-long, too-many, given-again, bad-level, unknown-word, bad-calculation}
+use Rattle.file.specs.Refusal.{contexts, causes, refused-by}
+use Rattle.file.specs.Load.{by-causes}
+use Rattle.load_syntax.specs.declared.Judgment.{Judgment}
+use Rattle.load_syntax.specs.Syntax.{count, final-verdict}
 
 -- the refusal of the k-th cause, the last one's behind the last
 abbrev pub cause-at : ℕ → Refusal
@@ -25,3 +31,8 @@ applies BadLevel c = bad-level c
 applies UnknownWord c = unknown-word c
 applies BadCalculation c = bad-calculation c
 applies NoRoom c = false
+
+-- the verdict on n tokens by the causes 5 to 10
+pub record Judged-tokens (s : List ℕ) (a : Arrays) (roles : List ℕ) (n : ℕ) (r : Judgment) : Type 0 where
+  pub same : by-causes (said-from s a roles 0 n) (refused-by causes (contexts (said-from s a roles 0 n))) ≡ final-verdict s a roles r
+  pub few : count r ≤ n

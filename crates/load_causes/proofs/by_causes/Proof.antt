@@ -1,11 +1,11 @@
-use Rattle.load_judge.specs.laws.Cause.{Judging, judging-first, judging-found, judging-on, judging-end}
+use Rattle.load_causes.specs.laws.Cause.{Judging, judging-first, judging-found, judging-on, judging-end}
 use lib.ListN.{length}
 use native.Mathlib.Omega.{arith}
 use Prim.Native.Nat.{_+_, _-_, _≤_}
 use mathlib.Core.Path.{_≡_, refl, _∙_}
 use borrow.Author.Needs.{needs}
-use Rattle.load_judge.proofs.by_causes.Statement.{statement}
-use Rattle.load_judge.proofs.by_causes.Tie as tie
+use Rattle.load_causes.proofs.by_causes.Statement.{statement}
+use Rattle.load_causes.proofs.by_causes.Tie as tie
 
 abbrev Inv-loop : tie.InvT-loop
 Inv-loop s places starts ends roles n seen₀ k₀ seen k = Judging s places starts ends roles n k × (k ≤ 6) × (length seen ≡ length seen₀)

@@ -4,13 +4,13 @@ use lib.Seq.{length-take-le}
 use lib.ListN.{length}
 use mathlib.Core.List.{List}
 use Prim.Native.Nat.{ℕ}
-use Rattle.loader.specs.laws.Outcome.{stored-done, stored-undone}
+use Rattle.load_store.specs.laws.Stored.{stored-done, stored-undone}
 use Rattle.kept.specs.Stores.{kept-in}
 use Rattle.texts.specs.Lies.{All-lie}
 use Rattle.texts.specs.Listed.{indices-length, listed-names, listed-length, listed-lie}
 use borrow.Author.Needs.{needs}
-use Rattle.loader.proofs.store.Statement.{statement}
-use Rattle.loader.proofs.store.Tie as tie
+use Rattle.load_store.proofs.store.Statement.{statement}
+use Rattle.load_store.proofs.store.Tie as tie
 
 slice-aggregate-collect : tie.Need-slice-aggregate-collect
 slice-aggregate-collect c = search needs

@@ -1,0 +1,80 @@
+ghost use mathlib.Core.Path.{_≡_};
+ghost use mathlib.Core.List.{List};
+ghost use Prim.Native.Nat.{ℕ, _≤_};
+ghost use lib.ListN.{length};
+ghost use Rattle.kept.specs.Stores.{kept-in};
+ghost use Rattle.texts.specs.Rolls.{Lie};
+ghost use Rattle.texts.specs.Search.{first-of};
+ghost use Rattle.load_causes.specs.Cause.{cause-at, applies, Judged-tokens};
+use file::Refusal;
+use load_syntax::Judgment;
+
+// How many causes there are.
+const CAUSES: usize = 6;
+
+// The causes in the order in which they are looked for: file/specs/Refusal.antt.
+fn cause(k: usize) -> Refusal
+    ensures { λ r. ⌜ r ≡ cause-at k ⌝ }
+{
+    match k {
+        0 => Refusal::StringTooLong,
+        1 => Refusal::TooMany,
+        2 => Refusal::GivenAgain,
+        3 => Refusal::BadLevel,
+        4 => Refusal::UnknownWord,
+        _ => Refusal::BadCalculation,
+    }
+}
+
+// The first of n tokens to which a cause applies, or n.
+fn first_of(
+    cause: Refusal,
+    s: &[u8],
+    starts: &[u16],
+    ends: &[u16],
+    roles: &[u8],
+    n: usize,
+    seen: &mut [u16],
+) -> usize
+    requires { ⌜ Lie (now s) (now starts) (now ends) (now roles) n × (n ≤ length (now seen)) ⌝ }
+    ensures { λ r. ⌜ r ≡ first-of (applies cause) (now (s .entry)) (now (starts .entry)) (now (ends .entry)) (now (roles .entry)) n ⌝ }
+{
+    match cause {
+        Refusal::StringTooLong => load_limits::too_long(s, starts, ends, roles, n),
+        Refusal::TooMany => load_limits::too_many(s, starts, ends, roles, n),
+        Refusal::GivenAgain => load_repeats::given_again(s, starts, ends, roles, n, seen),
+        Refusal::BadLevel => load_words::bad_level(s, starts, ends, roles, n),
+        Refusal::UnknownWord => load_words::unknown_word(s, starts, ends, roles, n),
+        Refusal::BadCalculation => load_calcs::bad_calculation(s, starts, ends, roles, n),
+        _ => n,
+    }
+}
+
+// The refusals 5 to 10, of n tokens: the first cause that applies, at its earliest place.
+// The caller, load_judge, has the tokens from load_syntax.
+pub fn by_causes(
+    s: &[u8],
+    places: &[u16],
+    starts: &[u16],
+    ends: &[u16],
+    roles: &[u8],
+    n: usize,
+    seen: &mut [u16],
+) -> Judgment
+    requires { ⌜ Lie (now s) (now starts) (now ends) (now roles) n × (n ≤ length (now places)) × (n ≤ length (now seen)) ⌝ }
+    ensures { λ r. ⌜
+        ((kinds : List ℕ) → Judged-tokens (now (s .entry))
+        (kept-in kinds (now (places .entry)) (now (starts .entry)) (now (ends .entry))) (now (roles .entry)) n r)
+        ⌝ }
+{
+    let mut k = 0;
+    while k < CAUSES {
+        let refusal = cause(k);
+        let i = first_of(refusal, s, starts, ends, roles, n, seen);
+        if i < n {
+            return Judgment::Refused(refusal, kept::wide(places[i]));
+        }
+        k += 1;
+    }
+    Judgment::Tokens(n)
+}

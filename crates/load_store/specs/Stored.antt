@@ -1,0 +1,20 @@
+-- The table of an accepted file in the lent bytes.
+use mathlib.Core.Path.{_≡_}
+use mathlib.Core.List.{List}
+use Prim.Native.Nat.{ℕ, _≤_}
+use lib.ListN.{length}
+use Rattle.kept.specs.Kept.{Arrays, said-from}
+use Rattle.file.specs.Load.{accept}
+use Rattle.table.specs.Layout.{greatest-table}
+use Rattle.texts.specs.Listed.{indices}
+use Rattle.load.specs.declared.Loaded.{Loaded}
+use Rattle.load.specs.Load.{by-verdict}
+use Rattle.writer.specs.Table.{table-told}
+
+-- the table of n tokens is no longer than the greatest
+abbrev pub Fits : List ℕ → List ℕ → List ℕ → List ℕ → ℕ → Type 0
+Fits s starts ends roles n = length (table-told s starts ends roles n (indices 1 roles 0 n) (indices 3 roles 0 n)) ≤ greatest-table
+
+-- what a load of n tokens answers, and what it makes of the lent bytes
+abbrev pub Stored : List ℕ → Arrays → List ℕ → ℕ → List ℕ → List ℕ → Loaded → Type 0
+Stored s a roles n lent after r = record { answer = r; bytes = after } ≡ by-verdict lent (accept (said-from s a roles 0 n))
