@@ -1,4 +1,6 @@
 // The braces rule: how many braces are open at once.
+use kept::CLOSE_BRACE;
+use kept::OPEN_BRACE;
 ghost use mathlib.Core.Path.{_≡_};
 ghost use mathlib.Core.List.{List};
 ghost use Prim.Native.Nat.{ℕ, _≤_};
@@ -7,11 +9,6 @@ ghost use Rattle.file.specs.Depth.{opened};
 ghost use Rattle.file.specs.Limit.{most-braces};
 ghost use Rattle.kept.specs.Kept.{kind-of-number};
 ghost use Rattle.braces.specs.Deep.{Finds};
-
-// kind-number
-const OPEN_BRACE: u8 = 11;
-
-const CLOSE_BRACE: u8 = 12;
 
 // most-braces
 const MOST_BRACES: usize = 16;

@@ -1,5 +1,14 @@
 // The blocks behind an unknown item or predicate: recursion for nested blocks, a loop for siblings.
 // Each function asks that there are as many roles as kinds: reader::read cuts both slices to one length, and its callees hand them on.
+use kept::CLOSE_BRACE;
+use kept::COMMA;
+use kept::FLOAT;
+use kept::INP;
+use kept::INT;
+use kept::NO_ROLE;
+use kept::OPEN_BRACE;
+use kept::OPEN_PAREN;
+use kept::STRING;
 use load_elements::Cursor;
 use load_elements::arguments;
 use load_elements::expect;
@@ -12,26 +21,6 @@ ghost use lib.ListN.{length};
 ghost use Rattle.grammar.specs.Reader.{once, perhaps, block, block-inside, block-name, block-number, top, inner};
 ghost use Rattle.load_elements.specs.Reads.{Reads};
 ghost use Rattle.load_blocks.specs.Blocks.{is-name, float-or-int, Opens, Closes};
-
-// kind-number
-const INP: u8 = 5;
-
-const INT: u8 = 6;
-
-const FLOAT: u8 = 7;
-
-const STRING: u8 = 8;
-
-const OPEN_PAREN: u8 = 9;
-
-const OPEN_BRACE: u8 = 11;
-
-const CLOSE_BRACE: u8 = 12;
-
-const COMMA: u8 = 13;
-
-// role-number
-const MUTE: u8 = 0;
 
 // How a block begins: with one element and its "}", done, or with an element that may nest, up to its "(".
 pub enum Opened {
@@ -63,9 +52,9 @@ fn after_number(kinds: &[u8], roles: &mut [u8], s: Cursor) -> Opened
     ensures { λ r. ⌜ Opens 1 (λ d. once (block-number d) ∷ []) (now (kinds .entry)) (now (roles .entry)) s (now (roles .exit)) r ⌝ }
 {
     if kind_at(kinds, s) == CLOSE_BRACE {
-        return Opened::One(expect(kinds, roles, s, CLOSE_BRACE, MUTE));
+        return Opened::One(expect(kinds, roles, s, CLOSE_BRACE, NO_ROLE));
     }
-    let at = expect(kinds, roles, s, COMMA, MUTE);
+    let at = expect(kinds, roles, s, COMMA, NO_ROLE);
     Opened::Done(list(kinds, roles, at))
 }
 
@@ -75,7 +64,7 @@ fn after_name(kinds: &[u8], roles: &mut [u8], s: Cursor) -> Opened
     ensures { λ r. ⌜ Opens 1 (λ d. once (block-name d) ∷ []) (now (kinds .entry)) (now (roles .entry)) s (now (roles .exit)) r ⌝ }
 {
     if kind_at(kinds, s) == OPEN_PAREN {
-        return Opened::Nested(expect(kinds, roles, s, OPEN_PAREN, MUTE));
+        return Opened::Nested(expect(kinds, roles, s, OPEN_PAREN, NO_ROLE));
     }
     after_number(kinds, roles, s)
 }
@@ -87,10 +76,10 @@ fn inside(kinds: &[u8], roles: &mut [u8], s: Cursor) -> Opened
 {
     let kind = kind_at(kinds, s);
     if is_name(kind) {
-        let at = expect(kinds, roles, s, kind, MUTE);
+        let at = expect(kinds, roles, s, kind, NO_ROLE);
         return after_name(kinds, roles, at);
     }
-    let at = expect(kinds, roles, s, float_or_int(kind), MUTE);
+    let at = expect(kinds, roles, s, float_or_int(kind), NO_ROLE);
     after_number(kinds, roles, at)
 }
 
@@ -102,7 +91,7 @@ fn open_block(kinds: &[u8], roles: &mut [u8], s: Cursor) -> Opened
     if kind_at(kinds, s) != OPEN_BRACE {
         return Opened::Done(s);
     }
-    let at = expect(kinds, roles, s, OPEN_BRACE, MUTE);
+    let at = expect(kinds, roles, s, OPEN_BRACE, NO_ROLE);
     inside(kinds, roles, at)
 }
 
@@ -122,10 +111,10 @@ fn nested(kinds: &[u8], roles: &mut [u8], o: Opened) -> Cursor
                 let next = nested(kinds, roles, within);
                 let kind = kind_at(kinds, next);
                 if !is_name(kind) {
-                    return expect(kinds, roles, next, CLOSE_BRACE, MUTE);
+                    return expect(kinds, roles, next, CLOSE_BRACE, NO_ROLE);
                 }
-                let paren = expect(kinds, roles, next, kind, MUTE);
-                at = expect(kinds, roles, paren, OPEN_PAREN, MUTE);
+                let paren = expect(kinds, roles, next, kind, NO_ROLE);
+                at = expect(kinds, roles, paren, OPEN_PAREN, NO_ROLE);
             }
         }
     }

@@ -1,6 +1,14 @@
 // A parser's cursor over the kinds of a file's tokens, and what 001 allows in an unknown part: elements, lists and heads.
 // Each function writes the roles of the tokens that it reads. It asks that there are as many roles as kinds: reader::read cuts
 // both slices to one length, and every caller hands them on. A kind that is expected is a constant, or one that was seen.
+use kept::CLOSE_BRACE;
+use kept::CLOSE_PAREN;
+use kept::COMMA;
+use kept::END;
+use kept::NO_ROLE;
+use kept::OPEN_BRACE;
+use kept::OPEN_PAREN;
+use kept::STRING;
 ghost use mathlib.Core.Path.{_≡_};
 ghost use mathlib.Core.List.{[], _∷_};
 ghost use Prim.Native.Nat.{_<_};
@@ -9,24 +17,6 @@ ghost use Rattle.token.specs.declared.Kind.the-variants as kind;
 ghost use Rattle.grammar.specs.Reader.{once, perhaps, element, more-until, arguments, headed, second-block};
 ghost use Rattle.kept.specs.Kept.{kind-of-number};
 ghost use Rattle.load_elements.specs.Reads.{kind-at, expected, Reads};
-
-// kind-number
-const STRING: u8 = 8;
-
-const OPEN_PAREN: u8 = 9;
-
-const CLOSE_PAREN: u8 = 10;
-
-const OPEN_BRACE: u8 = 11;
-
-const CLOSE_BRACE: u8 = 12;
-
-const COMMA: u8 = 13;
-
-const END: u8 = 14;
-
-// role-number
-const MUTE: u8 = 0;
 
 // Where a parser stands: before a token, or stopped at one for good.
 pub enum Cursor {
@@ -74,9 +64,9 @@ fn element(kinds: &[u8], roles: &mut [u8], s: Cursor) -> Cursor
 {
     let kind = kind_at(kinds, s);
     if kind <= STRING {
-        return expect(kinds, roles, s, kind, MUTE);
+        return expect(kinds, roles, s, kind, NO_ROLE);
     }
-    expect(kinds, roles, s, STRING, MUTE)
+    expect(kinds, roles, s, STRING, NO_ROLE)
 }
 
 // { "," generic_element } and the token that closes.
@@ -86,10 +76,10 @@ fn list_rest(kinds: &[u8], roles: &mut [u8], s: Cursor, close: u8) -> Cursor
 {
     let mut at = s;
     while kind_at(kinds, at) == COMMA {
-        at = expect(kinds, roles, at, COMMA, MUTE);
+        at = expect(kinds, roles, at, COMMA, NO_ROLE);
         at = element(kinds, roles, at);
     }
-    expect(kinds, roles, at, close, MUTE)
+    expect(kinds, roles, at, close, NO_ROLE)
 }
 
 // What follows "(" in a generic_head.
@@ -98,7 +88,7 @@ pub fn arguments(kinds: &[u8], roles: &mut [u8], s: Cursor) -> Cursor
     ensures { λ r. ⌜ Reads 1 (once arguments ∷ []) (now (kinds .entry)) (now (roles .entry)) s (now (roles .exit)) r ⌝ }
 {
     if kind_at(kinds, s) == CLOSE_PAREN {
-        return expect(kinds, roles, s, CLOSE_PAREN, MUTE);
+        return expect(kinds, roles, s, CLOSE_PAREN, NO_ROLE);
     }
     let at = element(kinds, roles, s);
     list_rest(kinds, roles, at, CLOSE_PAREN)
@@ -109,7 +99,7 @@ pub fn head(kinds: &[u8], roles: &mut [u8], s: Cursor) -> Cursor
     requires { ⌜ length (now roles) ≡ length (now kinds) ⌝ }
     ensures { λ r. ⌜ Reads 1 (headed []) (now (kinds .entry)) (now (roles .entry)) s (now (roles .exit)) r ⌝ }
 {
-    let at = expect(kinds, roles, s, OPEN_PAREN, MUTE);
+    let at = expect(kinds, roles, s, OPEN_PAREN, NO_ROLE);
     arguments(kinds, roles, at)
 }
 
@@ -130,8 +120,8 @@ pub fn second_block(kinds: &[u8], roles: &mut [u8], s: Cursor) -> Cursor
     if kind_at(kinds, s) != OPEN_BRACE {
         return s;
     }
-    let inside = expect(kinds, roles, s, OPEN_BRACE, MUTE);
+    let inside = expect(kinds, roles, s, OPEN_BRACE, NO_ROLE);
     let first = element(kinds, roles, inside);
-    let at = expect(kinds, roles, first, COMMA, MUTE);
+    let at = expect(kinds, roles, first, COMMA, NO_ROLE);
     list(kinds, roles, at)
 }

@@ -1,3 +1,7 @@
+use kept::LEVEL;
+use kept::LOG_OPTION;
+use kept::PERMISSION;
+use kept::UNKNOWN_PREDICATE;
 ghost use mathlib.Core.Path.{_≡_};
 ghost use Prim.Native.Nat.{_+_, _-_, _≤_};
 ghost use lib.ListN.{length};
@@ -8,15 +12,6 @@ ghost use Rattle.texts.specs.Lies.{Lies, All-lie};
 ghost use Rattle.texts.specs.Rolls.{Lie, Telling, tally, gap};
 ghost use Rattle.load_flags.specs.Flags.{level-bits, permission-bits, trap-bits, off-bits};
 ghost use Rattle.load_flags.specs.Tokens.{tokens-in, first-text, number-at};
-
-// The numbers of roles: grammar/specs/Role.antt.
-const LEVEL: u8 = 9;
-
-const PERMISSION: u8 = 10;
-
-const LOG_OPTION: u8 = 11;
-
-const UNKNOWN_PREDICATE: u8 = 17;
 
 // How many tokens of a part have a role. Callers of this and of next have parts of the kept tokens, which end within roles.
 pub fn count(roles: &[u8], from: usize, to: usize, m: u8) -> usize

@@ -1,3 +1,7 @@
+use kept::ASG_NAME;
+use kept::HAG_NAMED;
+use kept::RULE_WORD;
+use kept::UAG_NAMED;
 ghost use Prim.Native.Nat.{_<_};
 ghost use Rattle.texts.specs.Lies.{All-lie};
 ghost use Rattle.load_records.specs.Cursor.{cursor, Bounded};
@@ -5,15 +9,6 @@ ghost use Rattle.load_records.specs.Step.{Ready, Step};
 ghost use Rattle.load_passes.specs.Passed.{Source, rule-limit, references-limit, Start, Passed, Plain-passed, Rule-passed, References-passed};
 use load_records::Cursor;
 use load_records::Work;
-
-// The numbers of roles: grammar/specs/Role.antt.
-const ASG_NAME: u8 = 5;
-
-const RULE_WORD: u8 = 8;
-
-const UAG_NAMED: u8 = 12;
-
-const HAG_NAMED: u8 = 13;
 
 // What is written for the i-th token.
 fn put(

@@ -1,3 +1,8 @@
+use kept::ASG_NAME;
+use kept::HAG_NAMED;
+use kept::INPUT;
+use kept::RULE_WORD;
+use kept::UAG_NAMED;
 ghost use mathlib.Core.Bool.{cond};
 ghost use mathlib.Core.List.{map, []};
 ghost use mathlib.Core.Path.{_≡_};
@@ -8,17 +13,6 @@ ghost use Rattle.byte_write.specs.Put.{cased};
 ghost use Rattle.load_records.specs.Cursor.{Bounded, cursor-limit};
 ghost use Rattle.load_records.specs.Step.{Ready, Step, String-put, Name-put, Reference-put};
 ghost use Rattle.load_records.specs.declared.Work.the-variants.{Groups, Access, Inputs, Rules, Firsts};
-
-// The numbers of roles: grammar/specs/Role.antt.
-const ASG_NAME: u8 = 5;
-
-const INPUT: u8 = 6;
-
-const RULE_WORD: u8 = 8;
-
-const UAG_NAMED: u8 = 12;
-
-const HAG_NAMED: u8 = 13;
 
 // What is written for each token of a role: a record of a section, or a string.
 pub enum Work {

@@ -1,6 +1,27 @@
 // A rule of an access security group.
 // Each function asks that there are as many roles as kinds: reader::read cuts both slices to one length, and its callees hand them on.
 // A kind that is expected is a constant, or one that was seen.
+use kept::CALC;
+use kept::CALCULATION;
+use kept::CALC_WORD;
+use kept::CLOSE_BRACE;
+use kept::CLOSE_PAREN;
+use kept::COMMA;
+use kept::HAG;
+use kept::HAG_NAMED;
+use kept::INT;
+use kept::LEVEL;
+use kept::LOG_OPTION;
+use kept::NO_ROLE;
+use kept::OPEN_BRACE;
+use kept::OPEN_PAREN;
+use kept::PERMISSION;
+use kept::RULE;
+use kept::RULE_WORD;
+use kept::STRING;
+use kept::UAG;
+use kept::UAG_NAMED;
+use kept::UNKNOWN_PREDICATE;
 use load_blocks::block;
 use load_blocks::is_name;
 use load_elements::Cursor;
@@ -21,61 +42,17 @@ ghost use Rattle.load_elements.specs.Reads.{expected, Reads};
 ghost use Rattle.load_strings.specs.Enclosed.{in-braces, in-parens};
 ghost use Rattle.load_rules.specs.Rules.{name-or-string, permission, rule-head};
 
-// kind-number
-const UAG: u8 = 0;
-
-const HAG: u8 = 1;
-
-const RULE: u8 = 3;
-
-const CALC: u8 = 4;
-
-const INT: u8 = 6;
-
-const STRING: u8 = 8;
-
-const OPEN_PAREN: u8 = 9;
-
-const CLOSE_PAREN: u8 = 10;
-
-const OPEN_BRACE: u8 = 11;
-
-const CLOSE_BRACE: u8 = 12;
-
-const COMMA: u8 = 13;
-
-// role-number
-const MUTE: u8 = 0;
-
-const RULE_WORD: u8 = 8;
-
-const LEVEL: u8 = 9;
-
-const PERMISSION: u8 = 10;
-
-const LOG_OPTION: u8 = 11;
-
-const UAG_NAMED: u8 = 12;
-
-const HAG_NAMED: u8 = 13;
-
-const CALC_WORD: u8 = 14;
-
-const CALCULATION: u8 = 15;
-
-const UNKNOWN_PREDICATE: u8 = 17;
-
 // The end of a rule_head, with or without rule_log_option.
 fn log_option(kinds: &[u8], roles: &mut [u8], s: Cursor) -> Cursor
     requires { ⌜ length (now roles) ≡ length (now kinds) ⌝ }
     ensures { λ r. ⌜ Reads 1 (once log-option ∷ []) (now (kinds .entry)) (now (roles .entry)) s (now (roles .exit)) r ⌝ }
 {
     if kind_at(kinds, s) == COMMA {
-        let comma = expect(kinds, roles, s, COMMA, MUTE);
+        let comma = expect(kinds, roles, s, COMMA, NO_ROLE);
         let at = expect(kinds, roles, comma, STRING, LOG_OPTION);
-        return expect(kinds, roles, at, CLOSE_PAREN, MUTE);
+        return expect(kinds, roles, at, CLOSE_PAREN, NO_ROLE);
     }
-    expect(kinds, roles, s, CLOSE_PAREN, MUTE)
+    expect(kinds, roles, s, CLOSE_PAREN, NO_ROLE)
 }
 
 // What follows the level in a rule_head.
@@ -83,7 +60,7 @@ fn permission(kinds: &[u8], roles: &mut [u8], s: Cursor) -> Cursor
     requires { ⌜ length (now roles) ≡ length (now kinds) ⌝ }
     ensures { λ r. ⌜ Reads 1 permission (now (kinds .entry)) (now (roles .entry)) s (now (roles .exit)) r ⌝ }
 {
-    let comma = expect(kinds, roles, s, COMMA, MUTE);
+    let comma = expect(kinds, roles, s, COMMA, NO_ROLE);
     let at = expect(kinds, roles, comma, STRING, PERMISSION);
     log_option(kinds, roles, at)
 }
@@ -94,7 +71,7 @@ fn rule_head(kinds: &[u8], roles: &mut [u8], s: Cursor) -> Cursor
     ensures { λ r. ⌜ Reads 1 rule-head (now (kinds .entry)) (now (roles .entry)) s (now (roles .exit)) r ⌝ }
 {
     let word = expect(kinds, roles, s, RULE, RULE_WORD);
-    let open = expect(kinds, roles, word, OPEN_PAREN, MUTE);
+    let open = expect(kinds, roles, word, OPEN_PAREN, NO_ROLE);
     let level = expect(kinds, roles, open, INT, LEVEL);
     permission(kinds, roles, level)
 }
@@ -107,7 +84,7 @@ fn groups(kinds: &[u8], roles: &mut [u8], s: Cursor, word: u8, role: u8) -> Curs
         (now (kinds .entry)) (now (roles .entry)) s (now (roles .exit)) r
         ⌝ }
 {
-    let at = expect(kinds, roles, s, word, MUTE);
+    let at = expect(kinds, roles, s, word, NO_ROLE);
     strings_in(kinds, roles, at, OPEN_PAREN, CLOSE_PAREN, role)
 }
 
@@ -157,12 +134,12 @@ fn rule_block(kinds: &[u8], roles: &mut [u8], s: Cursor) -> Cursor
         (now (kinds .entry)) (now (roles .entry)) s (now (roles .exit)) r
         ⌝ }
 {
-    let inside = expect(kinds, roles, s, OPEN_BRACE, MUTE);
+    let inside = expect(kinds, roles, s, OPEN_BRACE, NO_ROLE);
     let mut at = rule_item(kinds, roles, inside);
     while kind_at(kinds, at) < CLOSE_BRACE {
         at = rule_item(kinds, roles, at);
     }
-    expect(kinds, roles, at, CLOSE_BRACE, MUTE)
+    expect(kinds, roles, at, CLOSE_BRACE, NO_ROLE)
 }
 
 // A rule.

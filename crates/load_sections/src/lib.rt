@@ -1,3 +1,12 @@
+use kept::ASG_NAME;
+use kept::CALCULATION;
+use kept::HAG_NAME;
+use kept::HOST;
+use kept::INPUT;
+use kept::PVNAME;
+use kept::RULE_WORD;
+use kept::UAG_NAME;
+use kept::USER;
 ghost use Rattle.texts.specs.Rolls.{Lie};
 ghost use Rattle.byte_write.specs.Put.{Put};
 ghost use Rattle.load_flags.specs.Tokens.{tokens-in};
@@ -7,25 +16,6 @@ ghost use Rattle.load_sections.specs.Sections.{limit-3, limit-5, limit-7
 ghost use Rattle.load_sections.specs.Strings.{access-strings, Names-written};
 use load_records::Cursor;
 use load_records::Work;
-
-// The numbers of roles: grammar/specs/Role.antt.
-const UAG_NAME: u8 = 1;
-
-const USER: u8 = 2;
-
-const HAG_NAME: u8 = 3;
-
-const HOST: u8 = 4;
-
-const ASG_NAME: u8 = 5;
-
-const INPUT: u8 = 6;
-
-const PVNAME: u8 = 7;
-
-const RULE_WORD: u8 = 8;
-
-const CALCULATION: u8 = 15;
 
 // Where sections 2 and 3 begin, and the cursor behind section 3.
 pub struct GroupSections {

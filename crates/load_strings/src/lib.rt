@@ -1,6 +1,11 @@
 // Strings in parentheses and braces, as groups, inputs and rules have them.
 // Each function asks that there are as many roles as kinds: reader::read cuts both slices to one length, and its callees hand them on.
 // The kinds that are expected are constants of the callers, load_rules and reader.
+use kept::CLOSE_PAREN;
+use kept::COMMA;
+use kept::NO_ROLE;
+use kept::OPEN_PAREN;
+use kept::STRING;
 use load_elements::Cursor;
 use load_elements::expect;
 use load_elements::kind_at;
@@ -13,27 +18,15 @@ ghost use Rattle.kept.specs.Kept.{role-of-number};
 ghost use Rattle.load_elements.specs.Reads.{expected, Reads};
 ghost use Rattle.load_strings.specs.Enclosed.{enclosed};
 
-// kind-number
-const STRING: u8 = 8;
-
-const OPEN_PAREN: u8 = 9;
-
-const CLOSE_PAREN: u8 = 10;
-
-const COMMA: u8 = 13;
-
-// role-number
-const MUTE: u8 = 0;
-
 // A word that says this, and "(" STRING ")".
 pub fn named(kinds: &[u8], roles: &mut [u8], s: Cursor, word: u8, says: u8, role: u8) -> Cursor
     requires { ⌜ (length (now roles) ≡ length (now kinds)) × (word < 14) ⌝ }
     ensures { λ r. ⌜ Reads 1 (expected word says ∷ named (role-of-number role) []) (now (kinds .entry)) (now (roles .entry)) s (now (roles .exit)) r ⌝ }
 {
     let behind = expect(kinds, roles, s, word, says);
-    let open = expect(kinds, roles, behind, OPEN_PAREN, MUTE);
+    let open = expect(kinds, roles, behind, OPEN_PAREN, NO_ROLE);
     let at = expect(kinds, roles, open, STRING, role);
-    expect(kinds, roles, at, CLOSE_PAREN, MUTE)
+    expect(kinds, roles, at, CLOSE_PAREN, NO_ROLE)
 }
 
 // STRING { "," STRING }
@@ -43,7 +36,7 @@ fn strings(kinds: &[u8], roles: &mut [u8], s: Cursor, role: u8) -> Cursor
 {
     let mut at = expect(kinds, roles, s, STRING, role);
     while kind_at(kinds, at) == COMMA {
-        at = expect(kinds, roles, at, COMMA, MUTE);
+        at = expect(kinds, roles, at, COMMA, NO_ROLE);
         at = expect(kinds, roles, at, STRING, role);
     }
     at
@@ -64,7 +57,7 @@ pub fn strings_in(
         (now (kinds .entry)) (now (roles .entry)) s (now (roles .exit)) r
         ⌝ }
 {
-    let inside = expect(kinds, roles, s, first, MUTE);
+    let inside = expect(kinds, roles, s, first, NO_ROLE);
     let at = strings(kinds, roles, inside, role);
-    expect(kinds, roles, at, last, MUTE)
+    expect(kinds, roles, at, last, NO_ROLE)
 }

@@ -1,5 +1,22 @@
 // The items of a file by 001's grammar, over the kinds of its tokens: the role of each token, or where reading stops.
 // The inner functions ask that there are as many roles as kinds, since `read` cuts both slices to n.
+use kept::ASG;
+use kept::ASG_NAME;
+use kept::CLOSE_BRACE;
+use kept::END;
+use kept::HAG;
+use kept::HAG_NAME;
+use kept::HOST;
+use kept::INP;
+use kept::INPUT;
+use kept::NO_ROLE;
+use kept::OPEN_BRACE;
+use kept::PVNAME;
+use kept::STRING;
+use kept::UAG;
+use kept::UAG_NAME;
+use kept::UNKNOWN_ITEM;
+use kept::USER;
 use load_blocks::top_block;
 use load_elements::Cursor;
 use load_elements::expect;
@@ -20,42 +37,6 @@ ghost use Rattle.load_elements.specs.Reads.{Reads};
 ghost use Rattle.load_strings.specs.Enclosed.{in-braces};
 ghost use Rattle.reader.specs.Reads.{group, Members, ended, Answers};
 
-// kind-number
-const UAG: u8 = 0;
-
-const HAG: u8 = 1;
-
-const ASG: u8 = 2;
-
-const INP: u8 = 5;
-
-const STRING: u8 = 8;
-
-const OPEN_BRACE: u8 = 11;
-
-const CLOSE_BRACE: u8 = 12;
-
-const END: u8 = 14;
-
-// role-number
-const MUTE: u8 = 0;
-
-const UAG_NAME: u8 = 1;
-
-const USER: u8 = 2;
-
-const HAG_NAME: u8 = 3;
-
-const HOST: u8 = 4;
-
-const ASG_NAME: u8 = 5;
-
-const INPUT: u8 = 6;
-
-const PVNAME: u8 = 7;
-
-const UNKNOWN_ITEM: u8 = 16;
-
 // Every token was read and has its role, or reading stops at a token, by its index.
 pub enum Outcome {
     Said,
@@ -69,7 +50,7 @@ fn group(kinds: &[u8], roles: &mut [u8], s: Cursor, word: u8, name: u8, member: 
         ((p : Part) → Members member p → Reads 1 (group word name p) (now (kinds .entry)) (now (roles .entry)) s (now (roles .exit)) r)
         ⌝ }
 {
-    let at = named(kinds, roles, s, word, MUTE, name);
+    let at = named(kinds, roles, s, word, NO_ROLE, name);
     if kind_at(kinds, at) != OPEN_BRACE {
         return at;
     }
@@ -95,12 +76,12 @@ fn asg_block(kinds: &[u8], roles: &mut [u8], s: Cursor) -> Cursor
         (now (kinds .entry)) (now (roles .entry)) s (now (roles .exit)) r
         ⌝ }
 {
-    let inside = expect(kinds, roles, s, OPEN_BRACE, MUTE);
+    let inside = expect(kinds, roles, s, OPEN_BRACE, NO_ROLE);
     let mut at = asg_item(kinds, roles, inside);
     while kind_at(kinds, at) < CLOSE_BRACE {
         at = asg_item(kinds, roles, at);
     }
-    expect(kinds, roles, at, CLOSE_BRACE, MUTE)
+    expect(kinds, roles, at, CLOSE_BRACE, NO_ROLE)
 }
 
 // An access security group.
@@ -111,7 +92,7 @@ fn asg(kinds: &[u8], roles: &mut [u8], s: Cursor) -> Cursor
         (now (kinds .entry)) (now (roles .entry)) s (now (roles .exit)) r
         ⌝ }
 {
-    let at = named(kinds, roles, s, ASG, MUTE, ASG_NAME);
+    let at = named(kinds, roles, s, ASG, NO_ROLE, ASG_NAME);
     if kind_at(kinds, at) != OPEN_BRACE {
         return at;
     }

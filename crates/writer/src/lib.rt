@@ -1,3 +1,10 @@
+use kept::ASG_NAME;
+use kept::HAG_NAME;
+use kept::HOST;
+use kept::INPUT;
+use kept::RULE_WORD;
+use kept::UAG_NAME;
+use kept::USER;
 ghost use mathlib.Core.List.{List};
 ghost use Prim.Native.Nat.{_≤_, ℕ};
 ghost use lib.ListN.{length};
@@ -12,21 +19,6 @@ ghost use Rattle.writer.specs.Table.{table-told, Wrote};
 use load_sections::AccessSections;
 use load_sections::GroupSections;
 use load_sections::RuleSections;
-
-// The numbers of roles: grammar/specs/Role.antt.
-const UAG_NAME: u8 = 1;
-
-const USER: u8 = 2;
-
-const HAG_NAME: u8 = 3;
-
-const HOST: u8 = 4;
-
-const ASG_NAME: u8 = 5;
-
-const INPUT: u8 = 6;
-
-const RULE_WORD: u8 = 8;
 
 // No accepted file has a longer table: table/specs/Layout.antt.
 const GREATEST_TABLE: usize = 35108;
