@@ -1,17 +1,17 @@
 -- The answers as numbers, for callers in C. include/hrazvanut.h says the same in its macros.
 use mathlib.Core.Bool.{Bool, cond}
 use Prim.Native.Nat.{ℕ, _+_, _*_, min}
-use Rattle.rule.specs.Rule.{rank}
-use Rattle.file.specs.Refusal as refusal
-use Rattle.load.specs.declared.Loaded.{Loaded}
-use Rattle.load.specs.declared.Loaded.the-variants as loaded
-use Rattle.load.specs.declared.Listed.{Listed}
-use Rattle.load.specs.declared.Listed.the-variants as listed
-use Rattle.decision.specs.declared.Answer.{Answer}
-use Rattle.decision.specs.declared.Answer.the-variants as answer
-use Rattle.decision.specs.declared.Found.{Found}
-use Rattle.decision.specs.declared.Found.the-variants as found
-use Rattle.decision.specs.Decision.{not-table-number}
+use Rattle.spec_rule.specs.Rule.{rank}
+use Rattle.spec_file.specs.Refusal as refusal
+use Rattle.spec_load.specs.declared.Loaded.{Loaded}
+use Rattle.spec_load.specs.declared.Loaded.the-variants as loaded
+use Rattle.spec_load.specs.declared.Listed.{Listed}
+use Rattle.spec_load.specs.declared.Listed.the-variants as listed
+use Rattle.spec_decision.specs.declared.Answer.{Answer}
+use Rattle.spec_decision.specs.declared.Answer.the-variants as answer
+use Rattle.spec_decision.specs.declared.Found.{Found}
+use Rattle.spec_decision.specs.declared.Found.the-variants as found
+use Rattle.spec_decision.specs.Decision.{not-table-number}
 
 -- a number in 16 bits; no place, length or count of 01 is greater than they hold
 abbrev pub word : ℕ → ℕ

@@ -1,14 +1,14 @@
 // The answers as numbers, for callers in C: include/hrazvanut.h has them as macros.
-use decision::Answer;
-use decision::Found;
-use file::Refusal;
-use load::Listed;
-use load::Loaded;
-use rule::Access;
+use spec_decision::Answer;
+use spec_decision::Found;
+use spec_file::Refusal;
+use spec_load::Listed;
+use spec_load::Loaded;
+use spec_rule::Access;
 ghost use mathlib.Core.Path.{_≡_};
 ghost use Prim.Native.Nat.{_<_};
-ghost use Rattle.file.specs.Refusal as refusal;
-ghost use Rattle.rule.specs.Rule.{rank};
+ghost use Rattle.spec_file.specs.Refusal as refusal;
+ghost use Rattle.spec_rule.specs.Rule.{rank};
 ghost use Rattle.api_numbers.specs.Numbers.{word, packed, load-number, listed-number, answer-number, found-number};
 
 // A number in 16 bits.

@@ -5,8 +5,8 @@ use Prim.Native.Nat.{ℕ, zero, suc, _+_}
 use lib.Dec.{eqb}
 use lib.ListN.{getD}
 use lib.Ieee.{Float, nan}
-use Rattle.calculation.specs.declared.Reading.{Reading}
-use Rattle.calculation.specs.declared.Reading.the-variants.{NeverHeard, Invalid, Value}
+use Rattle.spec_calc.specs.declared.Reading.{Reading}
+use Rattle.spec_calc.specs.declared.Reading.the-variants.{NeverHeard, Invalid, Value}
 
 -- the state 0 is never heard, 2 has the value, and any other is invalid
 abbrev pub reading : ℕ → Float → Reading

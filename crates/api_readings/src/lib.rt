@@ -1,5 +1,5 @@
 // Readings from the states and values that a caller in C lends.
-use calculation::Reading;
+use spec_calc::Reading;
 ghost use mathlib.Core.Path.{_≡_};
 ghost use Prim.Native.Nat.{_+_};
 ghost use lib.ListN.{getD};

@@ -3,16 +3,16 @@ use mathlib.Core.Path.{_≡_}
 use mathlib.Core.Bool.{true}
 use mathlib.Core.List.{List}
 use Prim.Native.Nat.{ℕ, _≤_}
-use Rattle.grammar.specs.Reading.{Said}
-use Rattle.calculation.specs.declared.Reading.{Reading}
-use Rattle.calculation.specs.Readings.{Gone-bad}
-use Rattle.rule.specs.Question.{Question, reading-instead}
-use Rattle.rule.specs.Rule.{rank}
-use Rattle.file.specs.Says.{Text-says}
-use Rattle.load.specs.Load.{load}
-use Rattle.decision.specs.Decision.{access-in, decide}
-use Rattle.edition.specs.Edition.{Edition, access-later, Says-no}
-use Rattle.demand.specs.Calls.{Call, after-calls, is-accepted, No-accepted-load}
+use Rattle.spec_grammar.specs.Sentence.{Tagged}
+use Rattle.spec_calc.specs.declared.Reading.{Reading}
+use Rattle.spec_calc.specs.Readings.{Gone-bad}
+use Rattle.spec_rule.specs.Question.{Question, reading-instead}
+use Rattle.spec_rule.specs.Rule.{rank}
+use Rattle.spec_file.specs.Acceptance.{Text-reads}
+use Rattle.spec_load.specs.Load.{load}
+use Rattle.spec_decision.specs.Decision.{access-in, decide}
+use Rattle.spec_edition.specs.Edition.{Edition, access-later, Says-no}
+use Rattle.spec_demand.specs.Calls.{Call, after-calls, is-accepted, No-accepted-load}
 use Rattle.api_script.specs.declared.Asked.{Asked}
 
 -- Of the lent bytes, a text, the calls between, a question, the lent bytes afterwards and what was answered.
@@ -25,7 +25,7 @@ pub record Never-more (lent s : List ℕ) (between : List Call) (q : Question) (
   -- readings as they were, in every edition; and it is exactly that of an edition that says no to every unknown predicate, with the same readings
   pub never-more :
       is-accepted (r .loaded) ≡ true
-      → (xs : List Said) → Text-says s xs
+      → (xs : List Tagged) → Text-reads s xs
       → No-accepted-load (load lent s .bytes) between
       → (e : Edition)
       → ((were : List Reading) → Gone-bad were (q .readings) → rank (access-in (r .answer)) ≤ rank (access-later e xs (reading-instead q were)))

@@ -2,14 +2,14 @@
 use mathlib.Core.Path.{_≡_}
 use mathlib.Core.List.{List, []}
 use Prim.Native.Nat.{ℕ}
-use Rattle.calculation.specs.Reader.{tree-of}
-use Rattle.table.specs.Check.{is-table}
-use Rattle.load.specs.Load.{load}
-use Rattle.load.specs.Listing.{listing}
-use Rattle.decision.specs.Decision.{decide}
-use Rattle.decision.specs.LookUp.{look-up}
+use Rattle.spec_calc.specs.Reader.{tree-of}
+use Rattle.spec_table.specs.Check.{is-table}
+use Rattle.spec_load.specs.Load.{load}
+use Rattle.spec_load.specs.Listing.{listing}
+use Rattle.spec_decision.specs.Decision.{decide}
+use Rattle.spec_decision.specs.LookUp.{look-up}
 use Rattle.calc_value.specs.Answer.{worth}
-use Rattle.demand.specs.Calls.{Call, load-text, list-warnings, calculate, check-table, ask, look-up-input, after-call}
+use Rattle.spec_demand.specs.Calls.{Call, load-text, list-warnings, calculate, check-table, ask, look-up-input, after-call}
 use Rattle.api_script.specs.declared.Reply.{Reply}
 use Rattle.api_script.specs.declared.Reply.the-variants as reply
 

@@ -3,10 +3,10 @@ use mathlib.Core.List.{List, [], _∷_}
 use Prim.Native.Nat.{ℕ, zero, suc, _+_, _*_, _/_, _%_}
 use lib.ListN.{length, getD}
 use lib.Ieee.{Float}
-use Rattle.calculation.specs.declared.Reading.{Reading}
+use Rattle.spec_calc.specs.declared.Reading.{Reading}
 use Rattle.api_readings.specs.Readings.{readings}
-use Rattle.kept.specs.Kept.{between}
-use Rattle.demand.specs.Calls.{Call, load-text, list-warnings, calculate, check-table, ask, look-up-input}
+use Rattle.load_tokens.specs.Arrays.{between}
+use Rattle.spec_demand.specs.Calls.{Call, load-text, list-warnings, calculate, check-table, ask, look-up-input}
 
 -- The words are 16 for each call:
 --   0       what is called: see call-of

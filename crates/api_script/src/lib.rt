@@ -1,13 +1,13 @@
 // A script of calls in numbers: its words and texts, and what its calls answer.
-use decision::Answer;
-use decision::Found;
 use calc_value::Worth;
-use load::Listed;
-use load::Loaded;
+use spec_decision::Answer;
+use spec_decision::Found;
+use spec_load::Listed;
+use spec_load::Loaded;
 ghost use mathlib.Core.Path.{_≡_};
 ghost use Prim.Native.Nat.{_+_, _*_, _%_, _≤_, _<_};
 ghost use lib.ListN.{length};
-ghost use Rattle.kept.specs.Kept.{between};
+ghost use Rattle.load_tokens.specs.Arrays.{between};
 ghost use Rattle.api_script.specs.Script.{word, text-at};
 
 // The answers of a load and of a question after it.
@@ -48,7 +48,7 @@ pub fn word(script: &[u16], i: usize, j: usize) -> usize
     requires { ⌜ (i * 16 + 16 ≤ length (now script)) × (j < 16) ⌝ }
     ensures { λ r. ⌜ r ≡ word (now (script .entry)) i j ⌝ }
 {
-    kept::wide(script[i * 16 + j])
+    load_tokens::wide(script[i * 16 + j])
 }
 
 // The lower byte of a word.

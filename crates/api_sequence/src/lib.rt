@@ -1,11 +1,11 @@
 // Any sequence of calls, by a script; and demand 3 as the contract of one function.
 use api_script::Asked;
 use api_script::Reply;
-use calculation::Reading;
+use spec_calc::Reading;
 ghost use mathlib.Core.Path.{_≡_};
 ghost use Prim.Native.Nat.{_+_, _*_, _≤_, _<_};
 ghost use lib.ListN.{length};
-ghost use Rattle.demand.specs.Calls.{after-calls};
+ghost use Rattle.spec_demand.specs.Calls.{after-calls};
 ghost use Rattle.api_script.specs.Script.{script-of, call-of, call-at, calls};
 ghost use Rattle.api_script.specs.Replies.{answer-to, Made};
 ghost use Rattle.api_script.specs.Demand.{Never-more};
@@ -29,15 +29,15 @@ fn call_reading(
         return Reply::Listed(load_listing::list_warnings(a, 0, &mut numbers, &mut at));
     }
     if what == 2 {
-        return Reply::Valued(evaluate::value(a, rs));
+        return Reply::Valued(calc::value(a, rs));
     }
     if what == 3 {
-        return Reply::Checked(inspect::is_table(lent));
+        return Reply::Checked(table_check::is_table(lent));
     }
     if what == 4 {
-        return Reply::Answered(answer::decide(lent, a, b, c, n, rs));
+        return Reply::Answered(ask::decide(lent, a, b, c, n, rs));
     }
-    Reply::Found(answer::find_input(lent, a, n))
+    Reply::Found(ask::find_input(lent, a, n))
 }
 
 // Makes the i-th call of a script.
@@ -59,7 +59,7 @@ fn call(
     let what = api_script::word(script, i, 0);
     let a = api_script::text_at(script, pool, i, 1);
     if what == 0 {
-        return Reply::Loaded(loader::load(a, lent));
+        return Reply::Loaded(load::load(a, lent));
     }
     let b = api_script::text_at(script, pool, i, 3);
     let c = api_script::text_at(script, pool, i, 5);
@@ -104,8 +104,8 @@ pub fn load_then_ask(
         (now (lent .exit)) r
         ⌝ }
 {
-    let loaded = loader::load(text, lent);
+    let loaded = load::load(text, lent);
     follow(script, pool, states, values, lent);
-    let answer = answer::decide(lent, group, user, host, level, rs);
+    let answer = ask::decide(lent, group, user, host, level, rs);
     Asked { loaded, answer }
 }

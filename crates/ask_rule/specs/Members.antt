@@ -4,13 +4,13 @@ use mathlib.Core.Bool.{Bool}
 use mathlib.Core.List.{List, map}
 use Prim.Native.Nat.{ℕ, _<_}
 use lib.ListN.{length}
-use Rattle.lists.specs.Text.{same, lowered}
-use Rattle.lists.specs.Runs.{Run, part}
-use Rattle.file.specs.Limit.{Section, user-groups, host-groups, rules, references}
-use Rattle.table.specs.View.{view}
-use Rattle.table.specs.Check.{run-at, number-field, undefined-number}
-use Rattle.table.specs.Policy.{members-of, referred}
-use Rattle.table.specs.Standing.{row}
+use Rattle.spec_lists.specs.Text.{same, lowered}
+use Rattle.spec_lists.specs.Runs.{Run, part}
+use Rattle.spec_file.specs.Limit.{Section, user-groups, host-groups, rules, references}
+use Rattle.spec_table.specs.View.{view}
+use Rattle.spec_table.specs.Check.{run-at, number-field, undefined-number}
+use Rattle.spec_table.specs.Policy.{members-of, referred}
+use Rattle.spec_table.specs.laws.Standing.{row}
 use Rattle.ask_rule.specs.declared.GroupKind.{GroupKind}
 use Rattle.ask_rule.specs.declared.GroupKind.the-variants.{Users, Hosts}
 

@@ -4,17 +4,17 @@ use mathlib.Core.Bool.{Bool}
 use mathlib.Core.List.{List, [], _∷_, _++_, map}
 use Prim.Native.Nat.{ℕ}
 use lib.Ieee.{Float}
-use Rattle.calculation.specs.declared.Reading.{Reading}
-use Rattle.calculation.specs.Value.{heard, good}
-use Rattle.rule.specs.declared.Decision.{Decision}
-use Rattle.rule.specs.Question.{Question}
-use Rattle.rule.specs.Rule.{Rule, calculation-holds, passes}
-use Rattle.rule.specs.Decision.{grant, decision-by}
-use Rattle.file.specs.Limit.{rules}
-use Rattle.table.specs.View.{view}
-use Rattle.table.specs.Check.{permission-bits, trap-bit}
-use Rattle.table.specs.Policy.{permission, set-bit, rule-of}
-use Rattle.table.specs.Standing.{row}
+use Rattle.spec_calc.specs.declared.Reading.{Reading}
+use Rattle.spec_calc.specs.Value.{heard, good}
+use Rattle.spec_rule.specs.declared.Decision.{Decision}
+use Rattle.spec_rule.specs.Question.{Question}
+use Rattle.spec_rule.specs.Rule.{Rule, calculation-holds, passes}
+use Rattle.spec_rule.specs.Decision.{grant, decision-by}
+use Rattle.spec_file.specs.Limit.{rules}
+use Rattle.spec_table.specs.View.{view}
+use Rattle.spec_table.specs.Check.{permission-bits, trap-bit}
+use Rattle.spec_table.specs.Policy.{permission, set-bit, rule-of}
+use Rattle.spec_table.specs.laws.Standing.{row}
 
 -- the i-th rule of a table
 abbrev pub rule-at : List ℕ → ℕ → Rule

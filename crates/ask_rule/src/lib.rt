@@ -1,16 +1,16 @@
-use rule::Access;
-use rule::Decision;
+use spec_rule::Access;
+use spec_rule::Decision;
 use table_read::Section;
 ghost use mathlib.Core.Path.{_≡_};
 ghost use Prim.Native.Nat.{_<_};
 ghost use lib.ListN.{length};
 ghost use lib.Dec.{leb};
-ghost use Rattle.lists.specs.Select.{any};
-ghost use Rattle.rule.specs.Rule.{rank, belongs};
-ghost use Rattle.rule.specs.Decision.{with-trap};
-ghost use Rattle.file.specs.Limit.{rules, references};
-ghost use Rattle.table.specs.Policy.{permission, set-bit};
-ghost use Rattle.fields.specs.Field.{Word};
+ghost use Rattle.spec_lists.specs.Select.{any};
+ghost use Rattle.spec_rule.specs.Rule.{rank, belongs};
+ghost use Rattle.spec_rule.specs.Decision.{with-trap};
+ghost use Rattle.spec_file.specs.Limit.{rules, references};
+ghost use Rattle.spec_table.specs.Policy.{permission, set-bit};
+ghost use Rattle.table_fields.specs.Field.{Word};
 ghost use Rattle.table_read.specs.Stored.{Stored, word-of};
 ghost use Rattle.ask_rule.specs.Members.{groups, matches, references-word, members-in, Refers, members-referred, groups-named};
 ghost use Rattle.ask_rule.specs.Rules.{flagged, Calculates, Passes, With-rule};
@@ -28,8 +28,8 @@ fn same_name(k: GroupKind, name: &[u8], stored: &[u8]) -> bool
     ensures { λ r. ⌜ r ≡ matches k (now (name .entry)) (now (stored .entry)) ⌝ }
 {
     match k {
-        GroupKind::Users => compare::equal(name, stored),
-        GroupKind::Hosts => compare::equal_lowered(name, stored),
+        GroupKind::Users => byte_compare::equal(name, stored),
+        GroupKind::Hosts => byte_compare::equal_lowered(name, stored),
     }
 }
 
@@ -173,7 +173,7 @@ fn calculation_true(table: &[u8], rule: usize, values: &[f64; 21], goods: &[bool
     if at + n == 0 {
         return true;
     }
-    evaluate::holds_with(
+    calc::holds_with(
         table_read::name_of(table, Section::Rules, rule),
         values,
         goods,

@@ -1,12 +1,12 @@
 // The asker: answers the questions of standard input by the rules in rules.acf. 01, "Two programs".
 use libc::STDIN_FILENO;
-use load::Loaded;
+use spec_load::Loaded;
 ghost use mathlib.Core.Path.{_≡_};
 ghost use mathlib.Core.Bool.{true};
 ghost use Prim.Native.Nat.{_≤_};
 ghost use lib.ListN.{length};
 ghost use Rattle.io.specs.Counts.{Counts};
-ghost use Rattle.table.specs.Check.{is-table};
+ghost use Rattle.spec_table.specs.Check.{is-table};
 ghost use Rattle.prog_replies.specs.Pieces.{room};
 
 // More rounds than any input has bytes.
@@ -63,7 +63,7 @@ fn main() {
     let mut text = [0u8; 16385];
     let n = rules(&mut text);
     let mut table = [0u8; 35108];
-    match loader::load(&text[..n], &mut table) {
+    match load::load(&text[..n], &mut table) {
         Loaded::Refused { refusal, place } => prog_output::put_refusal(refusal, place),
         Loaded::Accepted { length, warnings } => serve(&table),
     }

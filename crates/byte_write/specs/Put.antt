@@ -5,7 +5,7 @@ use mathlib.Core.Path.{_≡_}
 use Prim.Native.Nat.{ℕ, _+_}
 use lib.ListN.{length}
 use lib.Seq.{sets}
-use Rattle.lists.specs.Text.{lower-byte}
+use Rattle.spec_lists.specs.Text.{lower-byte}
 
 -- every usize is less
 abbrev pub usize-limit : ℕ

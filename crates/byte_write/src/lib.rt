@@ -2,7 +2,7 @@ ghost use mathlib.Core.Path.{_≡_};
 ghost use mathlib.Core.List.{[], _∷_, map};
 ghost use Prim.Native.Nat.{_+_, _<_};
 ghost use lib.ListN.{length};
-ghost use Rattle.lists.specs.Words.{word-bytes, spelled-out};
+ghost use Rattle.spec_lists.specs.Words.{word-bytes, spelled-out};
 ghost use Rattle.byte_write.specs.Put.{Put, cased, usize-limit};
 
 // Each function writes at a place and returns the place behind what it wrote. A byte past the end is not written, so that the same
@@ -46,7 +46,7 @@ pub fn put_three(lent: &mut [u8], at: usize, a: usize, b: usize, c: usize) -> us
 fn in_case(b: u8, low: bool) -> u8
     ensures { λ r. ⌜ r ≡ cased low b ⌝ }
 {
-    if low { compare::lower(b) } else { b }
+    if low { byte_compare::lower(b) } else { b }
 }
 
 // The bytes of a text, in lower case if asked.

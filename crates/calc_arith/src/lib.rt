@@ -1,7 +1,7 @@
 ghost use mathlib.Core.Path.{_≡_};
 ghost use mathlib.Core.Bool.{not, cond};
-ghost use Rattle.calculation.specs.Value.{truth, is-true, apply, finite, near-one};
-use calculation::Operator;
+ghost use Rattle.spec_calc.specs.Value.{truth, is-true, apply, finite, near-one};
+use spec_calc::Operator;
 
 // Comparisons and logic give 1 or 0.
 fn truth_of(b: bool) -> f64

@@ -4,9 +4,9 @@ use mathlib.Core.List.{List, _++_}
 use mathlib.Core.Option.{none, some}
 use Prim.Native.Nat.{ℕ, _+_, _-_, _^_, _≤_, _<_}
 use lib.ListN.{length, drop}
-use Rattle.lists.specs.Text.{bytes, digit, whole}
-use Rattle.lists.specs.Select.{run, after}
-use Rattle.calculation.specs.Symbol.{numeral, numeral-byte, pointed}
+use Rattle.spec_lists.specs.Text.{bytes, digit, whole}
+use Rattle.spec_lists.specs.Select.{run, after}
+use Rattle.spec_calc.specs.Symbol.{numeral, numeral-byte, pointed}
 use Rattle.calc_numeral.specs.declared.Digits.{Digits}
 use Rattle.calc_numeral.specs.declared.Digits.the-variants.{Are, TooMany}
 use Rattle.calc_numeral.specs.declared.Figure.{Figure}

@@ -3,8 +3,8 @@ ghost use mathlib.Core.Bool.{true};
 ghost use mathlib.Core.List.{List, [], _∷_};
 ghost use Prim.Native.Nat.{ℕ, _+_, _-_, _^_, _≤_, _<_};
 ghost use lib.ListN.{length, getD};
-ghost use Rattle.lists.specs.Text.{digit, whole};
-ghost use Rattle.calculation.specs.Symbol.{decimal, numeral-byte};
+ghost use Rattle.spec_lists.specs.Text.{digit, whole};
+ghost use Rattle.spec_calc.specs.Symbol.{decimal, numeral-byte};
 ghost use Rattle.calc_numeral.specs.Numeral.{Counts, Fraction, Numbered};
 
 // Digits: the number they make, the offset behind them, and how many more were allowed.

@@ -5,8 +5,8 @@ use native.Mathlib.Omega.{arith}
 use types.Run.{OneOf, miss}
 use denote.Enum.Declared.{tagOf}
 use Rattle.calc_symbol.proofs.Sign as sign-type
-use Rattle.calculation.specs.declared.Operator.{Operator}
-use Rattle.calculation.specs.Reader.{ends}
+use Rattle.spec_calc.specs.declared.Operator.{Operator}
+use Rattle.spec_calc.specs.Reader.{ends}
 use Rattle.calc_symbol.specs.declared.Sign.{Sign}
 use Rattle.calc_symbol.specs.declared.Sign.the-variants as code
 use Rattle.calc_symbol.specs.Scan.{syms, symbol-of, Symbol-at}

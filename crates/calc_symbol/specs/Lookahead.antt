@@ -4,12 +4,12 @@ use mathlib.Core.Bool.{Bool, true, false}
 use mathlib.Core.List.{List, [], _∷_}
 use mathlib.Core.Option.{Option, none, some}
 use Prim.Native.Nat.{ℕ, _≤_, _<_}
-use Rattle.calculation.specs.declared.Operator.the-variants as operators
-use Rattle.lists.specs.Text.{bytes}
-use Rattle.calculation.specs.Symbol.{Symbol, number, letter, operator, not-sign, question, open-paren, sign, start}
-use Rattle.calculation.specs.Expression.{Tree, level}
-use Rattle.calculation.specs.Reader.{begun, paren, if-of, Stack, State, wanted, have, run}
-use Rattle.calculation.specs.Complete.{first-ends}
+use Rattle.spec_calc.specs.declared.Operator.the-variants as operators
+use Rattle.spec_lists.specs.Text.{bytes}
+use Rattle.spec_calc.specs.Symbol.{Symbol, number, letter, operator, not-sign, question, open-paren, sign, start}
+use Rattle.spec_calc.specs.Expression.{Tree, level}
+use Rattle.spec_calc.specs.Reader.{begun, paren, if-of, Stack, State, wanted, have, run}
+use Rattle.spec_calc.specs.laws.Complete.{first-ends}
 use Rattle.calc_symbol.specs.declared.First.{First}
 use Rattle.calc_symbol.specs.declared.First.the-variants as first
 use Rattle.calc_symbol.specs.declared.Joint.{Joint}

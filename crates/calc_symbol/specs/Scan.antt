@@ -5,10 +5,10 @@ use mathlib.Core.List.{List, [], _∷_}
 use mathlib.Core.Option.{Option}
 use Prim.Native.Nat.{ℕ, _+_, _≤_, _<_}
 use lib.ListN.{length, take, drop, getD}
-use Rattle.lists.specs.Text.{same, among}
-use Rattle.lists.specs.Select.{first}
-use Rattle.calculation.specs.Symbol.{Symbol, letter, operator, not-sign, question, colon, open-paren, close-paren, spellings, Start, blank, figure}
-use Rattle.calculation.specs.Symbol.{wrong, sign, sign-of, start, then, symbols}
+use Rattle.spec_lists.specs.Text.{same, among}
+use Rattle.spec_lists.specs.Select.{first}
+use Rattle.spec_calc.specs.Symbol.{Symbol, letter, operator, not-sign, question, colon, open-paren, close-paren, spellings, Start, blank, figure, wrong, sign}
+use Rattle.spec_calc.specs.Symbol.{sign-of, start, then, symbols}
 use Rattle.calc_symbol.specs.declared.Class.{Class}
 use Rattle.calc_symbol.specs.declared.Class.the-variants as class
 use Rattle.calc_symbol.specs.declared.Sign.{Sign}

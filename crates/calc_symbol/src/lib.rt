@@ -2,14 +2,13 @@ ghost use mathlib.Core.Path.{_≡_};
 ghost use mathlib.Core.List.{List, [], _∷_};
 ghost use Prim.Native.Nat.{ℕ, _+_, _≤_, _<_};
 ghost use lib.ListN.{length};
-ghost use Rattle.lists.specs.Text.{bytes, among};
-ghost use Rattle.calculation.specs.Symbol.{wrong, start};
-ghost use Rattle.calculation.specs.Expression.{level};
-ghost use Rattle.calc_symbol.specs.Scan.{symbol-of, spelling, single, started, Class-ok, spelled-as, Pair-ok};
-ghost use Rattle.calc_symbol.specs.Scan.{Sign-only, Symbol-at, Sign-at, Blanks-to};
+ghost use Rattle.spec_lists.specs.Text.{bytes, among};
+ghost use Rattle.spec_calc.specs.Symbol.{wrong, start};
+ghost use Rattle.spec_calc.specs.Expression.{level};
+ghost use Rattle.calc_symbol.specs.Scan.{symbol-of, spelling, single, started, Class-ok, spelled-as, Pair-ok, Sign-only, Symbol-at, Sign-at, Blanks-to};
 ghost use Rattle.calc_symbol.specs.Lookahead.{Begins, Joins, Mark-at, Is-end};
 use calc_numeral::Figure;
-use calculation::Operator;
+use spec_calc::Operator;
 
 // What a byte of a calculation is, by itself.
 pub enum Class {

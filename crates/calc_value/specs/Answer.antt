@@ -1,9 +1,9 @@
 -- The value of a whole text.
 use mathlib.Core.List.{List}
 use mathlib.Core.Option.{Option, none, some}
-use Rattle.calculation.specs.declared.Reading.{Reading}
-use Rattle.calculation.specs.Expression.{Tree}
-use Rattle.calculation.specs.Value.{value}
+use Rattle.spec_calc.specs.declared.Reading.{Reading}
+use Rattle.spec_calc.specs.Expression.{Tree}
+use Rattle.spec_calc.specs.Value.{value}
 use Rattle.calc_value.specs.declared.Worth.{Worth}
 use Rattle.calc_value.specs.declared.Worth.the-variants as worths
 

@@ -2,14 +2,14 @@ ghost use mathlib.Core.Path.{_≡_};
 ghost use mathlib.Core.List.{map};
 ghost use Prim.Native.Nat.{_+_, _≤_};
 ghost use lib.ListN.{length};
-ghost use Rattle.calculation.specs.Expression.{Tree};
-ghost use Rattle.calculation.specs.Reader.{wanted, have, tree-of};
+ghost use Rattle.spec_calc.specs.Expression.{Tree};
+ghost use Rattle.spec_calc.specs.Reader.{wanted, have, tree-of};
 ghost use Rattle.calc_value.specs.Parse.{value-with, Parses-as, Continues-as, in-if, in-else};
 ghost use Rattle.calc_value.specs.Answer.{worth};
 use calc_symbol::First;
 use calc_symbol::Joint;
 use calc_symbol::Place;
-use calculation::Reading;
+use spec_calc::Reading;
 
 // A value, and the offset behind its text.
 pub enum Parsed {

@@ -3,14 +3,14 @@ use mathlib.Core.Path.{_≡_}
 use mathlib.Core.List.{List}
 use Prim.Native.Nat.{ℕ}
 use lib.Ieee.{Float}
-use Rattle.load.specs.Load.{Outcome}
-use Rattle.load.specs.Listing.{Listing}
-use Rattle.decision.specs.Decision.{decide}
+use Rattle.spec_load.specs.Load.{Result}
+use Rattle.spec_load.specs.Listing.{Listing}
+use Rattle.spec_decision.specs.Decision.{decide}
 use Rattle.api_readings.specs.Readings.{readings}
 use Rattle.api_numbers.specs.Numbers.{load-number, listed-number, answer-number}
 
 -- what a load leaves and answers
-pub record Leaves (o : Outcome) (bytes : List ℕ) (r : ℕ) : Type 0 where
+pub record Leaves (o : Result) (bytes : List ℕ) (r : ℕ) : Type 0 where
   pub left : bytes ≡ o .bytes
   pub answered : r ≡ load-number (o .answer)
 

@@ -1,12 +1,12 @@
 // The library for gateways, which are written in C: include/hrazvanut.h has each function in words.
 ghost use mathlib.Core.Path.{_≡_};
 ghost use mathlib.Core.Bool.{not, true};
-ghost use Rattle.lists.specs.Select.{missing};
-ghost use Rattle.calculation.specs.Reader.{tree-of};
-ghost use Rattle.table.specs.Check.{is-table};
-ghost use Rattle.load.specs.Load.{load};
-ghost use Rattle.load.specs.Listing.{listing};
-ghost use Rattle.decision.specs.LookUp.{look-up};
+ghost use Rattle.spec_lists.specs.Select.{missing};
+ghost use Rattle.spec_calc.specs.Reader.{tree-of};
+ghost use Rattle.spec_table.specs.Check.{is-table};
+ghost use Rattle.spec_load.specs.Load.{load};
+ghost use Rattle.spec_load.specs.Listing.{listing};
+ghost use Rattle.spec_decision.specs.LookUp.{look-up};
 ghost use Rattle.api_numbers.specs.Numbers.{found-number, yes};
 ghost use Rattle.hrazvanut.specs.Answers.{Leaves, Lists, Answers};
 
@@ -14,7 +14,7 @@ ghost use Rattle.hrazvanut.specs.Answers.{Leaves, Lists, Answers};
 pub extern "C" fn hrazvanut_load(text: &[u8], table: &mut [u8]) -> u64
     ensures { λ r. ⌜ Leaves (load (now (table .entry)) (now (text .entry))) (now (table .exit)) r ⌝ }
 {
-    api_numbers::load_number(loader::load(text, table))
+    api_numbers::load_number(load::load(text, table))
 }
 
 #[no_mangle]
@@ -35,7 +35,7 @@ pub extern "C" fn hrazvanut_list_warnings(
 pub extern "C" fn hrazvanut_is_table(table: &[u8]) -> u8
     ensures { λ r. ⌜ r ≡ yes (is-table (now (table .entry))) ⌝ }
 {
-    if inspect::is_table(table) { 1 } else { 0 }
+    if table_check::is_table(table) { 1 } else { 0 }
 }
 
 #[no_mangle]
@@ -53,7 +53,7 @@ pub extern "C" fn hrazvanut_decide(
         ⌝ }
 {
     let rs = api_readings::readings(states, values, 0);
-    api_numbers::answer_number(answer::decide(table, group, user, host, level, rs))
+    api_numbers::answer_number(ask::decide(table, group, user, host, level, rs))
 }
 
 // The one that asks something of its caller: hrazvanut_is_table has said 1 of the same bytes.
@@ -73,19 +73,19 @@ pub extern "C" fn hrazvanut_decide_checked(
         ⌝ }
 {
     let rs = api_readings::readings(states, values, 0);
-    api_numbers::answer_number(answer::decide_checked(table, group, user, host, level, rs))
+    api_numbers::answer_number(ask::decide_checked(table, group, user, host, level, rs))
 }
 
 #[no_mangle]
 pub extern "C" fn hrazvanut_find_input(table: &[u8], group: &[u8], letter: u8) -> u64
     ensures { λ r. ⌜ r ≡ found-number (look-up (now (table .entry)) (now (group .entry)) letter) ⌝ }
 {
-    api_numbers::found_number(answer::find_input(table, group, letter))
+    api_numbers::found_number(ask::find_input(table, group, letter))
 }
 
 #[no_mangle]
 pub extern "C" fn hrazvanut_allowed(text: &[u8]) -> u8
     ensures { λ r. ⌜ r ≡ yes (not (missing (tree-of (now (text .entry))))) ⌝ }
 {
-    if evaluate::allowed(text) { 1 } else { 0 }
+    if calc::allowed(text) { 1 } else { 0 }
 }

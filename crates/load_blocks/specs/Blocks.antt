@@ -4,8 +4,8 @@ use mathlib.Core.Bool.{Bool, true, cond}
 use mathlib.Core.List.{List, [], _∷_, _++_}
 use Prim.Native.Nat.{ℕ, suc, _-_, _≤_}
 use lib.Dec.{eqb, leb}
-use Rattle.token.specs.declared.Kind.the-variants as kind
-use Rattle.grammar.specs.Reader.{Stack, once, perhaps, often, arguments, block, block-element, Depth, inner, behind, mute}
+use Rattle.spec_token.specs.declared.Kind.the-variants as kind
+use Rattle.spec_grammar.specs.Reader.{Stack, once, perhaps, often, arguments, block, block-element, Depth, inner, behind, mute}
 use Rattle.load_elements.specs.declared.Cursor.{Cursor}
 use Rattle.load_elements.specs.Parse.{Parsed}
 use Rattle.load_elements.specs.Reads.{remaining, parse-at, Leads}

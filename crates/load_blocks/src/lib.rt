@@ -1,24 +1,24 @@
 // The blocks behind an unknown item or predicate: recursion for nested blocks, a loop for siblings.
-// Each function asks that there are as many roles as kinds: reader::read cuts both slices to one length, and its callees hand them on.
-use kept::CLOSE_BRACE;
-use kept::COMMA;
-use kept::FLOAT;
-use kept::INP;
-use kept::INT;
-use kept::NO_ROLE;
-use kept::OPEN_BRACE;
-use kept::OPEN_PAREN;
-use kept::STRING;
+// Each function asks that there are as many roles as kinds: load_parse::read cuts both slices to one length, and its callees hand them on.
 use load_elements::Cursor;
 use load_elements::arguments;
 use load_elements::expect;
 use load_elements::kind_at;
 use load_elements::list;
 use load_elements::second_block;
+use load_tokens::CLOSE_BRACE;
+use load_tokens::COMMA;
+use load_tokens::FLOAT;
+use load_tokens::INP;
+use load_tokens::INT;
+use load_tokens::NO_ROLE;
+use load_tokens::OPEN_BRACE;
+use load_tokens::OPEN_PAREN;
+use load_tokens::STRING;
 ghost use mathlib.Core.Path.{_≡_};
 ghost use mathlib.Core.List.{[], _∷_};
 ghost use lib.ListN.{length};
-ghost use Rattle.grammar.specs.Reader.{once, perhaps, block, block-inside, block-name, block-number, top, inner};
+ghost use Rattle.spec_grammar.specs.Reader.{once, perhaps, block, block-inside, block-name, block-number, top, inner};
 ghost use Rattle.load_elements.specs.Reads.{Reads};
 ghost use Rattle.load_blocks.specs.Blocks.{is-name, float-or-int, Opens, Closes};
 

@@ -7,15 +7,15 @@ use Prim.Native.Nat.{ℕ, _<_}
 use lib.Dec.{eqb, ltb}
 use lib.ListN.{getD, replicate, List·getD-eq-default}
 use borrow.Author.Tests.{ltb-true, ltb-false}
-use Rattle.lists.specs.Select.{all, any, holds-of}
-use Rattle.calculation.specs.Expression.{Tree}
-use Rattle.calculation.specs.Value.{letters}
-use Rattle.calculation.specs.Reader.{tree-of}
-use Rattle.calculation.specs.Theorem.{says-sound}
-use Rattle.file.specs.Refusal.{letters-among}
+use Rattle.spec_lists.specs.Select.{all, any, holds-of}
+use Rattle.spec_calc.specs.Expression.{Tree}
+use Rattle.spec_calc.specs.Value.{letters}
+use Rattle.spec_calc.specs.Reader.{tree-of}
+use Rattle.spec_calc.specs.laws.Theorem.{says-sound}
+use Rattle.spec_file.specs.Refusal.{letters-among}
 use Rattle.calc_symbol.specs.Scan.{syms}
-use Rattle.evaluate.specs.Answer.{symbols-given}
-use Rattle.evaluate.specs.laws.Letters.{letters-same}
+use Rattle.calc.specs.Answer.{symbols-given}
+use Rattle.calc.specs.laws.Letters.{letters-same}
 use Rattle.load_calcs.specs.laws.Letter.{small, text-small}
 
 small-below : (i : ℕ) → small i ≡ true → i < 21

@@ -2,13 +2,13 @@ ghost use mathlib.Core.Path.{_≡_};
 ghost use mathlib.Core.Bool.{true};
 ghost use Prim.Native.Nat.{_+_, _<_};
 ghost use lib.ListN.{length, set};
-ghost use Rattle.file.specs.Refusal.{bad-calculation};
-ghost use Rattle.texts.specs.Rolls.{Lie, arrays};
-ghost use Rattle.texts.specs.Search.{first-of, applies-at};
+ghost use Rattle.spec_file.specs.Refusal.{bad-calculation};
+ghost use Rattle.load_spans.specs.Roles.{Spans-fit, arrays};
+ghost use Rattle.load_spans.specs.Search.{first-of, applies-at};
 ghost use Rattle.load_calcs.specs.Input.{Gives, ahead, around};
-use kept::ASG_NAME;
-use kept::CALCULATION;
-use kept::INPUT;
+use load_tokens::ASG_NAME;
+use load_tokens::CALCULATION;
+use load_tokens::INPUT;
 
 // A letter more; no calculation has one past the 21.
 fn with_letter(mut given: [bool; 21], l: usize) -> [bool; 21]
@@ -30,7 +30,7 @@ fn letters_from(
     n: usize,
     from: usize,
 ) -> [bool; 21]
-    requires { ⌜ Lie (now s) (now starts) (now ends) (now roles) n ⌝ }
+    requires { ⌜ Spans-fit (now s) (now starts) (now ends) (now roles) n ⌝ }
     ensures { λ r. ⌜ Gives r (ahead (now (s .entry)) (arrays (now (starts .entry)) (now (ends .entry))) (now (roles .entry)) n from) ⌝ }
 {
     let mut given = [false; 21];
@@ -41,7 +41,7 @@ fn letters_from(
             return given;
         }
         if role == INPUT {
-            let more = with_letter(given, texts::letter(s, starts, ends, i));
+            let more = with_letter(given, load_spans::letter(s, starts, ends, i));
             given = more;
         }
         i += 1;
@@ -58,11 +58,11 @@ fn bad_calculation_at(
     i: usize,
     given: [bool; 21],
 ) -> bool
-    requires { ⌜ Lie (now s) (now starts) (now ends) (now roles) n × (i < n) × Gives given (around (now s) (arrays (now starts) (now ends)) (now roles) n i) ⌝ }
+    requires { ⌜ Spans-fit (now s) (now starts) (now ends) (now roles) n × (i < n) × Gives given (around (now s) (arrays (now starts) (now ends)) (now roles) n i) ⌝ }
     ensures { λ r. ⌜ r ≡ applies-at bad-calculation (now (s .entry)) (now (starts .entry)) (now (ends .entry)) (now (roles .entry)) n i ⌝ }
 {
     if roles[i] == CALCULATION {
-        return !evaluate::allowed_with(texts::text(s, starts, ends, i), given);
+        return !calc::allowed_with(load_spans::text(s, starts, ends, i), given);
     }
     false
 }
@@ -70,7 +70,7 @@ fn bad_calculation_at(
 // The first calculation that is not allowed, or n.
 // The caller, load_judge, has the tokens from load_syntax.
 pub fn bad_calculation(s: &[u8], starts: &[u16], ends: &[u16], roles: &[u8], n: usize) -> usize
-    requires { ⌜ Lie (now s) (now starts) (now ends) (now roles) n ⌝ }
+    requires { ⌜ Spans-fit (now s) (now starts) (now ends) (now roles) n ⌝ }
     ensures { λ r. ⌜ r ≡ first-of bad-calculation (now (s .entry)) (now (starts .entry)) (now (ends .entry)) (now (roles .entry)) n ⌝ }
 {
     let mut given = letters_from(s, starts, ends, roles, n, 0);

@@ -4,13 +4,12 @@ use mathlib.Core.Bool.{Bool, false}
 use mathlib.Core.List.{List, map}
 use Prim.Native.Nat.{ℕ, _≤_}
 use lib.ListN.{getD}
-use Rattle.kept.specs.Kept.{Arrays, said-from}
-use Rattle.file.specs.declared.Refusal.{Refusal}
-use Rattle.file.specs.declared.Refusal.the-variants.{FileTooLong, BadByte, TooDeep, Ungrammatical, NoRoom}
-use Rattle.file.specs.declared.Refusal.the-variants.{StringTooLong, TooMany, GivenAgain, BadLevel, UnknownWord, BadCalculation}
-use Rattle.file.specs.Refusal.{Context, too-long, too-many, given-again, bad-level, unknown-word, bad-calculation}
-use Rattle.file.specs.Refusal.{contexts, causes, refused-by}
-use Rattle.file.specs.Load.{by-causes}
+use Rattle.load_tokens.specs.Arrays.{Arrays, tagged-from}
+use Rattle.spec_file.specs.declared.Refusal.{Refusal}
+use Rattle.spec_file.specs.declared.Refusal.the-variants.{FileTooLong, BadByte, TooDeep, Ungrammatical, NoRoom, StringTooLong, TooMany, GivenAgain, BadLevel}
+use Rattle.spec_file.specs.declared.Refusal.the-variants.{UnknownWord, BadCalculation}
+use Rattle.spec_file.specs.Refusal.{Context, too-long, too-many, given-again, bad-level, unknown-word, bad-calculation, contexts, causes, refused-by}
+use Rattle.spec_file.specs.Load.{by-causes}
 use Rattle.load_syntax.specs.declared.Judgment.{Judgment}
 use Rattle.load_syntax.specs.Syntax.{count, final-verdict}
 
@@ -34,5 +33,5 @@ applies NoRoom c = false
 
 -- the verdict on n tokens by the causes 5 to 10
 pub record Judged-tokens (s : List ℕ) (a : Arrays) (roles : List ℕ) (n : ℕ) (r : Judgment) : Type 0 where
-  pub same : by-causes (said-from s a roles 0 n) (refused-by causes (contexts (said-from s a roles 0 n))) ≡ final-verdict s a roles r
+  pub same : by-causes (tagged-from s a roles 0 n) (refused-by causes (contexts (tagged-from s a roles 0 n))) ≡ final-verdict s a roles r
   pub few : count r ≤ n

@@ -2,12 +2,12 @@ ghost use mathlib.Core.Path.{_≡_};
 ghost use mathlib.Core.List.{List};
 ghost use Prim.Native.Nat.{ℕ, _≤_};
 ghost use lib.ListN.{length};
-ghost use Rattle.kept.specs.Stores.{kept-in};
-ghost use Rattle.texts.specs.Rolls.{Lie};
-ghost use Rattle.texts.specs.Search.{first-of};
+ghost use Rattle.load_tokens.specs.Stores.{arrays-of};
+ghost use Rattle.load_spans.specs.Roles.{Spans-fit};
+ghost use Rattle.load_spans.specs.Search.{first-of};
 ghost use Rattle.load_causes.specs.Cause.{cause-at, applies, Judged-tokens};
-use file::Refusal;
 use load_syntax::Judgment;
+use spec_file::Refusal;
 
 // How many causes there are.
 const CAUSES: usize = 6;
@@ -36,7 +36,7 @@ fn first_of(
     n: usize,
     seen: &mut [u16],
 ) -> usize
-    requires { ⌜ Lie (now s) (now starts) (now ends) (now roles) n × (n ≤ length (now seen)) ⌝ }
+    requires { ⌜ Spans-fit (now s) (now starts) (now ends) (now roles) n × (n ≤ length (now seen)) ⌝ }
     ensures { λ r. ⌜ r ≡ first-of (applies cause) (now (s .entry)) (now (starts .entry)) (now (ends .entry)) (now (roles .entry)) n ⌝ }
 {
     match cause {
@@ -61,10 +61,10 @@ pub fn by_causes(
     n: usize,
     seen: &mut [u16],
 ) -> Judgment
-    requires { ⌜ Lie (now s) (now starts) (now ends) (now roles) n × (n ≤ length (now places)) × (n ≤ length (now seen)) ⌝ }
+    requires { ⌜ Spans-fit (now s) (now starts) (now ends) (now roles) n × (n ≤ length (now places)) × (n ≤ length (now seen)) ⌝ }
     ensures { λ r. ⌜
         ((kinds : List ℕ) → Judged-tokens (now (s .entry))
-        (kept-in kinds (now (places .entry)) (now (starts .entry)) (now (ends .entry))) (now (roles .entry)) n r)
+        (arrays-of kinds (now (places .entry)) (now (starts .entry)) (now (ends .entry))) (now (roles .entry)) n r)
         ⌝ }
 {
     let mut k = 0;
@@ -72,7 +72,7 @@ pub fn by_causes(
         let refusal = cause(k);
         let i = first_of(refusal, s, starts, ends, roles, n, seen);
         if i < n {
-            return Judgment::Refused(refusal, kept::wide(places[i]));
+            return Judgment::Refused(refusal, load_tokens::wide(places[i]));
         }
         k += 1;
     }

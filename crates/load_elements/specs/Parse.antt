@@ -2,9 +2,9 @@
 use mathlib.Core.Bool.{cond}
 use mathlib.Core.List.{List, [], _∷_, _++_}
 use Prim.Native.Nat.{ℕ, suc}
-use Rattle.grammar.specs.declared.Role.{Role}
-use Rattle.grammar.specs.Reader.{Stack, Step, halt, go, step, may-end, start}
-use Rattle.kept.specs.Kept.{kind-of-number}
+use Rattle.spec_grammar.specs.declared.Role.{Role}
+use Rattle.spec_grammar.specs.Reader.{Stack, Step, halt, go, step, may-end, start}
+use Rattle.load_tokens.specs.Arrays.{kind-of-number}
 
 pub data Parsed : Type 0 where
   parsed : List Role → Parsed

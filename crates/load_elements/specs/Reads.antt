@@ -5,9 +5,9 @@ use mathlib.Core.List.{List, _++_, map}
 use Prim.Native.Nat.{ℕ, suc, _-_, _≤_}
 use lib.ListN.{length, getD, take, drop}
 use lib.Dec.{ltb}
-use Rattle.grammar.specs.Production.{_says_}
-use Rattle.grammar.specs.Reader.{Stack, Entry, once, token}
-use Rattle.kept.specs.Kept.{kind-of-number, role-of-number}
+use Rattle.spec_grammar.specs.Production.{_tagged_}
+use Rattle.spec_grammar.specs.Reader.{Stack, Entry, once, token}
+use Rattle.load_tokens.specs.Arrays.{kind-of-number, role-of-number}
 use Rattle.load_elements.specs.declared.Cursor.{Cursor}
 use Rattle.load_elements.specs.declared.Cursor.the-variants as cursor
 use Rattle.load_elements.specs.Parse.{Parsed, stopped-at, parse-from}
@@ -37,7 +37,7 @@ parse-at kinds roles (cursor.Stopped i) k = stopped-at i
 
 -- a token of this kind with this role
 abbrev pub expected : ℕ → ℕ → Entry
-expected x r = once (token (kind-of-number x says role-of-number r))
+expected x r = once (token (kind-of-number x tagged role-of-number r))
 
 -- if k is still to come, the whole file comes to x
 pub record Leads (kinds roles : List ℕ) (s : Cursor) (k : Stack) (x : Parsed) : Type 0 where

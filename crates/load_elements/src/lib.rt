@@ -1,21 +1,21 @@
 // A parser's cursor over the kinds of a file's tokens, and what 001 allows in an unknown part: elements, lists and heads.
-// Each function writes the roles of the tokens that it reads. It asks that there are as many roles as kinds: reader::read cuts
+// Each function writes the roles of the tokens that it reads. It asks that there are as many roles as kinds: load_parse::read cuts
 // both slices to one length, and every caller hands them on. A kind that is expected is a constant, or one that was seen.
-use kept::CLOSE_BRACE;
-use kept::CLOSE_PAREN;
-use kept::COMMA;
-use kept::END;
-use kept::NO_ROLE;
-use kept::OPEN_BRACE;
-use kept::OPEN_PAREN;
-use kept::STRING;
+use load_tokens::CLOSE_BRACE;
+use load_tokens::CLOSE_PAREN;
+use load_tokens::COMMA;
+use load_tokens::END;
+use load_tokens::NO_ROLE;
+use load_tokens::OPEN_BRACE;
+use load_tokens::OPEN_PAREN;
+use load_tokens::STRING;
 ghost use mathlib.Core.Path.{_≡_};
 ghost use mathlib.Core.List.{[], _∷_};
 ghost use Prim.Native.Nat.{_<_};
 ghost use lib.ListN.{length};
-ghost use Rattle.token.specs.declared.Kind.the-variants as kind;
-ghost use Rattle.grammar.specs.Reader.{once, perhaps, element, more-until, arguments, headed, second-block};
-ghost use Rattle.kept.specs.Kept.{kind-of-number};
+ghost use Rattle.spec_token.specs.declared.Kind.the-variants as kind;
+ghost use Rattle.spec_grammar.specs.Reader.{once, perhaps, element, more-until, arguments, headed, second-block};
+ghost use Rattle.load_tokens.specs.Arrays.{kind-of-number};
 ghost use Rattle.load_elements.specs.Reads.{kind-at, expected, Reads};
 
 // Where a parser stands: before a token, or stopped at one for good.

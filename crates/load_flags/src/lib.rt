@@ -1,15 +1,15 @@
-use kept::LEVEL;
-use kept::LOG_OPTION;
-use kept::PERMISSION;
-use kept::UNKNOWN_PREDICATE;
+use load_tokens::LEVEL;
+use load_tokens::LOG_OPTION;
+use load_tokens::PERMISSION;
+use load_tokens::UNKNOWN_PREDICATE;
 ghost use mathlib.Core.Path.{_≡_};
 ghost use Prim.Native.Nat.{_+_, _-_, _≤_};
 ghost use lib.ListN.{length};
-ghost use Rattle.file.specs.Contents.{rule-text};
-ghost use Rattle.table.specs.Written.{flags};
-ghost use Rattle.kept.specs.Kept.{role-of-number};
-ghost use Rattle.texts.specs.Lies.{Lies, All-lie};
-ghost use Rattle.texts.specs.Rolls.{Lie, Telling, tally, gap};
+ghost use Rattle.spec_file.specs.Contents.{rule-text};
+ghost use Rattle.spec_table.specs.Written.{flags};
+ghost use Rattle.load_tokens.specs.Arrays.{role-of-number};
+ghost use Rattle.load_spans.specs.Spans.{Span-fits, Listed-spans-fit};
+ghost use Rattle.load_spans.specs.Roles.{Spans-fit, Role-code, tally, gap};
 ghost use Rattle.load_flags.specs.Flags.{level-bits, permission-bits, trap-bits, off-bits};
 ghost use Rattle.load_flags.specs.Tokens.{tokens-in, first-text, number-at};
 
@@ -58,14 +58,14 @@ pub fn first_text<'a>(
     to: usize,
     m: u8,
 ) -> &'a [u8]
-    requires { ⌜ Lie (now s) (now starts) (now ends) (now roles) to × Telling m ⌝ }
+    requires { ⌜ Spans-fit (now s) (now starts) (now ends) (now roles) to × Role-code m ⌝ }
     ensures { λ r. ⌜
         now r ≡ first-text (role-of-number m) (tokens-in (now (s .entry)) (now (starts .entry)) (now (ends .entry)) (now (roles .entry)) from to)
         ⌝ }
 {
     let j = next(roles, from, to, m, m);
     if j < to {
-        return texts::text(s, starts, ends, j);
+        return load_spans::text(s, starts, ends, j);
     }
     &s[0..0]
 }
@@ -73,23 +73,23 @@ pub fn first_text<'a>(
 // The number of the first group that has a token's text for its name, or 65,535. The caller, load_records::put_reference, is
 // given tokens and groups whose texts lie in s.
 pub fn number_of(s: &[u8], starts: &[u16], ends: &[u16], names: &[u16], i: usize) -> usize
-    requires { ⌜ Lies (now s) (now starts) (now ends) i × All-lie (now s) (now starts) (now ends) (now names) ⌝ }
+    requires { ⌜ Span-fits (now s) (now starts) (now ends) i × Listed-spans-fit (now s) (now starts) (now ends) (now names) ⌝ }
     ensures { λ r. ⌜ r ≡ number-at (now (s .entry)) (now (starts .entry)) (now (ends .entry)) (now (names .entry)) i ⌝ }
 {
-    let k = texts::position(s, starts, ends, names, i);
+    let k = load_spans::position(s, starts, ends, names, i);
     if k < names.len() { k } else { 65535 }
 }
 
 // ---- the flags of a rule
 
 fn level_bits(s: &[u8], starts: &[u16], ends: &[u16], roles: &[u8], from: usize, to: usize) -> usize
-    requires { ⌜ Lie (now s) (now starts) (now ends) (now roles) to ⌝ }
+    requires { ⌜ Spans-fit (now s) (now starts) (now ends) (now roles) to ⌝ }
     ensures { λ r. ⌜ r ≡ level-bits (tokens-in (now (s .entry)) (now (starts .entry)) (now (ends .entry)) (now (roles .entry)) from to) ⌝ }
 {
-    let known = words_known::level_of(first_text(s, starts, ends, roles, from, to, LEVEL));
+    let known = load_values::level_of(first_text(s, starts, ends, roles, from, to, LEVEL));
     match known {
-        words_known::Level::Is(n) => n,
-        words_known::Level::No => 0,
+        load_values::Level::Is(n) => n,
+        load_values::Level::No => 0,
     }
 }
 
@@ -101,10 +101,10 @@ fn permission_bits(
     from: usize,
     to: usize,
 ) -> usize
-    requires { ⌜ Lie (now s) (now starts) (now ends) (now roles) to ⌝ }
+    requires { ⌜ Spans-fit (now s) (now starts) (now ends) (now roles) to ⌝ }
     ensures { λ r. ⌜ r ≡ permission-bits (tokens-in (now (s .entry)) (now (starts .entry)) (now (ends .entry)) (now (roles .entry)) from to) ⌝ }
 {
-    let known = words_known::permission_of(first_text(
+    let known = load_values::permission_of(first_text(
         s,
         starts,
         ends,
@@ -114,23 +114,23 @@ fn permission_bits(
         PERMISSION,
     ));
     match known {
-        words_known::Permission::Is(a) => match a {
-            rule::Access::None => 0,
-            rule::Access::Read => 2,
-            rule::Access::Write => 4,
+        load_values::Permission::Is(a) => match a {
+            spec_rule::Access::None => 0,
+            spec_rule::Access::Read => 2,
+            spec_rule::Access::Write => 4,
         },
-        words_known::Permission::No => 0,
+        load_values::Permission::No => 0,
     }
 }
 
 fn trap_bits(s: &[u8], starts: &[u16], ends: &[u16], roles: &[u8], from: usize, to: usize) -> usize
-    requires { ⌜ Lie (now s) (now starts) (now ends) (now roles) to ⌝ }
+    requires { ⌜ Spans-fit (now s) (now starts) (now ends) (now roles) to ⌝ }
     ensures { λ r. ⌜ r ≡ trap-bits (tokens-in (now (s .entry)) (now (starts .entry)) (now (ends .entry)) (now (roles .entry)) from to) ⌝ }
 {
-    let known = words_known::log_of(first_text(s, starts, ends, roles, from, to, LOG_OPTION));
+    let known = load_values::log_of(first_text(s, starts, ends, roles, from, to, LOG_OPTION));
     match known {
-        words_known::Log::Is(on) => if on { 8 } else { 0 },
-        words_known::Log::No => 0,
+        load_values::Log::Is(on) => if on { 8 } else { 0 },
+        load_values::Log::No => 0,
     }
 }
 
@@ -155,7 +155,7 @@ pub fn flags_of(
     from: usize,
     to: usize,
 ) -> usize
-    requires { ⌜ Lie (now s) (now starts) (now ends) (now roles) to ⌝ }
+    requires { ⌜ Spans-fit (now s) (now starts) (now ends) (now roles) to ⌝ }
     ensures { λ r. ⌜ r ≡ flags (rule-text (tokens-in (now (s .entry)) (now (starts .entry)) (now (ends .entry)) (now (roles .entry)) from to)) ⌝ }
 {
     let level = level_bits(s, starts, ends, roles, from, to);

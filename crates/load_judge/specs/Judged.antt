@@ -3,10 +3,10 @@ use mathlib.Core.Path.{_≡_}
 use mathlib.Core.List.{List}
 use Prim.Native.Nat.{ℕ, _≤_}
 use lib.ListN.{length}
-use Rattle.kept.specs.Stores.{kept-in}
-use Rattle.file.specs.Limit.{most-bytes}
-use Rattle.file.specs.Load.{verdict}
-use Rattle.texts.specs.Rolls.{Lie}
+use Rattle.load_tokens.specs.Stores.{arrays-of}
+use Rattle.spec_file.specs.Limit.{most-bytes}
+use Rattle.spec_file.specs.Load.{verdict}
+use Rattle.load_spans.specs.Roles.{Spans-fit}
 use Rattle.load_syntax.specs.declared.Judgment.{Judgment}
 use Rattle.load_syntax.specs.Syntax.{count, final-verdict}
 
@@ -21,6 +21,6 @@ pub record Space (s places starts ends roles : List ℕ) : Type 0 where
 -- the verdict on a text; the kinds of its tokens are not handed on
 pub record Judged (s places starts ends roles : List ℕ) (r : Judgment) : Type 0 where
   pub kinds : List ℕ
-  pub same : verdict s ≡ final-verdict s (kept-in kinds places starts ends) roles r
-  pub lie : Lie s starts ends roles (count r)
+  pub same : verdict s ≡ final-verdict s (arrays-of kinds places starts ends) roles r
+  pub lie : Spans-fit s starts ends roles (count r)
   pub has-places : count r ≤ length places

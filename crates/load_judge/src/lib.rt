@@ -1,7 +1,6 @@
-ghost use mathlib.Core.Path.{_≡_};
 ghost use Prim.Native.Nat.{_≤_};
 ghost use lib.ListN.{length};
-ghost use Rattle.kept.specs.Stores.{kept-in};
+ghost use Rattle.load_tokens.specs.Stores.{arrays-of};
 ghost use Rattle.load_syntax.specs.Syntax.{Capacity};
 ghost use Rattle.load_judge.specs.Judged.{Space, Judged};
 use load_syntax::Judgment;
@@ -22,7 +21,7 @@ fn judge_in(
     roles: &mut [u8],
     seen: &mut [u16],
 ) -> Judgment
-    requires { ⌜ Capacity (now s) (kept-in (now kinds) (now places) (now starts) (now ends)) (now roles) × (length (now s) ≤ length (now seen)) ⌝ }
+    requires { ⌜ Capacity (now s) (arrays-of (now kinds) (now places) (now starts) (now ends)) (now roles) × (length (now s) ≤ length (now seen)) ⌝ }
     ensures { λ r. ⌜ Judged (now (s .entry)) (now (places .exit)) (now (starts .exit)) (now (ends .exit)) (now (roles .exit)) r ⌝ }
 {
     match load_syntax::read(s, kinds, places, starts, ends, roles) {

@@ -2,15 +2,15 @@
 use mathlib.Core.List.{List, [], _∷_}
 use mathlib.Core.Option.{Option·getD}
 use Prim.Native.Nat.{ℕ}
-use Rattle.grammar.specs.declared.Role.{Role}
-use Rattle.grammar.specs.declared.Role.the-variants.{Mute, UagName, User, HagName, Host, AsgName, Input, Pvname, RuleWord, Level, Permission}
-use Rattle.grammar.specs.declared.Role.the-variants.{LogOption, UagNamed, HagNamed, CalcWord, Calculation, UnknownItem, UnknownPredicate}
-use Rattle.file.specs.Limit.{longest, most-bytes}
+use Rattle.spec_grammar.specs.declared.Role.{Role}
+use Rattle.spec_grammar.specs.declared.Role.the-variants.{NoRole, UagName, User, HagName, Host, AsgName, Input, Pvname, RuleWord, Level, Permission}
+use Rattle.spec_grammar.specs.declared.Role.the-variants.{LogOption, UagNamed, HagNamed, CalcWord, Calculation, UnknownItem, UnknownPredicate}
+use Rattle.spec_file.specs.Limit.{longest, most-bytes}
 
 -- the roles in the order of their numbers
 abbrev pub every-role : List Role
 every-role =
-    Mute ∷ UagName ∷ User ∷ HagName ∷ Host ∷ AsgName ∷ Input ∷ Pvname ∷ RuleWord ∷ Level ∷ Permission
+    NoRole ∷ UagName ∷ User ∷ HagName ∷ Host ∷ AsgName ∷ Input ∷ Pvname ∷ RuleWord ∷ Level ∷ Permission
     ∷ LogOption ∷ UagNamed ∷ HagNamed ∷ CalcWord ∷ Calculation ∷ UnknownItem ∷ UnknownPredicate ∷ []
 
 -- how long a text may be; no text is longer than a file

@@ -1,11 +1,11 @@
 ghost use mathlib.Core.Path.{_≡_};
 ghost use mathlib.Core.List.{map};
 ghost use Prim.Native.Nat.{ℕ, _<_};
-ghost use Rattle.grammar.specs.declared.Role.{Role};
-ghost use Rattle.kept.specs.Kept.{role-of-number};
-ghost use Rattle.file.specs.Refusal.{too-long, too-many};
-ghost use Rattle.texts.specs.Rolls.{Lie};
-ghost use Rattle.texts.specs.Search.{first-of, applies-at};
+ghost use Rattle.spec_grammar.specs.declared.Role.{Role};
+ghost use Rattle.load_tokens.specs.Arrays.{role-of-number};
+ghost use Rattle.spec_file.specs.Refusal.{too-long, too-many};
+ghost use Rattle.load_spans.specs.Roles.{Spans-fit};
+ghost use Rattle.load_spans.specs.Search.{first-of, applies-at};
 ghost use Rattle.load_limits.specs.Limit.{every-role, limit};
 
 // As long as a file: no text is longer, and no token stands behind as many.
@@ -58,16 +58,16 @@ fn long_at(
     n: usize,
     i: usize,
 ) -> bool
-    requires { ⌜ Lie (now s) (now starts) (now ends) (now roles) n × (i < n) × (now limits ≡ map limit every-role) ⌝ }
+    requires { ⌜ Spans-fit (now s) (now starts) (now ends) (now roles) n × (i < n) × (now limits ≡ map limit every-role) ⌝ }
     ensures { λ r. ⌜ r ≡ applies-at too-long (now (s .entry)) (now (starts .entry)) (now (ends .entry)) (now (roles .entry)) n i ⌝ }
 {
-    by_role(limits, roles[i]) < texts::long(s, starts, ends, i)
+    by_role(limits, roles[i]) < load_spans::long(s, starts, ends, i)
 }
 
 // The first token whose text is longer than its role allows, or n.
 // The caller, load_judge, has the tokens from load_syntax.
 pub fn too_long(s: &[u8], starts: &[u16], ends: &[u16], roles: &[u8], n: usize) -> usize
-    requires { ⌜ Lie (now s) (now starts) (now ends) (now roles) n ⌝ }
+    requires { ⌜ Spans-fit (now s) (now starts) (now ends) (now roles) n ⌝ }
     ensures { λ r. ⌜ r ≡ first-of too-long (now (s .entry)) (now (starts .entry)) (now (ends .entry)) (now (roles .entry)) n ⌝ }
 {
     let limits = LIMITS;
@@ -84,7 +84,7 @@ pub fn too_long(s: &[u8], starts: &[u16], ends: &[u16], roles: &[u8], n: usize) 
 // The first item that passes the limit of its section, or n.
 // The caller, load_judge, has the tokens from load_syntax.
 pub fn too_many(s: &[u8], starts: &[u16], ends: &[u16], roles: &[u8], n: usize) -> usize
-    requires { ⌜ Lie (now s) (now starts) (now ends) (now roles) n ⌝ }
+    requires { ⌜ Spans-fit (now s) (now starts) (now ends) (now roles) n ⌝ }
     ensures { λ r. ⌜ r ≡ first-of too-many (now (s .entry)) (now (starts .entry)) (now (ends .entry)) (now (roles .entry)) n ⌝ }
 {
     let most = MOST;

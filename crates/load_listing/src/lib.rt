@@ -1,13 +1,13 @@
 ghost use mathlib.Core.Path.{_≡_};
 ghost use Prim.Native.Nat.{_≤_};
 ghost use lib.ListN.{length};
-ghost use Rattle.load.specs.Listing.{listing};
+ghost use Rattle.spec_load.specs.Listing.{listing};
 ghost use Rattle.load_judge.specs.Judged.{Space};
-use file::Refusal;
-use load::Listed;
 use load_judge::LONGEST;
 use load_judge::SHORT;
 use load_syntax::Judgment;
+use spec_file::Refusal;
+use spec_load::Listed;
 
 // The warnings of a text whose tokens have room in the arrays.
 fn list_in(

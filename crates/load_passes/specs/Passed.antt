@@ -1,10 +1,10 @@
 -- What the functions that pass over kept tokens ask and promise.
 use mathlib.Core.List.{List, []}
 use Prim.Native.Nat.{ℕ, _+_}
-use Rattle.grammar.specs.declared.Role.the-variants.{RuleWord}
-use Rattle.kept.specs.Kept.{role-of-number}
-use Rattle.texts.specs.Lies.{All-lie}
-use Rattle.texts.specs.Rolls.{Telling, Lie}
+use Rattle.spec_grammar.specs.declared.Role.the-variants.{RuleWord}
+use Rattle.load_tokens.specs.Arrays.{role-of-number}
+use Rattle.load_spans.specs.Spans.{Listed-spans-fit}
+use Rattle.load_spans.specs.Roles.{Role-code, Spans-fit}
 use Rattle.load_flags.specs.Tokens.{cut, texts-at, tokens-in}
 use Rattle.load_records.specs.declared.Cursor.{Cursor}
 use Rattle.load_records.specs.declared.Work.{Work}
@@ -13,9 +13,9 @@ use Rattle.load_passes.specs.Pass.{emits, moves, refer-emits, refer-move
 
 -- the tokens of a file, whose texts lie in s, and those that define its groups
 pub record Source (s starts ends roles : List ℕ) (n : ℕ) (uags hags : List ℕ) : Type 0 where
-  pub lie : Lie s starts ends roles n
-  pub users : All-lie s starts ends uags
-  pub hosts : All-lie s starts ends hags
+  pub lie : Spans-fit s starts ends roles n
+  pub users : Listed-spans-fit s starts ends uags
+  pub hosts : Listed-spans-fit s starts ends hags
 
 -- ---- bounds of the cursor where a pass, the passes of one rule, and those of all rules begin
 
@@ -36,9 +36,9 @@ pass-reach = 1073741824
 
 -- what is asked where a pass starts; q: the number of the role; m: that of what belongs to each token; to: where the part ends
 pub record Start (s starts ends roles : List ℕ) (to q m : ℕ) (p : Cursor) : Type 0 where
-  pub lie : Lie s starts ends roles to
-  pub head : Telling q
-  pub part : Telling m
+  pub lie : Spans-fit s starts ends roles to
+  pub head : Role-code q
+  pub part : Role-code m
   pub bounded : Bounded pass-limit p
 
 -- the tokens of a role in a part are written for; names: the tokens by whose texts references are numbered

@@ -1,9 +1,9 @@
-use kept::ASG_NAME;
-use kept::HAG_NAMED;
-use kept::RULE_WORD;
-use kept::UAG_NAMED;
+use load_tokens::ASG_NAME;
+use load_tokens::HAG_NAMED;
+use load_tokens::RULE_WORD;
+use load_tokens::UAG_NAMED;
 ghost use Prim.Native.Nat.{_<_};
-ghost use Rattle.texts.specs.Lies.{All-lie};
+ghost use Rattle.load_spans.specs.Spans.{Listed-spans-fit};
 ghost use Rattle.load_records.specs.Cursor.{cursor, Bounded};
 ghost use Rattle.load_records.specs.Step.{Ready, Step};
 ghost use Rattle.load_passes.specs.Passed.{Source, rule-limit, references-limit, Start, Passed, Plain-passed, Rule-passed, References-passed};
@@ -25,7 +25,7 @@ fn put(
     p: Cursor,
     lent: &mut [u8],
 ) -> Cursor
-    requires { ⌜ Ready (now s) (now starts) (now ends) (now roles) i to q m p × All-lie (now s) (now starts) (now ends) (now names) ⌝ }
+    requires { ⌜ Ready (now s) (now starts) (now ends) (now roles) i to q m p × Listed-spans-fit (now s) (now starts) (now ends) (now names) ⌝ }
     ensures { λ r. ⌜
         Step work q m (now (names .entry)) (now (s .entry)) (now (starts .entry))
         (now (ends .entry)) (now (roles .entry)) i to (now (lent .entry)) (now (lent .exit)) p r
@@ -38,8 +38,18 @@ fn put(
         Work::Inputs => load_records::put_input(s, starts, ends, roles, i, to, q, m, p, lent),
         Work::Rules => load_records::put_rule(s, starts, ends, roles, i, to, q, m, p, lent),
         Work::References => load_records::put_reference(s, starts, ends, names, i, p, lent),
-        Work::Texts => load_records::put_string(texts::text(s, starts, ends, i), false, p, lent),
-        Work::Lowered => load_records::put_string(texts::text(s, starts, ends, i), true, p, lent),
+        Work::Texts => load_records::put_string(
+            load_spans::text(s, starts, ends, i),
+            false,
+            p,
+            lent,
+        ),
+        Work::Lowered => load_records::put_string(
+            load_spans::text(s, starts, ends, i),
+            true,
+            p,
+            lent,
+        ),
         Work::Firsts => load_records::put_first(s, starts, ends, roles, i, to, q, m, p, lent),
     }
 }
@@ -59,7 +69,7 @@ fn pass(
     cursor: Cursor,
     lent: &mut [u8],
 ) -> Cursor
-    requires { ⌜ Start (now s) (now starts) (now ends) (now roles) to q m cursor × All-lie (now s) (now starts) (now ends) (now names) ⌝ }
+    requires { ⌜ Start (now s) (now starts) (now ends) (now roles) to q m cursor × Listed-spans-fit (now s) (now starts) (now ends) (now names) ⌝ }
     ensures { λ r. ⌜
         Passed work q m (now (names .entry)) (now (s .entry)) (now (starts .entry))
         (now (ends .entry)) (now (roles .entry)) from to (now (lent .entry)) (now (lent .exit)) cursor r

@@ -2,14 +2,14 @@
 use mathlib.Core.List.{List, [], _∷_}
 use Prim.Native.Nat.{ℕ, _+_}
 use lib.ListN.{length}
-use Rattle.lists.specs.Text.{lowered}
-use Rattle.lists.specs.Words.{spelled-out}
-use Rattle.token.specs.Word.{link-letter}
-use Rattle.grammar.specs.declared.Role.{Role}
-use Rattle.grammar.specs.declared.Role.the-variants.{Input, RuleWord, UagNamed, HagNamed}
-use Rattle.grammar.specs.Reading.{Said}
-use Rattle.file.specs.Contents.{text, texts, until, head-of, rule-text}
-use Rattle.table.specs.Written.{flags, calculation-words}
+use Rattle.spec_lists.specs.Text.{lowered}
+use Rattle.spec_lists.specs.Words.{spelled-out}
+use Rattle.spec_token.specs.Word.{link-letter}
+use Rattle.spec_grammar.specs.declared.Role.{Role}
+use Rattle.spec_grammar.specs.declared.Role.the-variants.{Input, RuleWord, UagNamed, HagNamed}
+use Rattle.spec_grammar.specs.Sentence.{Tagged}
+use Rattle.spec_file.specs.Contents.{text, texts, until, head-of, rule-text}
+use Rattle.spec_table.specs.Written.{flags, calculation-words}
 use Rattle.load_flags.specs.Tokens.{cut, first-text, numbered, size}
 use Rattle.load_records.specs.declared.Cursor.{Cursor}
 use Rattle.load_records.specs.declared.Work.{Work}
@@ -19,7 +19,7 @@ use Rattle.load_records.specs.Cursor.{cursor}
 -- q: the role of the tokens; m: the role of what belongs to each; names: those that references are numbered by
 module _ (q m : Role) (names : List (List ℕ)) where
   -- what is written for the token x, behind which xs stand
-  abbrev pub emit : Work → Said → List Said → Cursor → List ℕ
+  abbrev pub emit : Work → Tagged → List Tagged → Cursor → List ℕ
   emit Groups x xs p = spelled-out (p .string ∷ length (text x) ∷ p .first ∷ size m (until q xs) ∷ [])
   emit Names x xs p = spelled-out (p .string ∷ length (text x) ∷ [])
   emit Access x xs p = spelled-out (p .string ∷ length (text x) ∷ p .first ∷ size Input (until q xs) ∷ p .second ∷ size RuleWord (until q xs) ∷ [])
@@ -38,7 +38,7 @@ module _ (q m : Role) (names : List (List ℕ)) where
   emit Firsts x xs p = first-text m (cut q xs)
 
   -- how many bytes of strings a record names
-  abbrev pub named : Work → Said → List Said → ℕ
+  abbrev pub named : Work → Tagged → List Tagged → ℕ
   named Groups x xs = length (text x)
   named Names x xs = length (text x)
   named Access x xs = length (text x)
@@ -50,7 +50,7 @@ module _ (q m : Role) (names : List (List ℕ)) where
   named Firsts x xs = 0
 
   -- how many records belong to it, by its first run, or its first two
-  abbrev pub firsts : Work → Said → List Said → ℕ
+  abbrev pub firsts : Work → Tagged → List Tagged → ℕ
   firsts Groups x xs = size m (until q xs)
   firsts Names x xs = 0
   firsts Access x xs = size Input (until q xs)
@@ -61,7 +61,7 @@ module _ (q m : Role) (names : List (List ℕ)) where
   firsts Lowered x xs = 0
   firsts Firsts x xs = 0
 
-  abbrev pub seconds : Work → Said → List Said → ℕ
+  abbrev pub seconds : Work → Tagged → List Tagged → ℕ
   seconds Groups x xs = 0
   seconds Names x xs = 0
   seconds Access x xs = size RuleWord (until q xs)
@@ -72,5 +72,5 @@ module _ (q m : Role) (names : List (List ℕ)) where
   seconds Lowered x xs = 0
   seconds Firsts x xs = 0
 
-  abbrev pub move : Work → Said → List Said → Cursor → Cursor
+  abbrev pub move : Work → Tagged → List Tagged → Cursor → Cursor
   move w x xs p = cursor (p .at + length (emit w x xs p)) (p .string + named w x xs) (p .first + firsts w x xs) (p .second + seconds w x xs)

@@ -2,10 +2,10 @@
 use mathlib.Core.List.{List, [], _∷_}
 use Prim.Native.Nat.{ℕ, _<_, _+_}
 use lib.ListN.{length}
-use Rattle.lists.specs.Words.{spelled-out}
-use Rattle.kept.specs.Kept.{role-of-number, said-at}
-use Rattle.texts.specs.Lies.{text-at}
-use Rattle.texts.specs.Rolls.{Telling, Lie, arrays}
+use Rattle.spec_lists.specs.Words.{spelled-out}
+use Rattle.load_tokens.specs.Arrays.{role-of-number, tagged-at}
+use Rattle.load_spans.specs.Spans.{text-at}
+use Rattle.load_spans.specs.Roles.{Role-code, Spans-fit, arrays}
 use Rattle.load_flags.specs.Tokens.{number-at, texts-at, tokens-in}
 use Rattle.load_records.specs.declared.Cursor.{Cursor}
 use Rattle.load_records.specs.declared.Work.{Work}
@@ -14,16 +14,16 @@ use Rattle.load_records.specs.Record.{emit, move}
 
 -- q: the number of the token's role; m: that of what belongs to it; to: where the part ends
 pub record Ready (s starts ends roles : List ℕ) (i to q m : ℕ) (p : Cursor) : Type 0 where
-  pub lie : Lie s starts ends roles to
+  pub lie : Spans-fit s starts ends roles to
   pub here : i < to
-  pub head : Telling q
-  pub part : Telling m
+  pub head : Role-code q
+  pub part : Role-code m
   pub bounded : Bounded cursor-limit p
 
 -- the token is written for, and the cursor moved; names: the tokens by whose texts references are numbered
 abbrev pub Step : Work → ℕ → ℕ → List ℕ → List ℕ → List ℕ → List ℕ → List ℕ → ℕ → ℕ → List ℕ → List ℕ → Cursor → Cursor → Type 0
 Step w q m names s starts ends roles i to b c p r =
-    let x = said-at s (arrays starts ends) roles i in
+    let x = tagged-at s (arrays starts ends) roles i in
     let xs = tokens-in s starts ends roles (i + 1) to in
     let ns = texts-at s starts ends names in
     Emitted b c p (emit (role-of-number q) (role-of-number m) ns w x xs p) (move (role-of-number q) (role-of-number m) ns w x xs p) r

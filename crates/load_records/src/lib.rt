@@ -1,14 +1,14 @@
-use kept::ASG_NAME;
-use kept::HAG_NAMED;
-use kept::INPUT;
-use kept::RULE_WORD;
-use kept::UAG_NAMED;
+use load_tokens::ASG_NAME;
+use load_tokens::HAG_NAMED;
+use load_tokens::INPUT;
+use load_tokens::RULE_WORD;
+use load_tokens::UAG_NAMED;
 ghost use mathlib.Core.Bool.{cond};
 ghost use mathlib.Core.List.{map, []};
 ghost use mathlib.Core.Path.{_≡_};
 ghost use Prim.Native.Nat.{_<_};
 ghost use lib.ListN.{length};
-ghost use Rattle.texts.specs.Lies.{Lies, All-lie};
+ghost use Rattle.load_spans.specs.Spans.{Span-fits, Listed-spans-fit};
 ghost use Rattle.byte_write.specs.Put.{cased};
 ghost use Rattle.load_records.specs.Cursor.{Bounded, cursor-limit};
 ghost use Rattle.load_records.specs.Step.{Ready, Step, String-put, Name-put, Reference-put};
@@ -62,7 +62,7 @@ pub fn put_group(
         Step Groups q m [] (now (s .entry)) (now (starts .entry)) (now (ends .entry)) (now (roles .entry)) i to (now (lent .entry)) (now (lent .exit)) p r
         ⌝ }
 {
-    let len = texts::long(s, starts, ends, i);
+    let len = load_spans::long(s, starts, ends, i);
     let e = load_flags::next(roles, i + 1, to, q, q);
     let k = load_flags::count(roles, i + 1, e, m);
     let half = byte_write::put_two(lent, p.at, p.string, len);
@@ -84,10 +84,10 @@ pub fn put_name(
     p: Cursor,
     lent: &mut [u8],
 ) -> Cursor
-    requires { ⌜ Lies (now s) (now starts) (now ends) i × Bounded cursor-limit p × (length (now s) < cursor-limit) ⌝ }
+    requires { ⌜ Span-fits (now s) (now starts) (now ends) i × Bounded cursor-limit p × (length (now s) < cursor-limit) ⌝ }
     ensures { λ r. ⌜ Name-put (now (s .entry)) (now (starts .entry)) (now (ends .entry)) i (now (lent .entry)) (now (lent .exit)) p r ⌝ }
 {
-    let len = texts::long(s, starts, ends, i);
+    let len = load_spans::long(s, starts, ends, i);
     let end = byte_write::put_two(lent, p.at, p.string, len);
     Cursor {
         at: end,
@@ -115,7 +115,7 @@ pub fn put_access(
         Step Access q m [] (now (s .entry)) (now (starts .entry)) (now (ends .entry)) (now (roles .entry)) i to (now (lent .entry)) (now (lent .exit)) p r
         ⌝ }
 {
-    let len = texts::long(s, starts, ends, i);
+    let len = load_spans::long(s, starts, ends, i);
     let e = load_flags::next(roles, i + 1, to, q, q);
     let inputs = load_flags::count(roles, i + 1, e, INPUT);
     let rules = load_flags::count(roles, i + 1, e, RULE_WORD);
@@ -151,7 +151,13 @@ pub fn put_input(
     let e = load_flags::next(roles, i + 1, to, q, ASG_NAME);
     let t = load_flags::first_text(s, starts, ends, roles, i + 1, e, m);
     let len = t.len();
-    let end = byte_write::put_three(lent, p.at, texts::letter(s, starts, ends, i), p.string, len);
+    let end = byte_write::put_three(
+        lent,
+        p.at,
+        load_spans::letter(s, starts, ends, i),
+        p.string,
+        len,
+    );
     Cursor {
         at: end,
         string: p.string + len,
@@ -207,14 +213,14 @@ pub fn put_reference(
     lent: &mut [u8],
 ) -> Cursor
     requires { ⌜
-        Lies (now s) (now starts) (now ends) i × All-lie (now s) (now starts) (now ends) (now names) × Bounded cursor-limit p ×
+        Span-fits (now s) (now starts) (now ends) i × Listed-spans-fit (now s) (now starts) (now ends) (now names) × Bounded cursor-limit p ×
         (length (now s) < cursor-limit)
         ⌝ }
     ensures { λ r. ⌜
         Reference-put (now (s .entry)) (now (starts .entry)) (now (ends .entry)) (now (names .entry)) i (now (lent .entry)) (now (lent .exit)) p r
         ⌝ }
 {
-    let len = texts::long(s, starts, ends, i);
+    let len = load_spans::long(s, starts, ends, i);
     let end = byte_write::put_three(
         lent,
         p.at,

@@ -1,17 +1,17 @@
 ghost use mathlib.Core.Path.{_≡_};
 ghost use Prim.Native.Nat.{_≤_, min};
 ghost use lib.ListN.{length};
-ghost use Rattle.kept.specs.Kept.{role-of-number};
-ghost use Rattle.file.specs.Refusal.{given-again};
-ghost use Rattle.texts.specs.Rolls.{Telling, Lie};
-ghost use Rattle.texts.specs.Search.{first-of};
+ghost use Rattle.load_tokens.specs.Arrays.{role-of-number};
+ghost use Rattle.spec_file.specs.Refusal.{given-again};
+ghost use Rattle.load_spans.specs.Roles.{Role-code, Spans-fit};
+ghost use Rattle.load_spans.specs.Search.{first-of};
 ghost use Rattle.load_repeats.specs.Repeated.{repeated, name-repeated};
-use kept::ASG_NAME;
-use kept::CALC_WORD;
-use kept::HAG_NAME;
-use kept::INPUT;
-use kept::RULE_WORD;
-use kept::UAG_NAME;
+use load_tokens::ASG_NAME;
+use load_tokens::CALC_WORD;
+use load_tokens::HAG_NAME;
+use load_tokens::INPUT;
+use load_tokens::RULE_WORD;
+use load_tokens::UAG_NAME;
 
 fn least(a: usize, b: usize) -> usize
     ensures { λ r. ⌜ r ≡ min a b ⌝ }
@@ -34,14 +34,14 @@ fn repeated(
     stop: u8,
     seen: &mut [u16],
 ) -> usize
-    requires { ⌜ Lie (now s) (now starts) (now ends) (now roles) n × Telling q × Telling stop × (n ≤ length (now seen)) ⌝ }
+    requires { ⌜ Spans-fit (now s) (now starts) (now ends) (now roles) n × Role-code q × Role-code stop × (n ≤ length (now seen)) ⌝ }
     ensures { λ r. ⌜ r ≡ first-of (repeated (role-of-number q) (role-of-number stop)) (now (s .entry)) (now (starts .entry)) (now (ends .entry)) (now (roles .entry)) n ⌝ }
 {
     let mut k = 0;
     let mut i = 0;
     while i < n {
         if roles[i] == q {
-            if texts::position(s, starts, ends, &seen[..k], i) < k {
+            if load_spans::position(s, starts, ends, &seen[..k], i) < k {
                 return i;
             }
             seen[k] = i as u16;
@@ -63,7 +63,7 @@ fn name_repeated(
     n: usize,
     seen: &mut [u16],
 ) -> usize
-    requires { ⌜ Lie (now s) (now starts) (now ends) (now roles) n × (n ≤ length (now seen)) ⌝ }
+    requires { ⌜ Spans-fit (now s) (now starts) (now ends) (now roles) n × (n ≤ length (now seen)) ⌝ }
     ensures { λ r. ⌜ r ≡ first-of name-repeated (now (s .entry)) (now (starts .entry)) (now (ends .entry)) (now (roles .entry)) n ⌝ }
 {
     let uag = repeated(s, starts, ends, roles, n, UAG_NAME, UAG_NAME, seen);
@@ -82,7 +82,7 @@ pub fn given_again(
     n: usize,
     seen: &mut [u16],
 ) -> usize
-    requires { ⌜ Lie (now s) (now starts) (now ends) (now roles) n × (n ≤ length (now seen)) ⌝ }
+    requires { ⌜ Spans-fit (now s) (now starts) (now ends) (now roles) n × (n ≤ length (now seen)) ⌝ }
     ensures { λ r. ⌜ r ≡ first-of given-again (now (s .entry)) (now (starts .entry)) (now (ends .entry)) (now (roles .entry)) n ⌝ }
 {
     let name = name_repeated(s, starts, ends, roles, n, seen);

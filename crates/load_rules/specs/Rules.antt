@@ -2,10 +2,10 @@
 use mathlib.Core.Bool.{cond}
 use mathlib.Core.List.{[], _∷_}
 use Prim.Native.Nat.{ℕ}
-use Rattle.token.specs.declared.Kind.the-variants as kind
-use Rattle.grammar.specs.declared.Role.the-variants as role
-use Rattle.grammar.specs.Production.{_says_}
-use Rattle.grammar.specs.Reader.{Stack, once, token, mute, string, log-option}
+use Rattle.spec_token.specs.declared.Kind.the-variants as kind
+use Rattle.spec_grammar.specs.declared.Role.the-variants as role
+use Rattle.spec_grammar.specs.Production.{_tagged_}
+use Rattle.spec_grammar.specs.Reader.{Stack, once, token, mute, string, log-option}
 use Rattle.load_blocks.specs.Blocks.{is-name}
 
 -- the kind that a name must have, where x stands
@@ -18,4 +18,4 @@ permission = mute kind.Comma ∷ string role.Permission ∷ once log-option ∷ 
 
 -- RULE and rule_head
 abbrev pub rule-head : Stack
-rule-head = once (token (kind.Rule says role.RuleWord)) ∷ mute kind.OpenParen ∷ once (token (kind.Int says role.Level)) ∷ permission
+rule-head = once (token (kind.Rule tagged role.RuleWord)) ∷ mute kind.OpenParen ∷ once (token (kind.Int tagged role.Level)) ∷ permission

@@ -3,11 +3,11 @@ use mathlib.Core.Bool.{not}
 use mathlib.Core.List.{List, [], _++_}
 use mathlib.Core.Path.{_≡_}
 use Prim.Native.Nat.{ℕ, _+_, _*_}
-use Rattle.lists.specs.Select.{after}
-use Rattle.grammar.specs.declared.Role.{Role}
-use Rattle.grammar.specs.declared.Role.the-variants.{UagName, User, HagName, Host, AsgName, Input, Pvname, RuleWord, Calculation}
-use Rattle.grammar.specs.Reading.{Said}
-use Rattle.file.specs.Contents.{says}
+use Rattle.spec_lists.specs.Select.{after}
+use Rattle.spec_grammar.specs.declared.Role.{Role}
+use Rattle.spec_grammar.specs.declared.Role.the-variants.{UagName, User, HagName, Host, AsgName, Input, Pvname, RuleWord, Calculation}
+use Rattle.spec_grammar.specs.Sentence.{Tagged}
+use Rattle.spec_file.specs.Contents.{has-role}
 use Rattle.byte_write.specs.Put.{Put}
 use Rattle.load_flags.specs.Tokens.{size, texts-at, tokens-in}
 use Rattle.load_records.specs.declared.Cursor.{Cursor}
@@ -19,8 +19,8 @@ use Rattle.load_sections.specs.declared.GroupSections.{GroupSections}
 use Rattle.load_sections.specs.declared.RuleSections.{RuleSections}
 
 -- from the first that says q on
-abbrev pub from : Role → List Said → List Said
-from q xs = after (λ x. not (says q x)) xs
+abbrev pub from : Role → List Tagged → List Tagged
+from q xs = after (λ x. not (has-role q x)) xs
 
 -- a cursor at the same place, its runs beginning anew
 abbrev pub new-runs : Cursor → Cursor
@@ -40,7 +40,7 @@ limit-7 = 140737488355328
 abbrev pub limit-strings : ℕ
 limit-strings = 140741783322624
 
-module _ (xs : List Said) where
+module _ (xs : List Tagged) where
   -- ---- sections 1 to 3: groups and their members
 
   abbrev pub behind-1 : Cursor → Cursor
@@ -89,7 +89,7 @@ module _ (xs : List Said) where
 -- ---- sections 6 and 7: rules and references
 
 -- us, hs: the names by which references are numbered
-module _ (us hs : List (List ℕ)) (xs : List Said) where
+module _ (us hs : List (List ℕ)) (xs : List Tagged) where
   -- a rule has 14 bytes
   abbrev pub at-references : Cursor → Cursor
   at-references p = cursor (p .at + 14 * size RuleWord (from AsgName xs)) (p .string) 0 0

@@ -1,8 +1,8 @@
 -- The strings, in the order in which the passes write them.
 use mathlib.Core.List.{List, [], _++_}
 use Prim.Native.Nat.{ℕ}
-use Rattle.grammar.specs.declared.Role.the-variants.{UagName, User, HagName, Host, AsgName, Input, Pvname, RuleWord, Calculation}
-use Rattle.grammar.specs.Reading.{Said}
+use Rattle.spec_grammar.specs.declared.Role.the-variants.{UagName, User, HagName, Host, AsgName, Input, Pvname, RuleWord, Calculation}
+use Rattle.spec_grammar.specs.Sentence.{Tagged}
 use Rattle.byte_write.specs.Put.{Put}
 use Rattle.load_records.specs.declared.Cursor.{Cursor}
 use Rattle.load_records.specs.declared.Work.the-variants.{Texts, Lowered, Firsts}
@@ -14,7 +14,7 @@ use Rattle.load_sections.specs.Sections.{from, limit-strings}
 abbrev pub zero-cursor : Cursor
 zero-cursor = cursor 0 0 0 0
 
-module _ (xs : List Said) where
+module _ (xs : List Tagged) where
   -- the names of groups and members
   abbrev pub group-strings : List ℕ
   group-strings =

@@ -1,13 +1,13 @@
-use kept::ASG_NAME;
-use kept::CALCULATION;
-use kept::HAG_NAME;
-use kept::HOST;
-use kept::INPUT;
-use kept::PVNAME;
-use kept::RULE_WORD;
-use kept::UAG_NAME;
-use kept::USER;
-ghost use Rattle.texts.specs.Rolls.{Lie};
+use load_tokens::ASG_NAME;
+use load_tokens::CALCULATION;
+use load_tokens::HAG_NAME;
+use load_tokens::HOST;
+use load_tokens::INPUT;
+use load_tokens::PVNAME;
+use load_tokens::RULE_WORD;
+use load_tokens::UAG_NAME;
+use load_tokens::USER;
+ghost use Rattle.load_spans.specs.Roles.{Spans-fit};
 ghost use Rattle.byte_write.specs.Put.{Put};
 ghost use Rattle.load_flags.specs.Tokens.{tokens-in};
 ghost use Rattle.load_records.specs.Cursor.{cursor, Bounded};
@@ -24,7 +24,7 @@ pub struct GroupSections {
     pub cursor: Cursor,
 }
 
-// The caller of each function, writer::table, has the tokens of a file, and hands on the cursor that the function before left.
+// The caller of each function, load_write::table, has the tokens of a file, and hands on the cursor that the function before left.
 
 // Sections 1 to 3: user groups, host groups, and the members of both.
 pub fn group_sections(
@@ -35,7 +35,7 @@ pub fn group_sections(
     n: usize,
     lent: &mut [u8],
 ) -> GroupSections
-    requires { ⌜ Lie (now s) (now starts) (now ends) (now roles) n ⌝ }
+    requires { ⌜ Spans-fit (now s) (now starts) (now ends) (now roles) n ⌝ }
     ensures { λ r. ⌜
         Groups-written (tokens-in (now (s .entry)) (now (starts .entry)) (now (ends .entry)) (now (roles .entry)) 0 n) (now (lent .entry))
         (now (lent .exit)) (cursor 36 0 0 0) r
@@ -78,7 +78,7 @@ pub fn access_sections(
     p: Cursor,
     lent: &mut [u8],
 ) -> AccessSections
-    requires { ⌜ Lie (now s) (now starts) (now ends) (now roles) n × Bounded limit-3 p ⌝ }
+    requires { ⌜ Spans-fit (now s) (now starts) (now ends) (now roles) n × Bounded limit-3 p ⌝ }
     ensures { λ r. ⌜
         Access-written (tokens-in (now (s .entry)) (now (starts .entry)) (now (ends .entry)) (now (roles .entry)) 0 n) (now (lent .entry))
         (now (lent .exit)) p r
@@ -186,7 +186,7 @@ pub fn group_strings(
     p: Cursor,
     lent: &mut [u8],
 ) -> Cursor
-    requires { ⌜ Lie (now s) (now starts) (now ends) (now roles) n × Bounded limit-7 p ⌝ }
+    requires { ⌜ Spans-fit (now s) (now starts) (now ends) (now roles) n × Bounded limit-7 p ⌝ }
     ensures { λ r. ⌜
         Names-written (tokens-in (now (s .entry)) (now (starts .entry)) (now (ends .entry)) (now (roles .entry)) 0 n) (now (lent .entry))
         (now (lent .exit)) p r

@@ -3,13 +3,13 @@ use mathlib.Core.Path.{_≡_}
 use mathlib.Core.List.{List}
 use Prim.Native.Nat.{ℕ, _≤_}
 use lib.ListN.{length}
-use Rattle.kept.specs.Kept.{Arrays, said-from}
-use Rattle.file.specs.Load.{accept}
-use Rattle.table.specs.Layout.{greatest-table}
-use Rattle.texts.specs.Listed.{indices}
-use Rattle.load.specs.declared.Loaded.{Loaded}
-use Rattle.load.specs.Load.{by-verdict}
-use Rattle.writer.specs.Table.{table-told}
+use Rattle.load_tokens.specs.Arrays.{Arrays, tagged-from}
+use Rattle.spec_file.specs.Load.{accept}
+use Rattle.spec_table.specs.Layout.{greatest-table}
+use Rattle.load_spans.specs.Listed.{indices}
+use Rattle.spec_load.specs.declared.Loaded.{Loaded}
+use Rattle.spec_load.specs.Load.{by-verdict}
+use Rattle.load_write.specs.Table.{table-told}
 
 -- the table of n tokens is no longer than the greatest
 abbrev pub Fits : List ℕ → List ℕ → List ℕ → List ℕ → ℕ → Type 0
@@ -17,4 +17,4 @@ Fits s starts ends roles n = length (table-told s starts ends roles n (indices 1
 
 -- what a load of n tokens answers, and what it makes of the lent bytes
 abbrev pub Stored : List ℕ → Arrays → List ℕ → ℕ → List ℕ → List ℕ → Loaded → Type 0
-Stored s a roles n lent after r = record { answer = r; bytes = after } ≡ by-verdict lent (accept (said-from s a roles 0 n))
+Stored s a roles n lent after r = record { answer = r; bytes = after } ≡ by-verdict lent (accept (tagged-from s a roles 0 n))

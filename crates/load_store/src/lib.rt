@@ -1,12 +1,12 @@
 ghost use mathlib.Core.List.{List};
 ghost use Prim.Native.Nat.{ℕ};
-ghost use Rattle.kept.specs.Stores.{kept-in};
+ghost use Rattle.load_tokens.specs.Stores.{arrays-of};
 ghost use Rattle.load_warnings.specs.Bounded.{Bounded};
 ghost use Rattle.load_store.specs.Stored.{Fits, Stored};
-use file::Refusal;
-use load::Loaded;
-use kept::HAG_NAME;
-use kept::UAG_NAME;
+use load_tokens::HAG_NAME;
+use load_tokens::UAG_NAME;
+use spec_file::Refusal;
+use spec_load::Loaded;
 
 // The table of n tokens of an accepted file, if there is room, and how many warnings they have.
 // The caller, loader, has the tokens from load_judge.
@@ -21,20 +21,20 @@ pub fn store(
 ) -> Loaded
     requires { ⌜ Bounded (now s) (now places) (now starts) (now ends) (now roles) n × Fits (now s) (now starts) (now ends) (now roles) n ⌝ }
     ensures { λ r. ⌜
-        ((kinds : List ℕ) → Stored (now (s .entry)) (kept-in kinds (now (places .entry)) (now (starts .entry)) (now (ends .entry))) (now (roles .entry)) n
+        ((kinds : List ℕ) → Stored (now (s .entry)) (arrays-of kinds (now (places .entry)) (now (starts .entry)) (now (ends .entry))) (now (roles .entry)) n
         (now (lent .entry)) (now (lent .exit)) r)
         ⌝ }
 {
     let mut uags = [0u16; 64];
     let mut hags = [0u16; 64];
-    let u = texts::collect(roles, n, UAG_NAME, &mut uags);
-    let h = texts::collect(roles, n, HAG_NAME, &mut hags);
-    match writer::write(s, starts, ends, roles, n, &uags[..u], &hags[..h], lent) {
-        writer::Written::NoRoom(size) => Loaded::Refused {
+    let u = load_spans::collect(roles, n, UAG_NAME, &mut uags);
+    let h = load_spans::collect(roles, n, HAG_NAME, &mut hags);
+    match load_write::write(s, starts, ends, roles, n, &uags[..u], &hags[..h], lent) {
+        load_write::Written::NoRoom(size) => Loaded::Refused {
             refusal: Refusal::NoRoom,
             place: size,
         },
-        writer::Written::Done(size) => {
+        load_write::Written::Done(size) => {
             let mut numbers = [0u8; 1];
             let mut at = [0u16; 1];
             let count = load_warnings::warnings(

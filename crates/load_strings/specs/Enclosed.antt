@@ -1,7 +1,7 @@
 -- What stands between two tokens.
 use mathlib.Core.List.{[], _∷_}
 use Prim.Native.Nat.{ℕ}
-use Rattle.grammar.specs.Reader.{Stack}
+use Rattle.spec_grammar.specs.Reader.{Stack}
 use Rattle.load_elements.specs.Reads.{expected}
 
 -- l between a token that opens and one that closes

@@ -1,20 +1,20 @@
 // Strings in parentheses and braces, as groups, inputs and rules have them.
-// Each function asks that there are as many roles as kinds: reader::read cuts both slices to one length, and its callees hand them on.
+// Each function asks that there are as many roles as kinds: load_parse::read cuts both slices to one length, and its callees hand them on.
 // The kinds that are expected are constants of the callers, load_rules and reader.
-use kept::CLOSE_PAREN;
-use kept::COMMA;
-use kept::NO_ROLE;
-use kept::OPEN_PAREN;
-use kept::STRING;
 use load_elements::Cursor;
 use load_elements::expect;
 use load_elements::kind_at;
+use load_tokens::CLOSE_PAREN;
+use load_tokens::COMMA;
+use load_tokens::NO_ROLE;
+use load_tokens::OPEN_PAREN;
+use load_tokens::STRING;
 ghost use mathlib.Core.Path.{_≡_};
 ghost use mathlib.Core.List.{[], _∷_};
 ghost use Prim.Native.Nat.{_<_};
 ghost use lib.ListN.{length};
-ghost use Rattle.grammar.specs.Reader.{named, string-list};
-ghost use Rattle.kept.specs.Kept.{role-of-number};
+ghost use Rattle.spec_grammar.specs.Reader.{named, string-list};
+ghost use Rattle.load_tokens.specs.Arrays.{role-of-number};
 ghost use Rattle.load_elements.specs.Reads.{expected, Reads};
 ghost use Rattle.load_strings.specs.Enclosed.{enclosed};
 

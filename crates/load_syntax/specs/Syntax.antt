@@ -3,13 +3,13 @@ use mathlib.Core.Path.{_≡_}
 use mathlib.Core.List.{List}
 use Prim.Native.Nat.{ℕ, _≤_, _<_}
 use lib.ListN.{length}
-use Rattle.token.specs.Token.{scanned}
-use Rattle.grammar.specs.Reader.{said, read}
-use Rattle.kept.specs.Kept.{Arrays, tokens-from, said-from}
-use Rattle.kept.specs.Stores.{Room, Good}
-use Rattle.file.specs.Limit.{most-bytes}
-use Rattle.file.specs.Depth.{too-deep}
-use Rattle.file.specs.Load.{Verdict, refuse, accept, by-grammar, by-depth, by-tokens}
+use Rattle.spec_token.specs.Token.{scanned}
+use Rattle.spec_grammar.specs.Reader.{parsed, read}
+use Rattle.load_tokens.specs.Arrays.{Arrays, tokens-from, tagged-from}
+use Rattle.load_tokens.specs.Stores.{Room, Good}
+use Rattle.spec_file.specs.Limit.{most-bytes}
+use Rattle.spec_file.specs.Depth.{too-deep}
+use Rattle.spec_file.specs.Load.{Verdict, refuse, accept, by-grammar, by-depth, by-tokens}
 use Rattle.load_syntax.specs.declared.Judgment.{Judgment}
 use Rattle.load_syntax.specs.declared.Judgment.the-variants.{Tokens, Refused}
 
@@ -20,12 +20,12 @@ count (Refused k p) = 0
 
 -- the verdict if the refusals 5 to 10 are still to come
 abbrev pub open-verdict : List ℕ → Arrays → List ℕ → Judgment → Verdict
-open-verdict s a roles (Tokens n) = by-grammar (said (said-from s a roles 0 n))
+open-verdict s a roles (Tokens n) = by-grammar (parsed (tagged-from s a roles 0 n))
 open-verdict s a roles (Refused k p) = refuse k p
 
 -- the verdict if none is to come
 abbrev pub final-verdict : List ℕ → Arrays → List ℕ → Judgment → Verdict
-final-verdict s a roles (Tokens n) = accept (said-from s a roles 0 n)
+final-verdict s a roles (Tokens n) = accept (tagged-from s a roles 0 n)
 final-verdict s a roles (Refused k p) = refuse k p
 
 -- the text is not too long, and the arrays have room for its tokens, of which there are no more than bytes

@@ -4,13 +4,13 @@ ghost use mathlib.Core.List.{List};
 ghost use Prim.Native.Nat.{ℕ, _≤_};
 ghost use lib.Dec.{ltb};
 ghost use lib.ListN.{length, getD};
-ghost use Rattle.kept.specs.Stores.{kept-in};
+ghost use Rattle.load_tokens.specs.Stores.{arrays-of};
 ghost use Rattle.load_syntax.specs.Syntax.{Capacity, Parsed, Read};
 
 // How many tokens of the arrays are the file's, or why the text is refused.
 pub enum Judgment {
     Tokens(usize),
-    Refused(file::Refusal, usize),
+    Refused(spec_file::Refusal, usize),
 }
 
 // Where reading stopped: at a token, or at the end of the text.
@@ -18,20 +18,24 @@ fn place_of(places: &[u16], n: usize, i: usize, end: usize) -> usize
     requires { ⌜ n ≤ length (now places) ⌝ }
     ensures { λ r. ⌜ r ≡ cond (ltb i n) (getD (now (places .entry)) i 0) end ⌝ }
 {
-    if i < n { kept::wide(places[i]) } else { end }
+    if i < n {
+        load_tokens::wide(places[i])
+    } else {
+        end
+    }
 }
 
 // The refusals 3 and 4, of n tokens of a text of that length.
 fn parse(kinds: &[u8], places: &[u16], n: usize, long: usize, roles: &mut [u8]) -> Judgment
     requires { ⌜ (n ≤ length (now kinds)) × (n ≤ length (now places)) × (n ≤ length (now roles)) ⌝ }
-    ensures { λ r. ⌜ ((s starts ends : List ℕ) → Parsed s (kept-in (now (kinds .entry)) (now (places .entry)) starts ends) n long (now (roles .exit)) r) ⌝ }
+    ensures { λ r. ⌜ ((s starts ends : List ℕ) → Parsed s (arrays-of (now (kinds .entry)) (now (places .entry)) starts ends) n long (now (roles .exit)) r) ⌝ }
 {
-    match braces::too_deep(kinds, places, n) {
-        braces::Deep::At(p) => Judgment::Refused(file::Refusal::TooDeep, p),
-        braces::Deep::No => match reader::read(kinds, n, roles) {
-            reader::Outcome::Said => Judgment::Tokens(n),
-            reader::Outcome::Stopped(i) => Judgment::Refused(
-                file::Refusal::Ungrammatical,
+    match load_depth::too_deep(kinds, places, n) {
+        load_depth::Deep::At(p) => Judgment::Refused(spec_file::Refusal::TooDeep, p),
+        load_depth::Deep::No => match load_parse::read(kinds, n, roles) {
+            load_parse::Outcome::Said => Judgment::Tokens(n),
+            load_parse::Outcome::Stopped(i) => Judgment::Refused(
+                spec_file::Refusal::Ungrammatical,
                 place_of(places, n, i, long),
             ),
         },
@@ -48,11 +52,11 @@ pub fn read(
     ends: &mut [u16],
     roles: &mut [u8],
 ) -> Judgment
-    requires { ⌜ Capacity (now s) (kept-in (now kinds) (now places) (now starts) (now ends)) (now roles) ⌝ }
-    ensures { λ r. ⌜ Read (now (s .entry)) (kept-in (now (kinds .exit)) (now (places .exit)) (now (starts .exit)) (now (ends .exit))) (now (roles .exit)) r ⌝ }
+    requires { ⌜ Capacity (now s) (arrays-of (now kinds) (now places) (now starts) (now ends)) (now roles) ⌝ }
+    ensures { λ r. ⌜ Read (now (s .entry)) (arrays-of (now (kinds .exit)) (now (places .exit)) (now (starts .exit)) (now (ends .exit))) (now (roles .exit)) r ⌝ }
 {
-    match scanner::scan(s, kinds, places, starts, ends) {
-        scanner::Scanned::Bad(p) => Judgment::Refused(file::Refusal::BadByte, p),
-        scanner::Scanned::Tokens(n) => parse(kinds, places, n, s.len(), roles),
+    match load_scan::scan(s, kinds, places, starts, ends) {
+        load_scan::Scanned::Bad(p) => Judgment::Refused(spec_file::Refusal::BadByte, p),
+        load_scan::Scanned::Tokens(n) => parse(kinds, places, n, s.len(), roles),
     }
 }

@@ -5,11 +5,11 @@ use mathlib.Core.Option.{Option, none, some}
 use Prim.Native.Nat.{ℕ}
 use lib.Dec.{eqb}
 use lib.ListN.{getD}
-use Rattle.lists.specs.Text.{same}
-use Rattle.lists.specs.Select.{any}
-use Rattle.file.specs.declared.Warning.{Warning}
-use Rattle.file.specs.Warning.{number}
-use Rattle.texts.specs.Lies.{text-at}
+use Rattle.spec_lists.specs.Text.{same}
+use Rattle.spec_lists.specs.Select.{any}
+use Rattle.spec_file.specs.declared.Warning.{Warning}
+use Rattle.spec_file.specs.Warning.{number}
+use Rattle.load_spans.specs.Spans.{text-at}
 
 -- 0 for no warning
 abbrev pub code-of : Option Warning → ℕ

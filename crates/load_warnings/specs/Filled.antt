@@ -6,13 +6,13 @@ use Prim.Native.Nat.{ℕ, _-_}
 use lib.Dec.{leb}
 use lib.ListN.{length, set, drop}
 use lib.Seq.{sets}
-use Rattle.kept.specs.Kept.{said-from}
-use Rattle.kept.specs.Stores.{kept-in}
-use Rattle.file.specs.Warning.{number, Warned, warnings}
+use Rattle.load_tokens.specs.Arrays.{tagged-from}
+use Rattle.load_tokens.specs.Stores.{arrays-of}
+use Rattle.spec_file.specs.Warning.{number, Warned, warnings}
 
 -- the warnings of the first n tokens
 abbrev pub warnings-of : List ℕ → List ℕ → List ℕ → List ℕ → List ℕ → ℕ → List Warned
-warnings-of s places starts ends roles n = warnings (said-from s (kept-in [] places starts ends) roles 0 n)
+warnings-of s places starts ends roles n = warnings (tagged-from s (arrays-of [] places starts ends) roles 0 n)
 
 abbrev pub numbers-of : List Warned → List ℕ
 numbers-of ws = map (λ w. number (w .warning)) ws

@@ -1,18 +1,18 @@
 ghost use mathlib.Core.Path.{_≡_};
 ghost use Prim.Native.Nat.{_≤_, _<_};
 ghost use lib.ListN.{length};
-ghost use Rattle.texts.specs.Rolls.{Lie};
-ghost use Rattle.texts.specs.Lies.{Lies, All-lie};
-ghost use Rattle.texts.specs.Listed.{indices};
+ghost use Rattle.load_spans.specs.Roles.{Spans-fit};
+ghost use Rattle.load_spans.specs.Spans.{Span-fits, Listed-spans-fit};
+ghost use Rattle.load_spans.specs.Listed.{indices};
 ghost use Rattle.load_warnings.specs.Code.{named-code, code-at};
 ghost use Rattle.load_warnings.specs.Filled.{warnings-of, wrote, Filled};
 ghost use Rattle.load_warnings.specs.Bounded.{Bounded};
-use kept::HAG_NAME;
-use kept::HAG_NAMED;
-use kept::UAG_NAME;
-use kept::UAG_NAMED;
-use kept::UNKNOWN_ITEM;
-use kept::UNKNOWN_PREDICATE;
+use load_tokens::HAG_NAME;
+use load_tokens::HAG_NAMED;
+use load_tokens::UAG_NAME;
+use load_tokens::UAG_NAMED;
+use load_tokens::UNKNOWN_ITEM;
+use load_tokens::UNKNOWN_PREDICATE;
 
 // Warnings, by their numbers.
 const NONE: u8 = 0;
@@ -25,10 +25,10 @@ const UNDEFINED_GROUP: u8 = 3;
 
 // The warning of a group that a rule names, by the names of those that the file defines.
 fn undefined(s: &[u8], starts: &[u16], ends: &[u16], names: &[u16], i: usize) -> u8
-    requires { ⌜ Lies (now s) (now starts) (now ends) i × All-lie (now s) (now starts) (now ends) (now names) ⌝ }
+    requires { ⌜ Span-fits (now s) (now starts) (now ends) i × Listed-spans-fit (now s) (now starts) (now ends) (now names) ⌝ }
     ensures { λ r. ⌜ r ≡ named-code (now (s .entry)) (now (starts .entry)) (now (ends .entry)) (now (names .entry)) i ⌝ }
 {
-    if texts::position(s, starts, ends, names, i) < names.len() {
+    if load_spans::position(s, starts, ends, names, i) < names.len() {
         return NONE;
     }
     UNDEFINED_GROUP
@@ -44,8 +44,8 @@ fn warning_at(
     hags: &[u16],
     i: usize,
 ) -> u8
-    requires { ⌜ Lies (now s) (now starts) (now ends) i × (i < length (now roles)) ⌝ }
-    requires { ⌜ All-lie (now s) (now starts) (now ends) (now uags) × All-lie (now s) (now starts) (now ends) (now hags) ⌝ }
+    requires { ⌜ Span-fits (now s) (now starts) (now ends) i × (i < length (now roles)) ⌝ }
+    requires { ⌜ Listed-spans-fit (now s) (now starts) (now ends) (now uags) × Listed-spans-fit (now s) (now starts) (now ends) (now hags) ⌝ }
     ensures { λ r. ⌜
         r ≡ code-at (now (s .entry)) (now (starts .entry)) (now (ends .entry)) (now (roles .entry)) (now (uags .entry)) (now (hags .entry)) i
         ⌝ }
@@ -103,7 +103,7 @@ fn write(
     numbers: &mut [u8],
     at: &mut [u16],
 ) -> usize
-    requires { ⌜ Lie (now s) (now starts) (now ends) (now roles) n × (n ≤ length (now places)) ⌝ }
+    requires { ⌜ Spans-fit (now s) (now starts) (now ends) (now roles) n × (n ≤ length (now places)) ⌝ }
     requires { ⌜ (now uags ≡ indices 1 (now roles) 0 n) × (now hags ≡ indices 3 (now roles) 0 n) ⌝ }
     ensures { λ r. ⌜
         Filled (warnings-of (now (s .entry)) (now (places .entry)) (now (starts .entry)) (now (ends .entry)) (now (roles .entry)) n) skip
@@ -145,8 +145,8 @@ pub fn warnings(
 {
     let mut uags = [0u16; 64];
     let mut hags = [0u16; 64];
-    let u = texts::collect(roles, n, UAG_NAME, &mut uags);
-    let h = texts::collect(roles, n, HAG_NAME, &mut hags);
+    let u = load_spans::collect(roles, n, UAG_NAME, &mut uags);
+    let h = load_spans::collect(roles, n, HAG_NAME, &mut hags);
     write(
         s,
         starts,

@@ -1,9 +1,9 @@
 -- The classes of bytes, as the code names them.
 use mathlib.Core.Bool.{Bool}
 use Prim.Native.Nat.{ℕ}
-use Rattle.lists.specs.Text.{digit}
-use Rattle.token.specs.Word.{name-byte}
-use Rattle.token.specs.Token.{other}
+use Rattle.spec_lists.specs.Text.{digit}
+use Rattle.spec_token.specs.Word.{name-byte}
+use Rattle.spec_token.specs.Token.{other}
 use Rattle.load_word.specs.declared.Class.{Class}
 use Rattle.load_word.specs.declared.Class.the-variants.{Name, Digit, Comment}
 

@@ -4,9 +4,9 @@ use mathlib.Core.Bool.{Bool, true, false, _&&_, not}
 use mathlib.Core.List.{List, [], _∷_}
 use Prim.Native.Nat.{ℕ, _≤_}
 use lib.ListN.{length, drop}
-use Rattle.lists.specs.Text.{among, digit}
-use Rattle.lists.specs.Select.{nonempty, run, after}
-use Rattle.token.specs.Word.{unsigned}
+use Rattle.spec_lists.specs.Text.{among, digit}
+use Rattle.spec_lists.specs.Select.{nonempty, run, after}
+use Rattle.spec_token.specs.Word.{unsigned}
 
 -- DIGIT+ and no more
 abbrev pub digits-only : List ℕ → Bool

@@ -1,9 +1,9 @@
 -- What a byte begins, as the code says it.
-use Rattle.token.specs.Token.{Begins, nothing, comment, quote, stop, word, wrong}
+use Rattle.spec_token.specs.Token.{Lexeme, nothing, comment, quote, stop, word, wrong}
 use Rattle.load_word.specs.declared.Start.{Start}
 use Rattle.load_word.specs.declared.Start.the-variants as start
 
-abbrev pub start-of : Begins → Start
+abbrev pub start-of : Lexeme → Start
 start-of nothing = start.Blank
 start-of comment = start.Comment
 start-of quote = start.Quote

@@ -2,11 +2,11 @@
 ghost use mathlib.Core.Path.{_≡_};
 ghost use Prim.Native.Nat.{_≤_};
 ghost use lib.ListN.{length, drop};
-ghost use Rattle.lists.specs.Text.{digit};
-ghost use Rattle.token.specs.Word.{name-byte, int, float, inp, word-kind};
-ghost use Rattle.token.specs.Token.{begins, punctuation};
-ghost use Rattle.token.specs.Spans.{Span};
-ghost use Rattle.grammar.specs.Reader.{kind-number};
+ghost use Rattle.spec_lists.specs.Text.{digit};
+ghost use Rattle.spec_token.specs.Word.{name-byte, int, float, inp, word-kind};
+ghost use Rattle.spec_token.specs.Token.{lexeme-of, punctuation};
+ghost use Rattle.spec_token.specs.laws.Spans.{Span};
+ghost use Rattle.spec_grammar.specs.Codes.{kind-number};
 ghost use Rattle.load_word.specs.Class.{belongs};
 ghost use Rattle.load_word.specs.Start.{start-of};
 ghost use Rattle.load_word.specs.Number.{Unsigned, digits-only, exponent, fraction};
@@ -34,7 +34,7 @@ fn is_name(b: u8) -> bool
 }
 
 pub fn begun_by(b: u8) -> Start
-    ensures { λ r. ⌜ r ≡ start-of (begins b) ⌝ }
+    ensures { λ r. ⌜ r ≡ start-of (lexeme-of b) ⌝ }
 {
     if is_name(b) {
         return Start::Word;
@@ -190,7 +190,7 @@ fn is_input(w: &[u8]) -> bool
     if w.len() != 4 {
         return false;
     }
-    if compare::equal(&w[..3], b"INP") {
+    if byte_compare::equal(&w[..3], b"INP") {
         match w[3] {
             b'A'..=b'U' => true,
             _ => false,
@@ -204,19 +204,19 @@ fn is_input(w: &[u8]) -> bool
 pub fn word_kind(w: &[u8]) -> u8
     ensures { λ r. ⌜ r ≡ kind-number (word-kind (now (w .entry))) ⌝ }
 {
-    if compare::equal(w, b"UAG") {
+    if byte_compare::equal(w, b"UAG") {
         return 0;
     }
-    if compare::equal(w, b"HAG") {
+    if byte_compare::equal(w, b"HAG") {
         return 1;
     }
-    if compare::equal(w, b"ASG") {
+    if byte_compare::equal(w, b"ASG") {
         return 2;
     }
-    if compare::equal(w, b"RULE") {
+    if byte_compare::equal(w, b"RULE") {
         return 3;
     }
-    if compare::equal(w, b"CALC") {
+    if byte_compare::equal(w, b"CALC") {
         return 4;
     }
     if is_input(w) {

@@ -5,11 +5,11 @@ use mathlib.Core.Option.{Option, none, some}
 use Prim.Native.Nat.{ℕ, _-_}
 use lib.Dec.{leb}
 use lib.ListN.{length, set, replicate}
-use Rattle.lists.specs.Text.{bytes, same, one-of, among, digit}
-use Rattle.lists.specs.Select.{nonempty}
-use Rattle.calculation.specs.declared.Reading.{Reading}
-use Rattle.calculation.specs.declared.Reading.the-variants.{NeverHeard}
-use Rattle.rule.specs.Question.{Question}
+use Rattle.spec_lists.specs.Text.{bytes, same, one-of, among, digit}
+use Rattle.spec_lists.specs.Select.{nonempty}
+use Rattle.spec_calc.specs.declared.Reading.{Reading}
+use Rattle.spec_calc.specs.declared.Reading.the-variants.{NeverHeard}
+use Rattle.spec_rule.specs.Question.{Question}
 use Rattle.prog_reading.specs.Reading.{Named, named}
 
 -- 01: "lines of standard input up to 255 bytes, newline aside"

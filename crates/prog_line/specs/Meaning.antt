@@ -5,8 +5,8 @@ use mathlib.Core.List.{List, [], _∷_}
 use mathlib.Core.Option.{Option, none, some}
 use Prim.Native.Nat.{ℕ, _+_, _-_, _≤_, _<_}
 use lib.ListN.{length, drop}
-use Rattle.lists.specs.Select.{nonempty}
-use Rattle.calculation.specs.declared.Reading.{Reading}
+use Rattle.spec_lists.specs.Select.{nonempty}
+use Rattle.spec_calc.specs.declared.Reading.{Reading}
 use Rattle.prog_line.specs.declared.Place.{Place}
 use Rattle.prog_line.specs.declared.Place.the-variants as place
 use Rattle.prog_line.specs.declared.Level.{Level}

@@ -5,8 +5,8 @@ ghost use lib.ListN.{length, drop};
 ghost use Rattle.prog_line.specs.Line.{group-of, readings-named};
 ghost use Rattle.prog_line.specs.Parts.{cut, Part, behind};
 ghost use Rattle.prog_line.specs.Meaning.{as-readings, Next-as, Level-as, Names-as, Asks-as};
-use calculation::Reading;
 use prog_reading::NamedReading;
+use spec_calc::Reading;
 
 // The part behind another.
 pub enum Place {
@@ -171,7 +171,7 @@ pub fn group<'a>(line: &'a [u8], user: usize) -> &'a [u8]
     requires { ⌜ (0 < user) × (user ≤ length (now line)) ⌝ }
     ensures { λ r. ⌜ now r ≡ group-of (cut 0 (user - 1) (now (line .entry))) ⌝ }
 {
-    if compare::equal(part(line, 0, user), b"-") {
+    if byte_compare::equal(part(line, 0, user), b"-") {
         return &line[0..0];
     }
     part(line, 0, user)

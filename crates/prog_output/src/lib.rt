@@ -1,12 +1,12 @@
 // What the programs share: files read, the checker's lines, and a load's answer printed. No contract can say what is read or printed.
-use file::Refusal;
 use libc::STDOUT_FILENO;
-use load::Listed;
-use load::Loaded;
+use spec_file::Refusal;
+use spec_load::Listed;
+use spec_load::Loaded;
 ghost use mathlib.Core.Path.{_≡_};
 ghost use Prim.Native.Nat.{_≤_};
 ghost use Rattle.io.specs.Counts.{Counts};
-ghost use Rattle.file.specs.Refusal.{number};
+ghost use Rattle.spec_file.specs.Refusal.{number};
 
 // What the programs fill lent bytes with before a load.
 pub const BEFORE: u8 = 0xA5;
@@ -89,7 +89,7 @@ fn put_warnings(numbers: [u8; ROOM], at: [u16; ROOM], n: usize)
 {
     let mut i = 0;
     while i < n {
-        put_warning(wide(numbers[i]), kept::wide(at[i]));
+        put_warning(wide(numbers[i]), load_tokens::wide(at[i]));
         i += 1;
     }
 }

@@ -4,7 +4,7 @@ use mathlib.Core.List.{List}
 use mathlib.Core.Option.{Option, none, some}
 use Prim.Native.Nat.{ℕ, _<_}
 use lib.Ieee.{Float}
-use Rattle.calculation.specs.declared.Reading.{Reading}
+use Rattle.spec_calc.specs.declared.Reading.{Reading}
 use Rattle.prog_reading.specs.declared.Numeral.{Numeral}
 use Rattle.prog_reading.specs.declared.Numeral.the-variants as numeral
 use Rattle.prog_reading.specs.declared.Spelled.{Spelled}

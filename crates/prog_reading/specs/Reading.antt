@@ -4,10 +4,10 @@ use mathlib.Core.List.{List, [], _∷_}
 use mathlib.Core.Option.{Option, none, some}
 use Prim.Native.Nat.{ℕ, _-_}
 use lib.Ieee.{Float, nan, inf, neg}
-use Rattle.lists.specs.Text.{bytes, same, among, within}
-use Rattle.calculation.specs.declared.Reading.{Reading}
-use Rattle.calculation.specs.declared.Reading.the-variants.{Invalid, Value}
-use Rattle.calculation.specs.Symbol.{numeral}
+use Rattle.spec_lists.specs.Text.{bytes, same, among, within}
+use Rattle.spec_calc.specs.declared.Reading.{Reading}
+use Rattle.spec_calc.specs.declared.Reading.the-variants.{Invalid, Value}
+use Rattle.spec_calc.specs.Symbol.{numeral}
 
 abbrev pub valued : Option Float → Option Reading
 valued none = none

@@ -1,10 +1,10 @@
 // The readings of the asker's input, as texts. 01, "Two programs".
 ghost use mathlib.Core.Path.{_≡_};
-ghost use Rattle.calculation.specs.Symbol.{numeral-byte};
+ghost use Rattle.spec_calc.specs.Symbol.{numeral-byte};
 ghost use Rattle.prog_reading.specs.Reading.{number, signed, reading};
 ghost use Rattle.prog_reading.specs.Meaning.{as-number, as-reading, Named-as};
-use calculation::Reading;
 use calc_numeral::Figure;
+use spec_calc::Reading;
 
 // The number that a text is.
 pub enum Numeral {
@@ -74,16 +74,16 @@ fn signed(s: &[u8]) -> Numeral
 fn reading(s: &[u8]) -> Spelled
     ensures { λ r. ⌜ as-reading r ≡ reading (now (s .entry)) ⌝ }
 {
-    if compare::equal(s, b"inv") {
+    if byte_compare::equal(s, b"inv") {
         return Spelled::Is(Reading::Invalid);
     }
-    if compare::equal(s, b"nan") {
+    if byte_compare::equal(s, b"nan") {
         return Spelled::Is(Reading::Value(0.0 / 0.0));
     }
-    if compare::equal(s, b"inf") {
+    if byte_compare::equal(s, b"inf") {
         return Spelled::Is(Reading::Value(1.0 / 0.0));
     }
-    if compare::equal(s, b"-inf") {
+    if byte_compare::equal(s, b"-inf") {
         return Spelled::Is(Reading::Value(-1.0 / 0.0));
     }
     match signed(s) {

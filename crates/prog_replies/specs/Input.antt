@@ -3,7 +3,7 @@ use mathlib.Core.Bool.{Bool, cond}
 use mathlib.Core.List.{List, [], _∷_, _++_}
 use Prim.Native.Nat.{ℕ}
 use lib.Dec.{eqb}
-use Rattle.decision.specs.Decision.{decide}
+use Rattle.spec_decision.specs.Decision.{decide}
 use Rattle.prog_line.specs.Line.{Line, refused, question, asks}
 use Rattle.prog_words.specs.Words.{answer-text, refused-line}
 

@@ -4,7 +4,7 @@ use mathlib.Core.Bool.{Bool, true, not}
 use mathlib.Core.List.{List, [], _∷_, _++_}
 use Prim.Native.Nat.{ℕ, _-_, _≤_, _<_}
 use lib.ListN.{length, take, drop, getD}
-use Rattle.lists.specs.Select.{all}
+use Rattle.spec_lists.specs.Select.{all}
 use Rattle.prog_words.specs.Put.{Put}
 use Rattle.prog_replies.specs.Input.{ends-line, parted, last-line, replies}
 

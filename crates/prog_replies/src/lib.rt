@@ -4,7 +4,7 @@ ghost use mathlib.Core.Path.{_≡_};
 ghost use mathlib.Core.Bool.{true};
 ghost use Prim.Native.Nat.{_+_, _≤_};
 ghost use lib.ListN.{length, take};
-ghost use Rattle.table.specs.Check.{is-table};
+ghost use Rattle.spec_table.specs.Check.{is-table};
 ghost use Rattle.prog_line.specs.Line.{asks};
 ghost use Rattle.prog_words.specs.Put.{Put};
 ghost use Rattle.prog_replies.specs.Input.{answered, reply};
@@ -34,7 +34,7 @@ fn answer_line(table: &[u8], line: &[u8], out: &mut [u8], at: usize) -> usize
             let host_name = prog_line::part(line, host, level_at);
             let mut allowed = false;
             let rs = prog_line::readings(line, level_at + 1, &mut allowed);
-            let answer = answer::decide_checked(table, group, user_name, host_name, level, rs);
+            let answer = ask::decide_checked(table, group, user_name, host_name, level, rs);
             prog_words::answer_text(answer, out, at)
         }
     }

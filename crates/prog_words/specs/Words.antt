@@ -3,11 +3,11 @@ use mathlib.Core.Bool.{Bool, true, false, cond}
 use mathlib.Core.List.{List, [], _∷_, _++_}
 use Prim.Native.Nat.{ℕ, zero, suc, _+_, _/_, _%_}
 use lib.Dec.{ltb}
-use Rattle.lists.specs.Text.{bytes}
-use Rattle.rule.specs.declared.Access.{Access}
-use Rattle.rule.specs.declared.Access.the-variants as access
-use Rattle.decision.specs.declared.Answer.{Answer}
-use Rattle.decision.specs.declared.Answer.the-variants.{Answered, NotTable, BadLevel}
+use Rattle.spec_lists.specs.Text.{bytes}
+use Rattle.spec_rule.specs.declared.Access.{Access}
+use Rattle.spec_rule.specs.declared.Access.the-variants as access
+use Rattle.spec_decision.specs.declared.Answer.{Answer}
+use Rattle.spec_decision.specs.declared.Answer.the-variants.{Answered, NotTable, BadLevel}
 
 abbrev pub access-word : Access → List ℕ
 access-word access.None = bytes "NONE"

@@ -4,11 +4,11 @@
 ghost use Prim.Native.Nat.{_≤_};
 ghost use lib.ListN.{length};
 ghost use mathlib.Core.List.{_++_};
-ghost use Rattle.lists.specs.Text.{bytes};
+ghost use Rattle.spec_lists.specs.Text.{bytes};
 ghost use Rattle.prog_words.specs.Put.{Put};
 ghost use Rattle.prog_words.specs.Words.{access-word, log-word, answer-text, refused-line, decimal-digits, placed, refusal-text, warning-text};
-use decision::Answer;
-use rule::Access;
+use spec_decision::Answer;
+use spec_rule::Access;
 
 // ---- bytes and numbers
 

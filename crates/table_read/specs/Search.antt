@@ -4,14 +4,14 @@ use mathlib.Core.Option.{Option, none, some}
 use Prim.Native.Nat.{ℕ, _<_}
 use lib.Dec.{eqb}
 use lib.ListN.{length, getD}
-use Rattle.lists.specs.Select.{first}
-use Rattle.lists.specs.Runs.{part}
-use Rattle.rule.specs.Answering.{named, answering}
-use Rattle.file.specs.Limit.{access-groups, inputs}
-use Rattle.table.specs.View.{view}
-use Rattle.table.specs.Check.{inputs-run, letter-field}
-use Rattle.table.specs.Policy.{name}
-use Rattle.table.specs.Standing.{row}
+use Rattle.spec_lists.specs.Select.{first}
+use Rattle.spec_lists.specs.Runs.{part}
+use Rattle.spec_rule.specs.Answering.{named, answering}
+use Rattle.spec_file.specs.Limit.{access-groups, inputs}
+use Rattle.spec_table.specs.View.{view}
+use Rattle.spec_table.specs.Check.{inputs-run, letter-field}
+use Rattle.spec_table.specs.Policy.{name}
+use Rattle.spec_table.specs.laws.Standing.{row}
 use Rattle.table_read.specs.declared.Index.{Index}
 use Rattle.table_read.specs.declared.Index.the-variants.{At, Missing}
 

@@ -4,10 +4,10 @@ use mathlib.Core.Bool.{true}
 use mathlib.Core.List.{List}
 use Prim.Native.Nat.{ℕ, _<_}
 use lib.ListN.{length, getD}
-use Rattle.file.specs.Limit.{Section, user-groups, host-groups, members, access-groups, inputs, rules, references, order}
-use Rattle.table.specs.View.{view}
-use Rattle.table.specs.Check.{is-table}
-use Rattle.table.specs.Standing.{row}
+use Rattle.spec_file.specs.Limit.{Section, user-groups, host-groups, members, access-groups, inputs, rules, references, order}
+use Rattle.spec_table.specs.View.{view}
+use Rattle.spec_table.specs.Check.{is-table}
+use Rattle.spec_table.specs.laws.Standing.{row}
 use Rattle.table_read.specs.declared.Section as coded
 use Rattle.table_read.specs.declared.Section.the-variants.{UserGroups, HostGroups, Members, AccessGroups, Inputs, Rules, References}
 

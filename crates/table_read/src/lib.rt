@@ -1,22 +1,22 @@
-use fields::ACCESS_GROUPS;
-use fields::HOST_GROUPS;
-use fields::INPUTS;
-use fields::MEMBERS;
-use fields::REFERENCES;
-use fields::RULES;
-use fields::STRINGS;
-use fields::USER_GROUPS;
+use table_fields::ACCESS_GROUPS;
+use table_fields::HOST_GROUPS;
+use table_fields::INPUTS;
+use table_fields::MEMBERS;
+use table_fields::REFERENCES;
+use table_fields::RULES;
+use table_fields::STRINGS;
+use table_fields::USER_GROUPS;
 ghost use mathlib.Core.Path.{_≡_};
 ghost use mathlib.Core.Bool.{true};
 ghost use Prim.Native.Nat.{_<_};
 ghost use lib.ListN.{length};
-ghost use Rattle.file.specs.Limit.{access-groups};
-ghost use Rattle.table.specs.Layout.{width};
-ghost use Rattle.table.specs.View.{view};
-ghost use Rattle.table.specs.Check.{is-table};
-ghost use Rattle.table.specs.Policy.{name};
-ghost use Rattle.table.specs.Standing.{row};
-ghost use Rattle.fields.specs.Field.{Word};
+ghost use Rattle.spec_file.specs.Limit.{access-groups};
+ghost use Rattle.spec_table.specs.Layout.{width};
+ghost use Rattle.spec_table.specs.View.{view};
+ghost use Rattle.spec_table.specs.Check.{is-table};
+ghost use Rattle.spec_table.specs.Policy.{name};
+ghost use Rattle.spec_table.specs.laws.Standing.{row};
+ghost use Rattle.table_fields.specs.Field.{Word};
 ghost use Rattle.table_read.specs.Stored.{section, Ordered, name-word, Stored, word-of};
 ghost use Rattle.table_read.specs.Search.{Finds-named, Finds-answering, Finds-input};
 
@@ -74,7 +74,7 @@ pub fn count(table: &[u8], s: Section) -> usize
     requires { ⌜ is-table (now table) ≡ true ⌝ }
     ensures { λ r. ⌜ r ≡ length (view (now (table .entry)) .records (section s)) ⌝ }
 {
-    fields::count(table, order_of(s))
+    table_fields::count(table, order_of(s))
 }
 
 // The j-th word of the i-th record of a section.
@@ -82,7 +82,7 @@ pub fn field(table: &[u8], s: Section, i: usize, j: usize) -> usize
     requires { ⌜ Stored (now table) (section s) i × (j < width (section s)) ⌝ }
     ensures { λ r. ⌜ Word (word-of (now (table .entry)) (section s) i j) r ⌝ }
 {
-    fields::field(table, order_of(s), i, j)
+    table_fields::field(table, order_of(s), i, j)
 }
 
 // The part of a table that a record's name is.
@@ -91,7 +91,7 @@ pub fn name_of(table: &[u8], s: Section, i: usize) -> &[u8]
     ensures { λ r. ⌜ now r ≡ name (view (now (table .entry))) (section s) (row (view (now (table .entry))) (section s) i) ⌝ }
 {
     let j = name_word(s);
-    let strings = fields::offset(table, STRINGS);
+    let strings = table_fields::offset(table, STRINGS);
     let a = strings + field(table, s, i, j);
     let e = a + field(table, s, i, j + 1);
     &table[a..e]
@@ -105,7 +105,7 @@ pub fn first_named(table: &[u8], group: &[u8]) -> Index
     let n = count(table, Section::AccessGroups);
     let mut i = 0;
     while i < n {
-        if compare::equal(name_of(table, Section::AccessGroups, i), group) {
+        if byte_compare::equal(name_of(table, Section::AccessGroups, i), group) {
             return Index::At(i);
         }
         i += 1;

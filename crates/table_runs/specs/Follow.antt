@@ -5,15 +5,15 @@ use mathlib.Core.List.{List, [], _∷_, _++_, map}
 use Prim.Native.Nat.{ℕ, _+_, _≤_, _<_}
 use lib.Dec.{eqb, leb}
 use lib.ListN.{length}
-use Rattle.lists.specs.Select.{joined}
-use Rattle.lists.specs.Runs.{Run}
-use Rattle.file.specs.Limit.{user-groups, host-groups, members}
-use Rattle.table.specs.Layout.{Content, width}
-use Rattle.table.specs.View.{total-of, count-of, offset-of, strings-order, view}
-use Rattle.table.specs.Check.{run-at, members-run, in-turn, sections-stand}
+use Rattle.spec_lists.specs.Select.{joined}
+use Rattle.spec_lists.specs.Runs.{Run}
+use Rattle.spec_file.specs.Limit.{user-groups, host-groups, members}
+use Rattle.spec_table.specs.Layout.{Content, width}
+use Rattle.spec_table.specs.View.{total-of, count-of, offset-of, strings-order, view}
+use Rattle.spec_table.specs.Check.{run-at, members-run, in-turn, sections-stand}
 use Rattle.table_runs.specs.declared.RunEnd.{RunEnd}
 use Rattle.table_runs.specs.declared.RunEnd.the-variants.{At, Gap}
-use Rattle.fields.specs.Field.{section-at}
+use Rattle.table_fields.specs.Field.{section-at}
 
 -- what is left to ask of the runs behind those that were taken
 abbrev pub rest-follows : RunEnd → List Run → ℕ → Bool

@@ -1,21 +1,21 @@
-use fields::ACCESS_GROUPS;
-use fields::HOST_GROUPS;
-use fields::INPUTS;
-use fields::MEMBERS;
-use fields::REFERENCES;
-use fields::RULES;
-use fields::STRINGS;
-use fields::USER_GROUPS;
+use table_fields::ACCESS_GROUPS;
+use table_fields::HOST_GROUPS;
+use table_fields::INPUTS;
+use table_fields::MEMBERS;
+use table_fields::REFERENCES;
+use table_fields::RULES;
+use table_fields::STRINGS;
+use table_fields::USER_GROUPS;
 ghost use mathlib.Core.Path.{_≡_};
 ghost use mathlib.Core.Bool.{true};
 ghost use mathlib.Core.List.{[], _∷_, map};
 ghost use Prim.Native.Nat.{_+_, _<_, _≤_};
 ghost use lib.ListN.{length};
-ghost use Rattle.file.specs.Limit.{most};
-ghost use Rattle.table.specs.Layout.{sections, header-bytes};
-ghost use Rattle.table.specs.View.{extent, view};
-ghost use Rattle.table.specs.Check.{run-at, in-turn, sections-stand, counts-fit, runs-stand};
-ghost use Rattle.fields.specs.Field.{section-at, record-at, Has-field};
+ghost use Rattle.spec_file.specs.Limit.{most};
+ghost use Rattle.spec_table.specs.Layout.{sections, header-bytes};
+ghost use Rattle.spec_table.specs.View.{extent, view};
+ghost use Rattle.spec_table.specs.Check.{run-at, in-turn, sections-stand, counts-fit, runs-stand};
+ghost use Rattle.table_fields.specs.Field.{section-at, record-at, Has-field};
 ghost use Rattle.table_runs.specs.Follow.{Follow, Has-runs, runs-in, all-runs, members-follow, sum-limit, most-added, ends-stand};
 
 const MOST: [usize; 7] = [64, 64, 1024, 64, 512, 256, 1024];
@@ -44,10 +44,10 @@ fn sections_end(b: &[u8]) -> RunEnd
     let mut at = 36;
     let mut n = 0;
     while n < 7 {
-        if fields::offset(b, n) != at {
+        if table_fields::offset(b, n) != at {
             return RunEnd::Gap;
         }
-        at += fields::count(b, n) * (fields::width(n) * 2);
+        at += table_fields::count(b, n) * (table_fields::width(n) * 2);
         n += 1;
     }
     RunEnd::At(at)
@@ -58,11 +58,11 @@ fn strings_end(b: &[u8], at: usize) -> bool
     requires { ⌜ (header-bytes ≤ length (now b)) × (at ≤ sum-limit) ⌝ }
     ensures { λ r. ⌜ r ≡ ends-stand (now (b .entry)) at ⌝ }
 {
-    if fields::offset(b, STRINGS) != at {
+    if table_fields::offset(b, STRINGS) != at {
         return false;
     }
-    let total = fields::header_word(b, 1);
-    if at + fields::count(b, STRINGS) != total {
+    let total = table_fields::header_word(b, 1);
+    if at + table_fields::count(b, STRINGS) != total {
         return false;
     }
     total <= b.len()
@@ -75,7 +75,7 @@ pub fn sections_stand(b: &[u8]) -> bool
     if b.len() < 36 {
         return false;
     }
-    if fields::header_word(b, 0) != 1 {
+    if table_fields::header_word(b, 0) != 1 {
         return false;
     }
     match sections_end(b) {
@@ -93,12 +93,12 @@ pub fn counts_fit(b: &[u8]) -> bool
 {
     let mut n = 0;
     while n < 7 {
-        if most(n) < fields::count(b, n) {
+        if most(n) < table_fields::count(b, n) {
             return false;
         }
         n += 1;
     }
-    fields::count(b, STRINGS) <= 16384
+    table_fields::count(b, STRINGS) <= 16384
 }
 
 // ---- runs
@@ -108,10 +108,10 @@ fn run_follows(b: &[u8], n: usize, i: usize, j: usize, at: usize) -> RunEnd
     requires { ⌜ Has-field (now b) n i (j + 1) × (at < sum-limit) ⌝ }
     ensures { λ r. ⌜ Follow (run-at j (record-at (now (b .entry)) n i) ∷ []) at (at + 65535) r ⌝ }
 {
-    if fields::field(b, n, i, j) != at {
+    if table_fields::field(b, n, i, j) != at {
         return RunEnd::Gap;
     }
-    RunEnd::At(at + fields::field(b, n, i, j + 1))
+    RunEnd::At(at + table_fields::field(b, n, i, j + 1))
 }
 
 // The runs of a record: one, or two side by side.
@@ -136,7 +136,7 @@ fn runs_follow(b: &[u8], n: usize, j: usize, two: bool, from: usize) -> RunEnd
     requires { ⌜ Has-runs (now b) n two j × (from + most-added < sum-limit) ⌝ }
     ensures { λ r. ⌜ Follow (all-runs (now (b .entry)) n two j) from (from + most-added) r ⌝ }
 {
-    let records = fields::count(b, n);
+    let records = table_fields::count(b, n);
     let mut at = from;
     let mut i = 0;
     while i < records {
@@ -160,7 +160,7 @@ fn used_up(b: &[u8], n: usize, j: usize, two: bool, of: usize) -> bool
 {
     match runs_follow(b, n, j, two, 0) {
         RunEnd::Gap => false,
-        RunEnd::At(end) => end == fields::count(b, of),
+        RunEnd::At(end) => end == table_fields::count(b, of),
     }
 }
 
@@ -173,7 +173,7 @@ fn members_used_up(b: &[u8]) -> bool
         RunEnd::Gap => false,
         RunEnd::At(users) => match runs_follow(b, HOST_GROUPS, 2, false, users) {
             RunEnd::Gap => false,
-            RunEnd::At(end) => end == fields::count(b, MEMBERS),
+            RunEnd::At(end) => end == table_fields::count(b, MEMBERS),
         },
     }
 }

@@ -1,11 +1,11 @@
 // Answers for each name in the file index the lines of NAME.ask by the rules in NAME.acf, as the asker does, in short pieces.
-use load::Loaded;
 use prog_output::put;
+use spec_load::Loaded;
 ghost use mathlib.Core.Path.{_≡_};
 ghost use mathlib.Core.Bool.{true};
 ghost use lib.ListN.{length};
 ghost use Prim.Native.Nat.{_≤_, _<_};
-ghost use Rattle.table.specs.Check.{is-table};
+ghost use Rattle.spec_table.specs.Check.{is-table};
 ghost use Rattle.prog_replies.specs.Pieces.{room};
 
 // Short and odd, so that lines are cut at many places.
@@ -48,7 +48,7 @@ fn serve(table: &[u8], text: &[u8])
 
 fn answer(rules: &[u8], text: &[u8]) {
     let mut table = [0u8; 35108];
-    match loader::load(rules, &mut table) {
+    match load::load(rules, &mut table) {
         Loaded::Refused { refusal, place } => prog_output::put_refusal(refusal, place),
         Loaded::Accepted { length, warnings } => serve(&table, text),
     }

@@ -1,6 +1,6 @@
 // Works out each calculation of the file calc, and says of it what that file should say: allowed or refused, the value, and whether it is true.
-use calculation::Reading;
 use libc::STDOUT_FILENO;
+use spec_calc::Reading;
 ghost use Prim.Native.Nat.{_≤_, _<_};
 ghost use lib.ListN.{length};
 
@@ -158,12 +158,12 @@ fn say(text: &[u8], line: &[u8], at: usize)
     let third = behind(line, at, b'\t');
     let fourth = behind(line, third, b'\t');
     let rs = readings(line, fourth);
-    let calc_value::Worth::Is(x) = evaluate::value(text, rs) else {
+    let calc_value::Worth::Is(x) = calc::value(text, rs) else {
         put(b"none\n");
         return;
     };
     value_as(as_written(x, line, at), line, at, third);
-    if evaluate::holds(text, rs) {
+    if calc::holds(text, rs) {
         put(b"true\n");
     } else {
         put(b"false\n");
@@ -173,7 +173,7 @@ fn say(text: &[u8], line: &[u8], at: usize)
 fn judge(text: [u8; 128], n: usize, line: &[u8])
     requires { ⌜ n ≤ 128 ⌝ }
 {
-    if evaluate::allowed(&text[..n]) {
+    if calc::allowed(&text[..n]) {
         let second = behind(line, 0, b'\t');
         let third = behind(line, second, b'\t');
         say(&text[..n], line, third);

@@ -37,7 +37,7 @@ fn number(s: &[u8]) -> usize
 fn load(text: &[u8], lent: &mut [u8], room: usize)
     requires { ⌜ room ≤ length (now lent) ⌝ }
 {
-    let answer = loader::load(text, &mut lent[..room]);
+    let answer = load::load(text, &mut lent[..room]);
     prog_output::put_answer(answer);
     prog_output::put_rest(answer, lent);
 }

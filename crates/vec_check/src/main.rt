@@ -1,13 +1,13 @@
 // Checks and loads each file that a line of the file index names: what the checker prints, what the load answers, and what it leaves in the lent bytes.
-use load::Loaded;
 use prog_output::BEFORE;
 use prog_output::put;
+use spec_load::Loaded;
 
 // Whether the table is the one in a file.
 fn put_table(table: &[u8], path: &[u8]) {
     let mut buf = io::large_buffer();
     let n = prog_output::read(path, &mut buf);
-    if compare::equal(table, &buf[..n]) {
+    if byte_compare::equal(table, &buf[..n]) {
         put(b"table same\n");
     } else {
         put(b"table differs\n");
@@ -16,7 +16,7 @@ fn put_table(table: &[u8], path: &[u8]) {
 
 // Loads a text. The table of an accepted one is held to that of a file.
 fn load(text: &[u8], lent: &mut [u8], path: &[u8]) {
-    let answer = loader::load(text, lent);
+    let answer = load::load(text, lent);
     prog_output::put_answer(answer);
     if let Loaded::Accepted { length, warnings } = answer {
         if length <= lent.len() {

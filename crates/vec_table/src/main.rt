@@ -34,7 +34,7 @@ fn judge(line: &[u8]) {
     let n = io::read_full(fd, &mut buf);
     libc::close(fd);
     io::write_all(STDOUT_FILENO, &name);
-    if inspect::is_table(&buf[..n]) {
+    if table_check::is_table(&buf[..n]) {
         io::write_all(STDOUT_FILENO, b" table\n");
     } else {
         io::write_all(STDOUT_FILENO, b" no\n");

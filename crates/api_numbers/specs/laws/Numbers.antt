@@ -3,20 +3,20 @@ use mathlib.Core.Path.{_≡_, sym, ap}
 use mathlib.Core.Bool.{Bool, true, false}
 use Prim.Native.Nat.{ℕ, _+_, _≤_, _<_}
 use native.Mathlib.Omega.{arith}
-use Rattle.rule.specs.declared.Access.{Access}
-use Rattle.rule.specs.declared.Access.the-variants as access
-use Rattle.rule.specs.Rule.{rank}
-use Rattle.file.specs.declared.Refusal.{Refusal}
-use Rattle.file.specs.declared.Refusal.the-variants as cause
-use Rattle.file.specs.Refusal as refusal
-use Rattle.load.specs.declared.Loaded.{Loaded}
-use Rattle.load.specs.declared.Loaded.the-variants as loaded
-use Rattle.load.specs.declared.Listed.{Listed}
-use Rattle.load.specs.declared.Listed.the-variants as listed
-use Rattle.decision.specs.declared.Answer.{Answer}
-use Rattle.decision.specs.declared.Answer.the-variants as answer
-use Rattle.decision.specs.declared.Found.{Found}
-use Rattle.decision.specs.declared.Found.the-variants as found
+use Rattle.spec_rule.specs.declared.Access.{Access}
+use Rattle.spec_rule.specs.declared.Access.the-variants as access
+use Rattle.spec_rule.specs.Rule.{rank}
+use Rattle.spec_file.specs.declared.Refusal.{Refusal}
+use Rattle.spec_file.specs.declared.Refusal.the-variants as cause
+use Rattle.spec_file.specs.Refusal as refusal
+use Rattle.spec_load.specs.declared.Loaded.{Loaded}
+use Rattle.spec_load.specs.declared.Loaded.the-variants as loaded
+use Rattle.spec_load.specs.declared.Listed.{Listed}
+use Rattle.spec_load.specs.declared.Listed.the-variants as listed
+use Rattle.spec_decision.specs.declared.Answer.{Answer}
+use Rattle.spec_decision.specs.declared.Answer.the-variants as answer
+use Rattle.spec_decision.specs.declared.Found.{Found}
+use Rattle.spec_decision.specs.declared.Found.the-variants as found
 use Rattle.api_numbers.specs.Numbers.{packed, load-number, listed-number, answer-number, found-number}
 
 pub refusal-small : (k : Refusal) → refusal.number k < 256

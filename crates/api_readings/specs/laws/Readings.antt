@@ -8,8 +8,8 @@ use lib.ListN.{length, take, getD, set, length-set}
 use lib.Seq.{take-all, take-suc-set}
 use lib.Ieee.{Float}
 use borrow.Author.Tests.{eq-eqb, ne-eqb}
-use Rattle.calculation.specs.declared.Reading.{Reading}
-use Rattle.calculation.specs.declared.Reading.the-variants.{NeverHeard, Invalid, Value}
+use Rattle.spec_calc.specs.declared.Reading.{Reading}
+use Rattle.spec_calc.specs.declared.Reading.the-variants.{NeverHeard, Invalid, Value}
 use Rattle.api_readings.specs.Readings.{reading, reading-at, readings-from, readings}
 
 -- what stands in a list does not depend on what would stand beyond it

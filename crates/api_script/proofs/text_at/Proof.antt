@@ -1,4 +1,4 @@
-use Rattle.kept.specs.Kept.{between}
+use Rattle.load_tokens.specs.Arrays.{between}
 use mathlib.Core.Path.{ap₂, _∙_}
 use borrow.Author.Needs.{needs}
 use Rattle.api_script.proofs.text_at.Statement.{statement}

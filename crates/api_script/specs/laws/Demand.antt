@@ -2,13 +2,13 @@
 use mathlib.Core.Path.{_≡_, sym, ap, _∙_}
 use mathlib.Core.List.{List}
 use Prim.Native.Nat.{ℕ}
-use Rattle.rule.specs.Question.{Question, reading-instead}
-use Rattle.load.specs.declared.Loaded.{Loaded}
-use Rattle.load.specs.Load.{Outcome, load}
-use Rattle.decision.specs.declared.Answer.{Answer}
-use Rattle.decision.specs.Decision.{access-in, decide}
-use Rattle.demand.specs.Calls.{Call, after-calls, is-accepted}
-use Rattle.demand.specs.Front.{demand-3}
+use Rattle.spec_rule.specs.Question.{Question, reading-instead}
+use Rattle.spec_load.specs.declared.Loaded.{Loaded}
+use Rattle.spec_load.specs.Load.{Result, load}
+use Rattle.spec_decision.specs.declared.Answer.{Answer}
+use Rattle.spec_decision.specs.Decision.{access-in, decide}
+use Rattle.spec_demand.specs.Calls.{Call, after-calls, is-accepted}
+use Rattle.spec_demand.specs.Front.{demand-3}
 use Rattle.api_script.specs.Demand.{Never-more}
 
 pub asked-is :
@@ -16,8 +16,8 @@ pub asked-is :
     → record { answer = r; bytes = left } ≡ load lent s → after ≡ after-calls left cs → a ≡ decide after q
     → Never-more lent s cs q after (record { loaded = r; answer = a })
 asked-is {lent} {s} {left} {after} {cs} {q} {r} {a} l f d =
-    let answered = ap (λ (o : Outcome). o .answer) l in
-    let bytes : after ≡ after-calls (load lent s .bytes) cs = f ∙ ap (λ (o : Outcome). after-calls (o .bytes) cs) l in
+    let answered = ap (λ (o : Result). o .answer) l in
+    let bytes : after ≡ after-calls (load lent s .bytes) cs = f ∙ ap (λ (o : Result). after-calls (o .bytes) cs) l in
     let asked : a ≡ decide (after-calls (load lent s .bytes) cs) q = d ∙ ap (λ (b : List ℕ). decide b q) bytes in
     record {
       loaded = answered;

@@ -6,14 +6,14 @@ use native.Mathlib.Nat.{div-add-mod'}
 use native.Mathlib.Omega.{arith}
 use lib.ListN.{length, drop, drop-of-length-le, length-drop}
 use lib.Seq.{take-all, take-nil}
-use Rattle.calculation.specs.declared.Reading.{Reading}
-use Rattle.file.specs.Load.{Verdict, refuse, accept, verdict}
-use Rattle.kept.specs.Kept.{between}
-use Rattle.load.specs.declared.Loaded.{Loaded}
-use Rattle.load.specs.Load.{Outcome, load}
-use Rattle.load.specs.Listing.{listed-by, listing}
-use Rattle.decision.specs.LookUp.{look-up}
-use Rattle.demand.specs.Calls.{after-call, after-calls}
+use Rattle.spec_calc.specs.declared.Reading.{Reading}
+use Rattle.spec_file.specs.Load.{Verdict, refuse, accept, verdict}
+use Rattle.load_tokens.specs.Arrays.{between}
+use Rattle.spec_load.specs.declared.Loaded.{Loaded}
+use Rattle.spec_load.specs.Load.{Result, load}
+use Rattle.spec_load.specs.Listing.{listed-by, listing}
+use Rattle.spec_decision.specs.LookUp.{look-up}
+use Rattle.spec_demand.specs.Calls.{after-call, after-calls}
 use Rattle.api_readings.specs.Readings.{readings}
 use Rattle.api_script.specs.declared.Reply.{Reply}
 use Rattle.api_script.specs.declared.Reply.the-variants as reply
@@ -73,8 +73,8 @@ module _ (s : Script) (i : ℕ) (lent : List ℕ) {w : ℕ} (what : w ≡ word (
   load-made {t = t} z e l =
       let first = sym what ∙ z in
       record {
-        answer = ap (λ (o : Outcome). reply.Loaded (o .answer)) l ∙ rw (e, first);
-        bytes = ap (λ (o : Outcome). o .bytes) l ∙ rw (e, first);
+        answer = ap (λ (o : Result). reply.Loaded (o .answer)) l ∙ rw (e, first);
+        bytes = ap (λ (o : Result). o .bytes) l ∙ rw (e, first);
       }
 
   pub other-made :

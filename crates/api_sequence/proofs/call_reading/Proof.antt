@@ -1,5 +1,5 @@
 use Rattle.api_script.specs.laws.Script.{look-up-reply, listed-alike}
-use Rattle.load.specs.Listing.{Listing}
+use Rattle.spec_load.specs.Listing.{Listing}
 use Rattle.api_script.specs.declared.Reply.the-variants as reply
 use mathlib.Core.Path.{_∙_, ap}
 use borrow.Author.Needs.{needs}

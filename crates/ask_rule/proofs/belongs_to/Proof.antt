@@ -1,12 +1,12 @@
 use Rattle.ask_rule.specs.Members.{groups, matches, references-run}
 use Rattle.ask_rule.specs.laws.Members.{references-low, references-first, references-count, refers, kind-references, belongs-none, belongs-some}
-use Rattle.table.specs.Standing.{row, stands}
-use Rattle.table.specs.Policy.{referred}
-use Rattle.table.specs.View.{view}
-use Rattle.file.specs.Limit.{rules, references}
-use Rattle.rule.specs.laws.Walk.{read-end, any-turn, any-hit, any-done}
-use Rattle.lists.specs.Runs.{part}
-use Rattle.lists.specs.Select.{any}
+use Rattle.spec_table.specs.laws.Standing.{row, stands}
+use Rattle.spec_table.specs.Policy.{referred}
+use Rattle.spec_table.specs.View.{view}
+use Rattle.spec_file.specs.Limit.{rules, references}
+use Rattle.spec_rule.specs.laws.Walk.{read-end, any-turn, any-hit, any-done}
+use Rattle.spec_lists.specs.Runs.{part}
+use Rattle.spec_lists.specs.Select.{any}
 use lib.ListN.{drop}
 use native.Mathlib.Omega.{arith}
 use mathlib.Core.List.{[], map}

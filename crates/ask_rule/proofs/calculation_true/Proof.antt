@@ -1,12 +1,12 @@
 use Rattle.ask_rule.specs.laws.Calculation.{no-calculation-holds, calculation-decides}
-use Rattle.table.specs.Standing.{row}
-use Rattle.table.specs.View.{view}
-use Rattle.file.specs.Limit.{rules}
-use Rattle.rule.specs.Rule.{true-tree}
-use Rattle.calculation.specs.Reader.{tree-of}
+use Rattle.spec_table.specs.laws.Standing.{row}
+use Rattle.spec_table.specs.View.{view}
+use Rattle.spec_file.specs.Limit.{rules}
+use Rattle.spec_rule.specs.Rule.{true-tree}
+use Rattle.spec_calc.specs.Reader.{tree-of}
 use native.Mathlib.Omega.{arith}
 use mathlib.Core.Path.{sym, ap, _∙_}
-use Rattle.evaluate.specs.laws.Answers.{holds-is}
+use Rattle.calc.specs.laws.Answers.{holds-is}
 use borrow.Author.Needs.{needs}
 use Rattle.ask_rule.proofs.calculation_true.Statement.{statement}
 use Rattle.ask_rule.proofs.calculation_true.Tie as tie

@@ -1,6 +1,6 @@
-use Rattle.rule.specs.Decision.{grant}
+use Rattle.spec_rule.specs.Decision.{grant}
 use Rattle.ask_rule.specs.laws.Flags.{flagged-as}
-use Rattle.rule.specs.declared.Access.the-variants as access
+use Rattle.spec_rule.specs.declared.Access.the-variants as access
 use mathlib.Core.Path.{ap, _∙_}
 use borrow.Author.Needs.{needs}
 use Rattle.ask_rule.proofs.granted_by.Statement.{statement}

@@ -1,13 +1,13 @@
 use Rattle.ask_rule.specs.Members.{groups, matches}
 use Rattle.ask_rule.specs.laws.Members.{members-within}
-use Rattle.table.specs.Standing.{row, stands}
-use Rattle.table.specs.Policy as policy
-use Rattle.table.specs.Policy.{members-of}
-use Rattle.table.specs.Check.{members-run}
-use Rattle.table.specs.View.{view}
-use Rattle.file.specs.Limit.{members}
-use Rattle.rule.specs.laws.Walk.{any-turn, any-hit, any-done}
-use Rattle.lists.specs.Select.{any}
+use Rattle.spec_table.specs.laws.Standing.{row, stands}
+use Rattle.spec_table.specs.Policy as policy
+use Rattle.spec_table.specs.Policy.{members-of}
+use Rattle.spec_table.specs.Check.{members-run}
+use Rattle.spec_table.specs.View.{view}
+use Rattle.spec_file.specs.Limit.{members}
+use Rattle.spec_rule.specs.laws.Walk.{any-turn, any-hit, any-done}
+use Rattle.spec_lists.specs.Select.{any}
 use lib.ListN.{drop}
 use native.Mathlib.Omega.{arith}
 use mathlib.Core.List.{[]}

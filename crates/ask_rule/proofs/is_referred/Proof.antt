@@ -1,8 +1,8 @@
 use Rattle.ask_rule.specs.Members.{groups, matches}
 use Rattle.ask_rule.specs.laws.Members.{referred-none, referred-some}
-use Rattle.table.specs.Standing.{row}
-use Rattle.table.specs.View.{view}
-use Rattle.file.specs.Limit.{references}
+use Rattle.spec_table.specs.laws.Standing.{row}
+use Rattle.spec_table.specs.View.{view}
+use Rattle.spec_file.specs.Limit.{references}
 use native.Mathlib.Omega.{arith}
 use mathlib.Core.Path.{sym, _∙_}
 use Rattle.ask_rule.proofs.is_referred.Statement.{statement}

@@ -1,9 +1,9 @@
 use Rattle.ask_rule.specs.Rules.{question}
-use Rattle.table.specs.Standing.{row}
-use Rattle.table.specs.Policy.{set-bit, rule-of}
-use Rattle.table.specs.View.{view}
-use Rattle.file.specs.Limit.{rules}
-use Rattle.rule.specs.laws.Passing.{fails-off, fails-level, fails-user, fails-host, passes-by}
+use Rattle.spec_table.specs.laws.Standing.{row}
+use Rattle.spec_table.specs.Policy.{set-bit, rule-of}
+use Rattle.spec_table.specs.View.{view}
+use Rattle.spec_file.specs.Limit.{rules}
+use Rattle.spec_rule.specs.laws.Passing.{fails-off, fails-level, fails-user, fails-host, passes-by}
 use borrow.Author.Tests.{not-true, not-false}
 use native.Mathlib.Omega.{arith}
 use mathlib.Core.Path.{sym, ap, _∙_}

@@ -1,8 +1,8 @@
 use mathlib.Core.Path.{sym, ap, _∙_}
 use native.Mathlib.Omega.{arith}
 use lib.Dec.{leb}
-use Rattle.rule.specs.Rule.{rank}
-use Rattle.rule.specs.laws.Decision.{gives-no-more, gives-more, gives-nothing}
+use Rattle.spec_rule.specs.Rule.{rank}
+use Rattle.spec_rule.specs.laws.Decision.{gives-no-more, gives-more, gives-nothing}
 use Rattle.ask_rule.specs.Rules.{rule-at, question, flagged}
 use borrow.Author.Needs.{needs}
 use Rattle.ask_rule.proofs.with_rule.Statement.{statement}

@@ -6,12 +6,12 @@ use Prim.Native.Nat.{ℕ, _+_}
 use native.Mathlib.Omega.{arith}
 use lib.Dec.{eqb}
 use borrow.Author.Tests.{eq-eqb, eqb-true}
-use Rattle.calculation.specs.declared.Reading.{Reading}
-use Rattle.calculation.specs.Reader.{tree-of}
-use Rattle.rule.specs.Rule.{true-tree, calculation-holds}
-use Rattle.table.specs.Layout.{Content}
-use Rattle.table.specs.Check.{calculation-run}
-use Rattle.table.specs.Policy.{string, rule-of}
+use Rattle.spec_calc.specs.declared.Reading.{Reading}
+use Rattle.spec_calc.specs.Reader.{tree-of}
+use Rattle.spec_rule.specs.Rule.{true-tree, calculation-holds}
+use Rattle.spec_table.specs.Layout.{Content}
+use Rattle.spec_table.specs.Check.{calculation-run}
+use Rattle.spec_table.specs.Policy.{string, rule-of}
 
 not-both : (a b : Bool) → (a ≡ true → b ≡ true → ⊥) → a && b ≡ false
 not-both true true n = absurd (n refl refl)

@@ -2,11 +2,11 @@
 use mathlib.Core.Path.{_≡_, refl, sym, ap, _∙_}
 use mathlib.Core.Bool.{true}
 use Prim.Native.Nat.{ℕ, zero, suc}
-use Rattle.rule.specs.declared.Access.{Access}
-use Rattle.rule.specs.declared.Access.the-variants as access
-use Rattle.rule.specs.Decision.{grant}
-use Rattle.table.specs.Check.{permission-bits, trap-bit}
-use Rattle.table.specs.Policy.{permission, set-bit}
+use Rattle.spec_rule.specs.declared.Access.{Access}
+use Rattle.spec_rule.specs.declared.Access.the-variants as access
+use Rattle.spec_rule.specs.Decision.{grant}
+use Rattle.spec_table.specs.Check.{permission-bits, trap-bit}
+use Rattle.spec_table.specs.Policy.{permission, set-bit}
 use Rattle.ask_rule.specs.Rules.{flagged}
 
 pub flagged-as : (f : ℕ) (a : Access) {p : Access} → p ≡ permission (permission-bits f) → p ≡ a → grant a (set-bit (trap-bit f)) ≡ flagged f

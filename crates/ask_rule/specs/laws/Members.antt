@@ -6,18 +6,18 @@ use Prim.Native.Nat.{ℕ, _+_, _≤_, _<_}
 use native.Mathlib.Omega.{arith}
 use lib.ListN.{length, length-map}
 use borrow.Author.Tests.{eq-eqb, ne-eqb}
-use Rattle.lists.specs.Select.{any}
-use Rattle.lists.specs.Runs.{Run, part}
-use Rattle.lists.specs.RunLaws.{Within}
-use Rattle.rule.specs.Rule.{belongs}
-use Rattle.rule.specs.laws.Walk.{part-count}
-use Rattle.file.specs.Limit.{Section, members, rules, references}
-use Rattle.table.specs.Layout.{Content}
-use Rattle.table.specs.View.{view}
-use Rattle.table.specs.Check.{well-formed, members-run, number-field, undefined-number}
-use Rattle.table.specs.Policy.{members-of, referred}
-use Rattle.table.specs.Standing.{row, stands, users-members, hosts-members, references-within, user-number, host-number}
-use Rattle.fields.specs.Field.{Word}
+use Rattle.spec_lists.specs.Select.{any}
+use Rattle.spec_lists.specs.Runs.{Run, part}
+use Rattle.spec_lists.specs.laws.Runs.{Within}
+use Rattle.spec_rule.specs.Rule.{belongs}
+use Rattle.spec_rule.specs.laws.Walk.{part-count}
+use Rattle.spec_file.specs.Limit.{Section, members, rules, references}
+use Rattle.spec_table.specs.Layout.{Content}
+use Rattle.spec_table.specs.View.{view}
+use Rattle.spec_table.specs.Check.{well-formed, members-run, number-field, undefined-number}
+use Rattle.spec_table.specs.Policy.{members-of, referred}
+use Rattle.spec_table.specs.laws.Standing.{row, stands, users-members, hosts-members, references-within, user-number, host-number}
+use Rattle.table_fields.specs.Field.{Word}
 use Rattle.table_read.specs.Stored.{Stored, word-of}
 use Rattle.ask_rule.specs.declared.GroupKind.{GroupKind}
 use Rattle.ask_rule.specs.declared.GroupKind.the-variants.{Users, Hosts}

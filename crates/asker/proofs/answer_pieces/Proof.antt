@@ -1,6 +1,5 @@
 use lib.Seq.{length-take-le}
-use mathlib.Core.Path.{sym}
-use mathlib.Core.Path.{_≡_}
+use mathlib.Core.Path.{sym, _≡_}
 use lib.ListN.{length}
 use Prim.Native.Nat.{_-_, _≤_}
 use Rattle.prog_replies.specs.Pieces.{room}

@@ -7,7 +7,7 @@ use native.Mathlib.Numerals.{add-one}
 use native.Mathlib.Omega.{arith}
 use lib.ListN.{length, set, take, getD, length-append}
 use lib.Seq.{sets, length-sets, set-out, take-suc}
-use Rattle.lists.specs.Laws.{map-append}
+use Rattle.spec_lists.specs.laws.Joined.{map-append}
 use Rattle.byte_write.specs.Put.{Put}
 
 module _ {A : Type 0} where

@@ -2,7 +2,7 @@
 use mathlib.Core.Path.{_≡_, refl}
 use mathlib.Core.Bool.{true, false, _&&_}
 use lib.Ieee.{Float, nan, inf, fin, binary64, ofBits, div, neg, lt}
-use Rattle.calculation.specs.Value.{finite}
+use Rattle.spec_calc.specs.Value.{finite}
 
 -- 1 / 0
 abbrev pub infinity : Float

@@ -8,9 +8,9 @@ use native.Mathlib.Nat.{pow-suc, pow-le-pow-right}
 use borrow.Author.Tests.{leb-true}
 use lib.Dec.{leb}
 use lib.ListN.{length, getD, drop}
-use Rattle.lists.specs.Text.{digit, whole}
-use Rattle.lists.specs.Select.{run}
-use Rattle.lists.specs.Both.{both}
+use Rattle.spec_lists.specs.Text.{digit, whole}
+use Rattle.spec_lists.specs.Select.{run}
+use Rattle.spec_lists.specs.laws.Both.{both}
 use Rattle.calc_numeral.specs.declared.Digits.{Digits}
 use Rattle.calc_numeral.specs.declared.Digits.the-variants.{Are, TooMany}
 use Rattle.calc_numeral.specs.Numeral.{Counted, Counts}

@@ -8,9 +8,9 @@ use native.Mathlib.Omega.{arith}
 use borrow.Author.Tests.{le-leb, lt-leb, ne-eqb}
 use lib.ListN.{length, getD, drop, length-append}
 use lib.Ieee.{Float}
-use Rattle.lists.specs.Text.{among, digit, whole}
-use Rattle.lists.specs.Select.{all, run, after, keep-if, skip-if}
-use Rattle.calculation.specs.Symbol.{decimal, numeral-byte, pointed, within-digits, numeral}
+use Rattle.spec_lists.specs.Text.{among, digit, whole}
+use Rattle.spec_lists.specs.Select.{all, run, after, keep-if, skip-if}
+use Rattle.spec_calc.specs.Symbol.{decimal, numeral-byte, pointed, within-digits, numeral}
 use Rattle.calc_numeral.specs.declared.Figure.{Figure}
 use Rattle.calc_numeral.specs.declared.Figure.the-variants.{Is, Wrong}
 use Rattle.calc_numeral.specs.Numeral.{Counted, Fraction, Numbered}

@@ -3,7 +3,7 @@ use mathlib.Core.Path.{_≡_}
 use mathlib.Core.Bool.{true, false}
 use Prim.Native.Nat.{ℕ, _≤_, _<_}
 use borrow.Author.Tests.{le-leb, lt-leb}
-use Rattle.lists.specs.Text.{within}
+use Rattle.spec_lists.specs.Text.{within}
 
 pub below : (lo hi b : ℕ) → b < lo → within lo hi b ≡ false
 below lo hi b h = rw (lt-leb lo b h)

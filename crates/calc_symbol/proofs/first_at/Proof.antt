@@ -1,7 +1,7 @@
 use Rattle.calc_symbol.specs.laws.Lookaheads.{wanted-end, from-none, begins-from}
 use Rattle.calc_symbol.specs.laws.Scans.{at-end, not-blank, next-figure, next-number, next-no-number, next-letter, next-other}
 use Rattle.calc_symbol.specs.declared.First.the-variants.{Number, Letter, Nothing}
-use Rattle.calculation.specs.Reader.{wanted}
+use Rattle.spec_calc.specs.Reader.{wanted}
 use native.Mathlib.Omega.{arith}
 use borrow.Author.Needs.{needs}
 use Rattle.calc_symbol.proofs.first_at.Statement.{statement}

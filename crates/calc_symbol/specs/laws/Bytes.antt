@@ -8,13 +8,13 @@ use native.Mathlib.Omega.{arith}
 use borrow.Author.Tests.{ne-eqb, eqb-true, ltb-true}
 use lib.Dec.{eqb, ltb}
 use lib.ListN.{length, getD, take}
-use Rattle.lists.specs.Text.{same, within, among, digit}
-use Rattle.lists.specs.Select.{all, first, first-if}
-use Rattle.lists.specs.Both.{both}
-use Rattle.calculation.specs.declared.Operator.{Operator}
-use Rattle.calculation.specs.declared.Operator.the-variants as op
-use Rattle.calculation.specs.Symbol.{Symbol, number, letter, operator, not-sign, question, colon, open-paren, close-paren, Spelling, spellings, Start, blank}
-use Rattle.calculation.specs.Symbol.{figure, sign, sign-of, wrong, start, numeral-byte}
+use Rattle.spec_lists.specs.Text.{same, within, among, digit}
+use Rattle.spec_lists.specs.Select.{all, first, first-if}
+use Rattle.spec_lists.specs.laws.Both.{both}
+use Rattle.spec_calc.specs.declared.Operator.{Operator}
+use Rattle.spec_calc.specs.declared.Operator.the-variants as op
+use Rattle.spec_calc.specs.Symbol.{Symbol, number, letter, operator, not-sign, question, colon, open-paren, close-paren, Spelling, spellings, Start, blank}
+use Rattle.spec_calc.specs.Symbol.{figure, sign, sign-of, wrong, start, numeral-byte}
 use Rattle.calc_symbol.specs.declared.Spelled.{Spelled}
 use Rattle.calc_symbol.specs.declared.Spelled.the-variants.{As, Nothing}
 use Rattle.calc_symbol.specs.Scan.{spelling, single, Pair-ok}

@@ -9,11 +9,11 @@ use native.Mathlib.Omega.{arith}
 use borrow.Author.Tests.{eqb-true}
 use lib.ListN.{length, getD, drop}
 use lib.Ieee.{Float}
-use Rattle.calculation.specs.declared.Operator.{Operator}
-use Rattle.calculation.specs.declared.Operator.the-variants as op
-use Rattle.calculation.specs.Symbol.{Symbol, number, letter, operator, not-sign, question, colon, open-paren, close-paren, wrong, then}
-use Rattle.calculation.specs.Expression.{Tree}
-use Rattle.calculation.specs.Reader.{begun, paren, if-of, Stack, State, wanted, have, stuck, ends, reduce, step, prefix, first-of, run}
+use Rattle.spec_calc.specs.declared.Operator.{Operator}
+use Rattle.spec_calc.specs.declared.Operator.the-variants as op
+use Rattle.spec_calc.specs.Symbol.{Symbol, number, letter, operator, not-sign, question, colon, open-paren, close-paren, wrong, then}
+use Rattle.spec_calc.specs.Expression.{Tree}
+use Rattle.spec_calc.specs.Reader.{begun, paren, if-of, Stack, State, wanted, have, stuck, ends, reduce, step, prefix, first-of, run}
 use Rattle.calc_symbol.specs.declared.Sign.{Sign}
 use Rattle.calc_symbol.specs.declared.Next.{Next}
 use Rattle.calc_symbol.specs.declared.Next.the-variants.{Is, Wrong}

@@ -11,12 +11,12 @@ use lib.Dec.{ltb, leb}
 use lib.ListN.{length, getD, take, drop, drop-of-length-le}
 use lib.Seq.{drop-cons, drop-drop}
 use lib.Ieee.{Float}
-use Rattle.lists.specs.Text.{same, among, within}
-use Rattle.lists.specs.Select.{first, run, after}
-use Rattle.calculation.specs.Symbol.{Symbol, number, letter, operator, not-sign, Spelling, spellings, blank, figure, wrong, sign, sign-of, start}
-use Rattle.calculation.specs.Symbol.{then, then-number, numeral, numeral-byte, symbols}
-use Rattle.calculation.specs.Scanning.{figure-byte, scan-end, scan-blank, scan-figure, scan-wrong, scan-sign}
-use Rattle.calculation.specs.declared.Operator.the-variants as op
+use Rattle.spec_lists.specs.Text.{same, among, within}
+use Rattle.spec_lists.specs.Select.{first, run, after}
+use Rattle.spec_calc.specs.Symbol.{Symbol, number, letter, operator, not-sign, Spelling, spellings, blank, figure, wrong, sign, sign-of, start, then}
+use Rattle.spec_calc.specs.Symbol.{then-number, numeral, numeral-byte, symbols}
+use Rattle.spec_calc.specs.laws.Symbols.{figure-byte, scan-end, scan-blank, scan-figure, scan-wrong, scan-sign}
+use Rattle.spec_calc.specs.declared.Operator.the-variants as op
 use Rattle.calc_symbol.specs.declared.Class.{Class}
 use Rattle.calc_symbol.specs.declared.Class.the-variants as class
 use Rattle.calc_symbol.specs.declared.Sign.{Sign}

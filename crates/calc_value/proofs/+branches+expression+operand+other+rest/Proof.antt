@@ -1,12 +1,12 @@
-use Rattle.calculation.specs.Symbol.{colon, close-paren}
-use Rattle.calculation.specs.Reader.{wanted, minus-of, not-of, level-bound}
+use Rattle.spec_calc.specs.Symbol.{colon, close-paren}
+use Rattle.spec_calc.specs.Reader.{wanted, minus-of, not-of, level-bound}
 use Rattle.calc_symbol.specs.Lookahead.{Begins, Joins, Mark-at}
 use Prim.Native.Nat.{ℕ, _+_, _<_}
 use mathlib.Core.Path.{refl, subst}
 use native.Mathlib.Omega.{arith}
 use Rattle.calc_value.specs.laws.Steps.{cost, parses-is, expression-bad, expression-is, rest-end, rest-choice, rest-bad, rest-by, branches-bad}
-use Rattle.calc_value.specs.laws.Steps.{branches-missing, branches-is, other-bad, other-is, operand-number, operand-letter, prefix-bad}
-use Rattle.calc_value.specs.laws.Steps.{minus-is, not-is, open-bad, open-missing, open-is}
+use Rattle.calc_value.specs.laws.Steps.{branches-missing, branches-is, other-bad, other-is, operand-number, operand-letter, prefix-bad, minus-is}
+use Rattle.calc_value.specs.laws.Steps.{not-is, open-bad, open-missing, open-is}
 use borrow.Author.Needs.{needs}
 use borrow.Fn.Kinds.{In}
 use borrow.Fn.PlainCycle.{Measures, is, falls, and}

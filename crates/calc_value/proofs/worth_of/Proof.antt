@@ -1,4 +1,4 @@
-use Rattle.calculation.specs.Reader.{wanted}
+use Rattle.spec_calc.specs.Reader.{wanted}
 use native.Mathlib.Omega.{arith}
 use Rattle.calc_value.specs.laws.Whole.{worth-bad, worth-end, worth-more}
 use Rattle.calc_value.specs.laws.Steps.{parses-is}

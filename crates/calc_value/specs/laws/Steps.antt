@@ -8,15 +8,15 @@ use native.Mathlib.Omega.{arith}
 use borrow.Author.Tests.{le-leb, lt-leb}
 use lib.ListN.{length, getD}
 use lib.Ieee.{Float, nan, neg}
-use Rattle.calculation.specs.declared.Operator.{Operator}
-use Rattle.calculation.specs.declared.Operator.the-variants as op
-use Rattle.calculation.specs.declared.Reading.the-variants as readings
-use Rattle.calculation.specs.Symbol.{Symbol, number, letter, operator, not-sign, question, colon, open-paren, close-paren}
-use Rattle.calculation.specs.Expression.{Tree, number-tree, letter-tree, binary, choice, level}
-use Rattle.calculation.specs.Value.{truth, is-true, apply, heard, reading, value}
-use Rattle.calculation.specs.Reader.{Begun, minus-of, not-of, left-of, else-of, ended, tightness, begun, paren, if-of, Stack, State, wanted, have}
-use Rattle.calculation.specs.Reader.{level-bound, ends, ends-bound, reduce, first-of, run}
-use Rattle.calculation.specs.Complete.{top}
+use Rattle.spec_calc.specs.declared.Operator.{Operator}
+use Rattle.spec_calc.specs.declared.Operator.the-variants as op
+use Rattle.spec_calc.specs.declared.Reading.the-variants as readings
+use Rattle.spec_calc.specs.Symbol.{Symbol, number, letter, operator, not-sign, question, colon, open-paren, close-paren}
+use Rattle.spec_calc.specs.Expression.{Tree, number-tree, letter-tree, binary, choice, level}
+use Rattle.spec_calc.specs.Value.{truth, is-true, apply, heard, reading, value}
+use Rattle.spec_calc.specs.Reader.{Begun, minus-of, not-of, left-of, else-of, ended, tightness, begun, paren, if-of, Stack, State, wanted, have, level-bound}
+use Rattle.spec_calc.specs.Reader.{ends, ends-bound, reduce, first-of, run}
+use Rattle.spec_calc.specs.laws.Complete.{top}
 use Rattle.calc_value.specs.declared.Parsed.{Parsed}
 use Rattle.calc_value.specs.declared.Parsed.the-variants as parsed
 use Rattle.calc_symbol.specs.Scan.{syms, Symbol-at}

@@ -6,9 +6,9 @@ use mathlib.Core.Option.{Option, none, some}
 use Prim.Native.Nat.{ℕ}
 use native.Mathlib.Omega.{arith}
 use lib.Ieee.{Float}
-use Rattle.calculation.specs.declared.Reading.the-variants as readings
-use Rattle.calculation.specs.Symbol.{Symbol, symbols}
-use Rattle.calculation.specs.Reader.{wanted, reduce, run, read-spelled, tree-of}
+use Rattle.spec_calc.specs.declared.Reading.the-variants as readings
+use Rattle.spec_calc.specs.Symbol.{Symbol, symbols}
+use Rattle.spec_calc.specs.Reader.{wanted, reduce, run, read-spelled, tree-of}
 use Rattle.calc_value.specs.declared.Parsed.{Parsed}
 use Rattle.calc_value.specs.declared.Parsed.the-variants as parsed
 use Rattle.calc_value.specs.declared.Worth.the-variants as worths

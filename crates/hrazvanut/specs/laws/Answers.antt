@@ -1,13 +1,13 @@
 -- A call answers what the function that it calls answers.
 use mathlib.Core.Path.{_≡_, ap, _∙_}
 use Prim.Native.Nat.{ℕ}
-use Rattle.load.specs.Load.{Outcome}
-use Rattle.load.specs.Listing.{Listing}
+use Rattle.spec_load.specs.Load.{Result}
+use Rattle.spec_load.specs.Listing.{Listing}
 use Rattle.api_numbers.specs.Numbers.{load-number, listed-number}
 use Rattle.hrazvanut.specs.Answers.{Leaves, Lists}
 
-pub leaves : {o o′ : Outcome} {r : ℕ} → o ≡ o′ → r ≡ load-number (o .answer) → Leaves o′ (o .bytes) r
-leaves e g = record { left = ap (λ (x : Outcome). x .bytes) e; answered = g ∙ ap (λ (x : Outcome). load-number (x .answer)) e }
+pub leaves : {o o′ : Result} {r : ℕ} → o ≡ o′ → r ≡ load-number (o .answer) → Leaves o′ (o .bytes) r
+leaves e g = record { left = ap (λ (x : Result). x .bytes) e; answered = g ∙ ap (λ (x : Result). load-number (x .answer)) e }
 
 pub lists : {l l′ : Listing} {r : ℕ} → l ≡ l′ → r ≡ listed-number (l .answer) → Lists l′ (l .numbers) (l .places) r
 lists e g =

@@ -5,8 +5,8 @@ use Rattle.load_elements.specs.laws.Kinds.{some-remain}
 use Rattle.load_blocks.specs.laws.Blocks.{is-name-low, bound-nested, closes-one, closes-done, closes-nested}
 use Rattle.load_elements.specs.Reads.{expected, remaining}
 use Rattle.load_blocks.specs.Blocks.{is-name, nested-elements, nesting-bound}
-use Rattle.grammar.specs.Reader.{inner, often, block-element, mute}
-use Rattle.token.specs.declared.Kind.the-variants as kind
+use Rattle.spec_grammar.specs.Reader.{inner, often, block-element, mute}
+use Rattle.spec_token.specs.declared.Kind.the-variants as kind
 use mathlib.Core.Bool.{not}
 use native.Mathlib.Omega.{arith}
 use mathlib.Core.List.{_∷_, _++_}

@@ -1,6 +1,6 @@
 use Rattle.load_elements.specs.laws.Stacks.{then, at, unless}
 use Rattle.load_blocks.specs.Blocks.{parse-opened, remaining-opened, nesting-bound}
-use Rattle.grammar.specs.Reader.{behind}
+use Rattle.spec_grammar.specs.Reader.{behind}
 use native.Mathlib.Omega.{arith}
 use mathlib.Core.List.{_++_}
 use mathlib.Core.Path.{refl}

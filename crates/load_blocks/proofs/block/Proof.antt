@@ -1,5 +1,5 @@
 use Rattle.load_elements.specs.laws.Stacks.{then-equal}
-use Rattle.grammar.specs.Reader.{inner}
+use Rattle.spec_grammar.specs.Reader.{inner}
 use native.Mathlib.Omega.{arith}
 use borrow.Author.Needs.{needs}
 use Rattle.load_blocks.proofs.block.Statement.{statement}

@@ -2,7 +2,7 @@ use mathlib.Core.Path.{refl, sym, ap, _∙_}
 use mathlib.Core.Bool.{not}
 use mathlib.Core.List.{_∷_}
 use native.Mathlib.Omega.{arith}
-use Rattle.grammar.specs.Reader.{once, block-name, block-number}
+use Rattle.spec_grammar.specs.Reader.{once, block-name, block-number}
 use Rattle.load_blocks.specs.laws.Blocks.{is-name-low, number-low}
 use Rattle.load_blocks.specs.Blocks.{is-name, float-or-int}
 use Rattle.load_elements.specs.laws.Stacks.{then, when, when-as}

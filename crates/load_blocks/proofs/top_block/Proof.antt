@@ -1,7 +1,7 @@
 use Rattle.load_elements.specs.laws.Stacks.{then-equal, equal-then}
 use Rattle.load_blocks.specs.laws.Blocks.{same-depth}
 use Rattle.load_blocks.specs.Blocks.{parse-opened, remaining-opened}
-use Rattle.grammar.specs.Reader.{top}
+use Rattle.spec_grammar.specs.Reader.{top}
 use native.Mathlib.Omega.{arith}
 use mathlib.Core.Path.{ap, _∙_}
 use borrow.Author.Needs.{needs}

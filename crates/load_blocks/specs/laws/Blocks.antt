@@ -6,7 +6,7 @@ use Prim.Native.Nat.{ℕ, suc, _≤_, _<_}
 use native.Mathlib.Omega.{arith}
 use lib.Dec.{leb, eqb}
 use borrow.Author.Tests.{leb-true, eqb-true}
-use Rattle.grammar.specs.Reader.{Stack, top, inner}
+use Rattle.spec_grammar.specs.Reader.{Stack, top, inner}
 use Rattle.load_elements.specs.declared.Cursor.{Cursor}
 use Rattle.load_elements.specs.Reads.{remaining, parse-at, Leads}
 use Rattle.load_blocks.specs.declared.Opened.{Opened}

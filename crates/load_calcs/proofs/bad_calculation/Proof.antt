@@ -1,9 +1,9 @@
 use mathlib.Core.Logic.{⊎-elim}
 use mathlib.Core.Path.{sym, _∙_}
 use Prim.Native.Nat.{_-_}
-use Rattle.file.specs.Refusal.{bad-calculation}
-use Rattle.texts.specs.Rolls.{arrays}
-use Rattle.texts.specs.laws.Search.{Searched, search-first, search-found, search-on, search-none}
+use Rattle.spec_file.specs.Refusal.{bad-calculation}
+use Rattle.load_spans.specs.Roles.{arrays}
+use Rattle.load_spans.specs.laws.Search.{Searched, search-first, search-found, search-on, search-none}
 use Rattle.load_calcs.specs.laws.Input.{gives-first, gives-new, gives-on}
 use Rattle.load_calcs.specs.Input.{Gives, around}
 use borrow.Author.Needs.{needs}

@@ -1,13 +1,14 @@
 use Rattle.load_calcs.proofs.Letters.{allowed-is}
 use Rattle.load_calcs.specs.laws.Input.{gives-here}
-use Rattle.texts.specs.laws.Codes.{asked, not-asked}
-use Rattle.texts.specs.Seek.{context-at}
-use Rattle.texts.specs.Lies.{lies-at, text-at}
-use Rattle.texts.specs.Rolls.{arrays}
-use Rattle.file.specs.Refusal.{letters-given}
-use Rattle.calculation.specs.Reader.{tree-of}
-use Rattle.calculation.specs.Value.{letters}
-use Rattle.lists.specs.Select.{all, holds-of}
+use Rattle.load_spans.specs.laws.Codes.{asked, not-asked}
+use Rattle.load_spans.specs.Seek.{context-at}
+use Rattle.load_spans.specs.laws.Spans.{span-fits-at}
+use Rattle.load_spans.specs.Spans.{text-at}
+use Rattle.load_spans.specs.Roles.{arrays}
+use Rattle.spec_file.specs.Refusal.{letters-given}
+use Rattle.spec_calc.specs.Reader.{tree-of}
+use Rattle.spec_calc.specs.Value.{letters}
+use Rattle.spec_lists.specs.Select.{all, holds-of}
 use native.Mathlib.Omega.{arith}
 use lib.ListN.{getD}
 use Prim.Native.Nat.{ℕ}
@@ -22,7 +23,7 @@ shared-slice-read-if1 : tie.Need-shared-slice-read-if1
 shared-slice-read-if1 c = search needs
 
 text-requires : tie.Need-text-requires
-text-requires c κs = lies-at (c .before .before .before .before .before .before .pre .1) (c .before .before .before .before .before .before .pre .0)
+text-requires c κs = span-fits-at (c .before .before .before .before .before .before .pre .1) (c .before .before .before .before .before .before .pre .0)
 
 allowed-with-requires : tie.Need-allowed-with-requires
 allowed-with-requires c κs = search needs

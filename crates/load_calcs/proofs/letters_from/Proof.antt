@@ -1,6 +1,6 @@
 use Rattle.load_calcs.specs.laws.Input.{Gathers, gathers-first, gathers-none, gathers-stop, gathers-input, gathers-on}
-use Rattle.texts.specs.Lies.{lies-at}
-use Rattle.texts.specs.Rolls.{arrays}
+use Rattle.load_spans.specs.laws.Spans.{span-fits-at}
+use Rattle.load_spans.specs.Roles.{arrays}
 use Prim.Native.Nat.{_-_}
 use mathlib.Core.Logic.{⊎-elim}
 use borrow.Author.Needs.{needs}
@@ -23,7 +23,7 @@ returns : tie.Need-returns Inv-loop μ-loop
 returns c = gathers-stop _ _ _ _ (c .before .before .loop-test .taken) (c .if1 .taken) (c .before .before .before .loop .inv)
 
 letter-requires : tie.Need-letter-requires Inv-loop μ-loop
-letter-requires c κs = lies-at (c .before .before .before .loop-test .taken) (c .before .before .before .before .before .before .before .before .before .pre)
+letter-requires c κs = span-fits-at (c .before .before .before .loop-test .taken) (c .before .before .before .before .before .before .before .before .before .pre)
 
 with-letter-requires : tie.Need-with-letter-requires Inv-loop μ-loop
 with-letter-requires c κs = c .before .before .before .before .before .loop .inv .long

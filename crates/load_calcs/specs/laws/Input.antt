@@ -8,27 +8,28 @@ use lib.Dec.{eqb}
 use lib.ListN.{length, getD, set, replicate, length-set, getD-replicate}
 use lib.Seq.{getD-set-same, getD-set-other}
 use borrow.Author.Tests.{eqb-true, eqb-false}
-use Rattle.lists.specs.Select.{any, select, prepend-if}
-use Rattle.token.specs.Word.{link-letter}
-use Rattle.grammar.specs.declared.Role.the-variants.{AsgName, Input}
-use Rattle.grammar.specs.Reading.{Said}
-use Rattle.kept.specs.Kept.{Arrays, said-at}
-use Rattle.file.specs.Contents.{says, text, until}
-use Rattle.file.specs.Refusal.{letters-given}
-use Rattle.texts.specs.Rolls.{tokens, tokens-none, tokens-step}
-use Rattle.texts.specs.Seek.{earlier, earlier-none, earlier-step, context-at}
-use Rattle.texts.specs.laws.Codes.{role-same, role-other}
+use Rattle.spec_lists.specs.Select.{any, select, prepend-if}
+use Rattle.spec_token.specs.Word.{link-letter}
+use Rattle.spec_grammar.specs.declared.Role.the-variants.{AsgName, Input}
+use Rattle.spec_grammar.specs.Sentence.{Tagged}
+use Rattle.load_tokens.specs.Arrays.{Arrays, tagged-at}
+use Rattle.spec_file.specs.Contents.{has-role, text, until}
+use Rattle.spec_file.specs.Refusal.{letters-given}
+use Rattle.load_spans.specs.laws.Roles.{tokens-none, tokens-step}
+use Rattle.load_spans.specs.Seek.{earlier, context-at}
+use Rattle.load_spans.specs.laws.Seek.{earlier-none, earlier-step}
+use Rattle.load_spans.specs.laws.Codes.{role-same, role-other}
 use Rattle.load_calcs.specs.Input.{tells, Gives, ahead, around}
 
 -- ---- laws of lists
 
-letters-told : (l : ℕ) (xs : List Said) → any (tells l) xs ≡ any (eqb l) (map (λ x. link-letter (text x)) (select (says Input) xs))
+letters-told : (l : ℕ) (xs : List Tagged) → any (tells l) xs ≡ any (eqb l) (map (λ x. link-letter (text x)) (select (has-role Input) xs))
 letters-told l [] = refl
-letters-told l (x ∷ xs) = go (says Input x) (letters-told l xs)
+letters-told l (x ∷ xs) = go (has-role Input x) (letters-told l xs)
   where
     go :
-        (b : Bool) → any (tells l) xs ≡ any (eqb l) (map (λ y. link-letter (text y)) (select (says Input) xs))
-        → b && eqb l (link-letter (text x)) || any (tells l) xs ≡ any (eqb l) (map (λ y. link-letter (text y)) (prepend-if b x (select (says Input) xs)))
+        (b : Bool) → any (tells l) xs ≡ any (eqb l) (map (λ y. link-letter (text y)) (select (has-role Input) xs))
+        → b && eqb l (link-letter (text x)) || any (tells l) xs ≡ any (eqb l) (map (λ y. link-letter (text y)) (prepend-if b x (select (has-role Input) xs)))
     go true e = ap (λ (t : Bool). eqb l (link-letter (text x)) || t) e
     go false e = e
 
@@ -41,7 +42,7 @@ or-false : (b : Bool) → b || false ≡ b
 or-false true = refl
 or-false false = refl
 
-any-middle : (p : Said → Bool) (xs : List Said) (y : Said) (ys : List Said) → any p (xs ++ (y ∷ ys)) ≡ p y || any p (xs ++ ys)
+any-middle : (p : Tagged → Bool) (xs : List Tagged) (y : Tagged) (ys : List Tagged) → any p (xs ++ (y ∷ ys)) ≡ p y || any p (xs ++ ys)
 any-middle p [] y ys = refl
 any-middle p (x ∷ xs) y ys = ap (λ (t : Bool). p x || t) (any-middle p xs y ys) ∙ or-swap (p x) (p y) (any p (xs ++ ys))
 
@@ -69,28 +70,28 @@ module _ (s : List ℕ) (a : Arrays) (roles : List ℕ) (n : ℕ) where
       record { each = λ l b. sym (or-false (getD given l false)) ∙ rw (tokens-none s a roles i n h) at (g .each l b) }
 
   module _ (i : ℕ) where
-    group-here : getD roles i 0 ≡ 5 → says AsgName (said-at s a roles i) ≡ true
+    group-here : getD roles i 0 ≡ 5 → has-role AsgName (tagged-at s a roles i) ≡ true
     group-here e = role-same 5 (record { some = omega arith; known = omega arith }) e
 
-    no-group-here : (getD roles i 0 ≡ 5 → ⊥) → says AsgName (said-at s a roles i) ≡ false
+    no-group-here : (getD roles i 0 ≡ 5 → ⊥) → has-role AsgName (tagged-at s a roles i) ≡ false
     no-group-here e = role-other 5 (record { some = omega arith; known = omega arith }) e
 
-    input-here : getD roles i 0 ≡ 6 → says Input (said-at s a roles i) ≡ true
+    input-here : getD roles i 0 ≡ 6 → has-role Input (tagged-at s a roles i) ≡ true
     input-here e = role-same 6 (record { some = omega arith; known = omega arith }) e
 
-    no-input-here : (getD roles i 0 ≡ 6 → ⊥) → says Input (said-at s a roles i) ≡ false
+    no-input-here : (getD roles i 0 ≡ 6 → ⊥) → has-role Input (tagged-at s a roles i) ≡ false
     no-input-here e = role-other 6 (record { some = omega arith; known = omega arith }) e
 
     ahead-stop : i < n → getD roles i 0 ≡ 5 → ahead s a roles n i ≡ []
     ahead-stop h e = rw (tokens-step s a roles i n h, group-here e)
 
-    ahead-on : i < n → (getD roles i 0 ≡ 5 → ⊥) → ahead s a roles n i ≡ said-at s a roles i ∷ ahead s a roles n (i + 1)
+    ahead-on : i < n → (getD roles i 0 ≡ 5 → ⊥) → ahead s a roles n i ≡ tagged-at s a roles i ∷ ahead s a roles n (i + 1)
     ahead-on h e = rw (tokens-step s a roles i n h, no-group-here e)
 
     behind-stop : getD roles i 0 ≡ 5 → until AsgName (earlier s a roles (i + 1)) ≡ []
     behind-stop e = rw (earlier-step s a roles i, group-here e)
 
-    behind-on : (getD roles i 0 ≡ 5 → ⊥) → until AsgName (earlier s a roles (i + 1)) ≡ said-at s a roles i ∷ until AsgName (earlier s a roles i)
+    behind-on : (getD roles i 0 ≡ 5 → ⊥) → until AsgName (earlier s a roles (i + 1)) ≡ tagged-at s a roles i ∷ until AsgName (earlier s a roles i)
     behind-on e = rw (earlier-step s a roles i, no-group-here e)
 
   module _ {from i : ℕ} {given : List Bool} where
@@ -98,7 +99,7 @@ module _ (s : List ℕ) (a : Arrays) (roles : List ℕ) (n : ℕ) where
     gathers-stop h e g =
         record { each = λ l b. sym (or-false (getD given l false)) ∙ rw (ahead-stop i h e) at (g .each l b) }
 
-    pub gathers-input : {k : ℕ} → i < n → getD roles i 0 ≡ 6 → k ≡ link-letter (text (said-at s a roles i)) → Gathers from given i → Gathers from (set given k true) (i + 1)
+    pub gathers-input : {k : ℕ} → i < n → getD roles i 0 ≡ 6 → k ≡ link-letter (text (tagged-at s a roles i)) → Gathers from given i → Gathers from (set given k true) (i + 1)
     gathers-input {k} h e f g =
         record {
           each = λ l b. rw (set-told given k l (g .long) b) (or-in (getD given l false) (eqb l k) (any (tells l) (ahead s a roles n (i + 1))) ∙ ap (λ (t : Bool). getD given l false || (t || any (tells l) (ahead s a roles n (i + 1)))) (here l) ∙ rw (ahead-on i h (λ z. omega arith)) at (g .each l b));
@@ -114,7 +115,7 @@ module _ (s : List ℕ) (a : Arrays) (roles : List ℕ) (n : ℕ) where
             or-next true z = refl
             or-next false z = refl
 
-        here : (l : ℕ) → eqb l k ≡ tells l (said-at s a roles i)
+        here : (l : ℕ) → eqb l k ≡ tells l (tagged-at s a roles i)
         here l = rw (f, input-here i e)
 
     pub gathers-on : i < n → (getD roles i 0 ≡ 5 → ⊥) → (getD roles i 0 ≡ 6 → ⊥) → Gathers from given i → Gathers from given (i + 1)
@@ -130,11 +131,11 @@ module _ (s : List ℕ) (a : Arrays) (roles : List ℕ) (n : ℕ) where
 
     pub gives-on : i < n → (getD roles i 0 ≡ 5 → ⊥) → Gives given (around s a roles n i) → Gives given (around s a roles n (i + 1))
     gives-on h e g =
-        record { each = λ l b. rw (behind-on i e) (rw (ahead-on i h e) at (g .each l b) ∙ any-middle (tells l) (until AsgName (earlier s a roles i)) (said-at s a roles i) (ahead s a roles n (i + 1))) }
+        record { each = λ l b. rw (behind-on i e) (rw (ahead-on i h e) at (g .each l b) ∙ any-middle (tells l) (until AsgName (earlier s a roles i)) (tagged-at s a roles i) (ahead s a roles n (i + 1))) }
 
     -- what stands at the token is no INP
     pub gives-here : i < n → (getD roles i 0 ≡ 5 → ⊥) → (getD roles i 0 ≡ 6 → ⊥) → Gives given (around s a roles n i) → (l : ℕ) → l < 21 → getD given l false ≡ any (eqb l) (letters-given (context-at s a roles n i))
     gives-here h e f g l b =
         rw (ahead-on i h e) at (g .each l b)
-        ∙ any-middle (tells l) (until AsgName (earlier s a roles i)) (said-at s a roles i) (ahead s a roles n (i + 1))
+        ∙ any-middle (tells l) (until AsgName (earlier s a roles i)) (tagged-at s a roles i) (ahead s a roles n (i + 1))
         ∙ rw (no-input-here i f) (letters-told l (until AsgName (earlier s a roles i) ++ ahead s a roles n (i + 1)))

@@ -9,10 +9,11 @@ use lib.Dec.{leb}
 use lib.ListN.{length, take, drop, replicate, getD-replicate}
 use lib.Ieee.{Float}
 use borrow.Author.Tests.{leb-true}
-use Rattle.lists.specs.Text.{same, among, within}
-use Rattle.lists.specs.Select.{all, first, first-if, run, after}
-use Rattle.calculation.specs.Symbol.{Symbol, number, letter, Spelling, spellings, Start, blank, figure, wrong, sign, sign-of, start, numeral, numeral-byte, then, then-number, symbols-in, symbols}
-use Rattle.evaluate.specs.Answer.{given-letter, letter-of, letters-in}
+use Rattle.spec_lists.specs.Text.{same, among, within}
+use Rattle.spec_lists.specs.Select.{all, first, first-if, run, after}
+use Rattle.spec_calc.specs.Symbol.{Symbol, number, letter, Spelling, spellings, Start, blank, figure, wrong, sign, sign-of, start, numeral, numeral-byte}
+use Rattle.spec_calc.specs.Symbol.{then, then-number, symbols-in, symbols}
+use Rattle.calc.specs.Answer.{given-letter, letter-of, letters-in}
 
 -- a letter of the 21
 abbrev pub small : ℕ → Bool

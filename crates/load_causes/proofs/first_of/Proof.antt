@@ -1,10 +1,10 @@
 use Rattle.load_causes.specs.laws.Cause.{first-never}
 use Rattle.load_causes.specs.Cause.{applies}
-use Rattle.file.specs.Refusal.{Context}
-use Rattle.file.specs.declared.Refusal.the-variants.{StringTooLong, TooMany, GivenAgain, BadLevel, UnknownWord, BadCalculation}
-use Rattle.file.specs.declared.Refusal.the-variants.{FileTooLong, BadByte, TooDeep, Ungrammatical, NoRoom}
-use Rattle.file.specs.declared.Refusal.{Refusal}
-use Rattle.file.proofs.Refusal.{the-type}
+use Rattle.spec_file.specs.Refusal.{Context}
+use Rattle.spec_file.specs.declared.Refusal.the-variants.{StringTooLong, TooMany, GivenAgain, BadLevel, UnknownWord, BadCalculation, FileTooLong, BadByte}
+use Rattle.spec_file.specs.declared.Refusal.the-variants.{TooDeep, Ungrammatical, NoRoom}
+use Rattle.spec_file.specs.declared.Refusal.{Refusal}
+use Rattle.spec_file.proofs.Refusal.{the-type}
 use types.Run.{OneOf}
 use denote.Enum.Declared.{tagOf}
 use native.Mathlib.Omega.{arith}

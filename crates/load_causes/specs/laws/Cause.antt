@@ -9,19 +9,20 @@ use native.Mathlib.Omega.{arith}
 use lib.Dec.{ltb}
 use lib.ListN.{length, getD, drop, drop-of-length-le}
 use borrow.Author.Tests.{lt-ltb, le-ltb}
-use Rattle.grammar.specs.Reading.{Said}
-use Rattle.kept.specs.Kept.{Arrays, said-from}
-use Rattle.kept.specs.Stores.{kept-in}
-use Rattle.file.specs.declared.Refusal.{Refusal}
-use Rattle.file.specs.declared.Refusal.the-variants.{FileTooLong, BadByte, TooDeep, Ungrammatical, NoRoom}
-use Rattle.file.specs.declared.Refusal.the-variants.{StringTooLong, TooMany, GivenAgain, BadLevel, UnknownWord, BadCalculation}
-use Rattle.file.specs.Refusal.{Context, contexts, Cause, causes, refused-by}
-use Rattle.texts.specs.Rolls.{arrays, tokens}
-use Rattle.texts.specs.Seek.{seek, refused-at}
-use Rattle.texts.specs.Bare.{bare-from, bare-context, seek-bare}
-use Rattle.texts.specs.Bare.{too-long-bare, too-many-bare, given-again-bare, bad-level-bare, unknown-word-bare, bad-calculation-bare}
+use Rattle.spec_grammar.specs.Sentence.{Tagged}
+use Rattle.load_tokens.specs.Arrays.{Arrays, tagged-from}
+use Rattle.load_tokens.specs.Stores.{arrays-of}
+use Rattle.spec_file.specs.declared.Refusal.{Refusal}
+use Rattle.spec_file.specs.declared.Refusal.the-variants.{FileTooLong, BadByte, TooDeep, Ungrammatical, NoRoom, StringTooLong, TooMany, GivenAgain, BadLevel}
+use Rattle.spec_file.specs.declared.Refusal.the-variants.{UnknownWord, BadCalculation}
+use Rattle.spec_file.specs.Refusal.{Context, contexts, Cause, causes, refused-by}
+use Rattle.load_spans.specs.Roles.{arrays, tokens}
+use Rattle.load_spans.specs.Seek.{seek}
+use Rattle.load_spans.specs.laws.Seek.{refused-at}
+use Rattle.load_spans.specs.laws.Bare.{bare-from, bare-context, seek-bare, too-long-bare, too-many-bare, given-again-bare, bad-level-bare, unknown-word-bare}
+use Rattle.load_spans.specs.laws.Bare.{bad-calculation-bare}
 use Rattle.load_syntax.specs.declared.Judgment.the-variants.{Tokens, Refused}
-use Rattle.texts.specs.Search.{first-of}
+use Rattle.load_spans.specs.Search.{first-of}
 use Rattle.load_causes.specs.Cause.{cause-at, applies, Judged-tokens}
 
 -- ---- the list of the causes
@@ -68,13 +69,13 @@ applies-bare NoRoom c = refl
 -- ---- a cause that never applies
 
 module _ (p : Context → Bool) (e : (c : Context) → p c ≡ false) where
-  seek-never : (b xs : List Said) → seek p b xs ≡ length xs
+  seek-never : (b xs : List Tagged) → seek p b xs ≡ length xs
   unfolding seek
   seek-never b [] = refl
-  seek-never b (x ∷ xs) = rw (e (record { before = b; here = x; behind = xs }), seek-never (x ∷ b) xs)
+  seek-never b (x ∷ xs) = rw (e (record { backwards = b; here = x; onwards = xs }), seek-never (x ∷ b) xs)
 
-said-length : (s : List ℕ) (a : Arrays) (roles : List ℕ) (i k : ℕ) → length (said-from s a roles i k) ≡ k
-unfolding said-from
+said-length : (s : List ℕ) (a : Arrays) (roles : List ℕ) (i k : ℕ) → length (tagged-from s a roles i k) ≡ k
+unfolding tagged-from
 said-length s a roles i zero = refl
 said-length s a roles i (suc k) = ap suc (said-length s a roles (suc i) k)
 
@@ -89,8 +90,8 @@ first-never p e s starts ends roles n =
 
 module _ (s places starts ends roles : List ℕ) (n : ℕ) where
   -- what the file's tokens say, whatever their kinds
-  abbrev file : List ℕ → List Said
-  file kinds = said-from s (kept-in kinds places starts ends) roles 0 n
+  abbrev file : List ℕ → List Tagged
+  file kinds = tagged-from s (arrays-of kinds places starts ends) roles 0 n
 
   -- no cause before the k-th applies
   pub record Judging (k : ℕ) : Type 0 where
@@ -103,7 +104,7 @@ module _ (s places starts ends roles : List ℕ) (n : ℕ) where
   first-is r kinds h =
       let z : n - 0 ≡ n = omega arith in
       h
-      ∙ ap (seek (applies r) []) (ap (said-from s (arrays starts ends) roles 0) z ∙ bare-from s (kept-in kinds places starts ends) roles 0 n)
+      ∙ ap (seek (applies r) []) (ap (tagged-from s (arrays starts ends) roles 0) z ∙ bare-from s (arrays-of kinds places starts ends) roles 0 n)
       ∙ seek-bare (applies r) (applies-bare r) [] (file kinds)
 
   module _ {k i : ℕ} (j : Judging k) (l : k < 6) (h : i ≡ first-of (applies (cause-at k)) s starts ends roles n) where
@@ -116,17 +117,17 @@ module _ (s places starts ends roles : List ℕ) (n : ℕ) where
         let z : 0 + i ≡ i = omega arith in
         j .same kinds
         ∙ ap (λ (ks : List Cause). refused-by ks (contexts (file kinds))) (from-cause k l)
-        ∙ refused-at s (kept-in kinds places starts ends) roles (cause-at k) (applies (cause-at k)) (refused-by (drop (suc k) causes) (contexts (file kinds))) [] 0 n
+        ∙ refused-at s (arrays-of kinds places starts ends) roles (cause-at k) (applies (cause-at k)) (refused-by (drop (suc k) causes) (contexts (file kinds))) [] 0 n
         ∙ rw (g, z)
 
     -- it applies to the i-th token; it applies to none
     pub judging-found :
         {p : ℕ} → i < n → p ≡ getD places i 0 → (kinds : List ℕ)
-        → Judged-tokens s (kept-in kinds places starts ends) roles n (Refused (cause-at k) p)
+        → Judged-tokens s (arrays-of kinds places starts ends) roles n (Refused (cause-at k) p)
     judging-found b e kinds = record { same = rw (by-first kinds, lt-ltb i n b, e); few = omega arith }
 
     pub judging-on : n ≤ i → Judging (k + 1)
     judging-on b = record { same = λ kinds. by-first kinds ∙ rw (le-ltb i n b, add-one k) }
 
-  pub judging-end : {k : ℕ} → Judging k → 6 ≤ k → (kinds : List ℕ) → Judged-tokens s (kept-in kinds places starts ends) roles n (Tokens n)
+  pub judging-end : {k : ℕ} → Judging k → 6 ≤ k → (kinds : List ℕ) → Judged-tokens s (arrays-of kinds places starts ends) roles n (Tokens n)
   judging-end {k} j l kinds = record { same = rw (j .same kinds, drop-of-length-le causes {i = k} l); few = omega arith }

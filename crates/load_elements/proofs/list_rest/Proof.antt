@@ -2,8 +2,8 @@ use Rattle.load_elements.specs.laws.Tokens.{Loops, loop-begins}
 use Rattle.load_elements.specs.laws.Stacks.{then, at, unless}
 use Rattle.load_elements.specs.laws.Kinds.{some-remain}
 use Rattle.load_elements.specs.Reads.{remaining}
-use Rattle.kept.specs.Kept.{kind-of-number}
-use Rattle.grammar.specs.Reader.{more-until}
+use Rattle.load_tokens.specs.Arrays.{kind-of-number}
+use Rattle.spec_grammar.specs.Reader.{more-until}
 use native.Mathlib.Omega.{arith}
 use mathlib.Core.Path.{refl}
 use borrow.Author.Needs.{needs}

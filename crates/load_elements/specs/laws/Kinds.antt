@@ -7,8 +7,8 @@ use native.Mathlib.Omega.{arith}
 use lib.ListN.{length, getD}
 use lib.Dec.{ltb}
 use borrow.Author.Tests.{ltb-true, ltb-false, lt-ltb, le-ltb}
-use Rattle.token.specs.declared.Kind.the-variants as kind
-use Rattle.kept.specs.Kept.{kind-of-number}
+use Rattle.spec_token.specs.declared.Kind.the-variants as kind
+use Rattle.load_tokens.specs.Arrays.{kind-of-number}
 use Rattle.load_elements.specs.declared.Cursor.{Cursor}
 use Rattle.load_elements.specs.declared.Cursor.the-variants as cursor
 use Rattle.load_elements.specs.Reads.{kind-code, kind-at, remaining}

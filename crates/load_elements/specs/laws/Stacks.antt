@@ -8,10 +8,10 @@ use lib.ListN.{length, getD, take, drop, drop-of-length-le}
 use lib.Seq.{drop-cons}
 use lib.Dec.{ltb}
 use borrow.Author.Tests.{ltb-true, ltb-false, lt-ltb}
-use Rattle.token.specs.declared.Kind.{Kind}
-use Rattle.grammar.specs.declared.Role.{Role}
-use Rattle.grammar.specs.Reader.{Stack, Step, step, may-end}
-use Rattle.kept.specs.Kept.{kind-of-number, role-of-number}
+use Rattle.spec_token.specs.declared.Kind.{Kind}
+use Rattle.spec_grammar.specs.declared.Role.{Role}
+use Rattle.spec_grammar.specs.Reader.{Stack, Step, step, may-end}
+use Rattle.load_tokens.specs.Arrays.{kind-of-number, role-of-number}
 use Rattle.load_elements.specs.declared.Cursor.{Cursor}
 use Rattle.load_elements.specs.declared.Cursor.the-variants as cursor
 use Rattle.load_elements.specs.Parse.{Parsed, parsed, stopped-at, parse-step, parse-from}

@@ -9,9 +9,10 @@ use lib.ListN.{length, getD, take, drop, set}
 use lib.Seq.{take-suc-set}
 use lib.Dec.{ltb, eqb}
 use borrow.Author.Tests.{ltb-true, ltb-false, lt-ltb, eq-eqb, ne-eqb}
-use Rattle.grammar.specs.declared.Role.{Role}
-use Rattle.grammar.specs.Reader.{Stack, Step, go, step, kind-number}
-use Rattle.kept.specs.Kept.{kind-of-number, role-of-number}
+use Rattle.spec_grammar.specs.declared.Role.{Role}
+use Rattle.spec_grammar.specs.Codes.{kind-number}
+use Rattle.spec_grammar.specs.Reader.{Stack, Step, go, step}
+use Rattle.load_tokens.specs.Arrays.{kind-of-number, role-of-number}
 use Rattle.load_elements.specs.declared.Cursor.{Cursor}
 use Rattle.load_elements.specs.declared.Cursor.the-variants as cursor
 use Rattle.load_elements.specs.Parse.{stopped-at, parse-step, parse-from}

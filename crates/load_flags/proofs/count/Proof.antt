@@ -3,7 +3,8 @@ use mathlib.Core.Path.{_≡_}
 use Prim.Native.Nat.{_+_, _-_, _≤_}
 use native.Mathlib.Omega.{arith}
 use borrow.Author.Needs.{needs}
-use Rattle.texts.specs.Rolls.{tally, tally-hit, tally-miss, tally-none}
+use Rattle.load_spans.specs.Roles.{tally}
+use Rattle.load_spans.specs.laws.Roles.{tally-hit, tally-miss, tally-none}
 use Rattle.load_flags.proofs.count.Statement.{statement}
 use Rattle.load_flags.proofs.count.Tie as tie
 

@@ -1,7 +1,7 @@
 use mathlib.Core.Path.{_∙_, sym}
 use borrow.Author.Needs.{needs}
-use Rattle.texts.specs.Lies.{lies-at}
-use Rattle.texts.specs.Rolls.{arrays}
+use Rattle.load_spans.specs.laws.Spans.{span-fits-at}
+use Rattle.load_spans.specs.Roles.{arrays}
 use Rattle.load_flags.specs.laws.Firsts.{first-here, first-nowhere}
 use Rattle.load_flags.proofs.first_text.Statement.{statement}
 use Rattle.load_flags.proofs.first_text.Tie as tie
@@ -10,7 +10,7 @@ next-requires : tie.Need-next-requires
 next-requires c κs = search needs
 
 text-requires : tie.Need-text-requires
-text-requires c κs = lies-at (c .if1 .taken) (c .before .before .before .before .before .before .pre .0)
+text-requires c κs = span-fits-at (c .if1 .taken) (c .before .before .before .before .before .before .pre .0)
 
 returns : tie.Need-returns
 returns c =

@@ -4,12 +4,13 @@ use mathlib.Core.Path.{_∙_, sym, ap}
 use Prim.Native.Nat.{_-_}
 use native.Mathlib.Omega.{arith}
 use borrow.Author.Needs.{needs}
-use Rattle.lists.specs.Select.{nonempty, select}
-use Rattle.grammar.specs.declared.Role.the-variants.{UnknownPredicate}
-use Rattle.rule.specs.declared.Access.the-variants as access
-use Rattle.file.specs.Contents.{texts, value-of, permission-of, log-of, says, place}
-use Rattle.kept.specs.Kept.{role-of-number}
-use Rattle.texts.specs.Rolls.{arrays, tally-is}
+use Rattle.spec_lists.specs.Select.{nonempty, select}
+use Rattle.spec_grammar.specs.declared.Role.the-variants.{UnknownPredicate}
+use Rattle.spec_rule.specs.declared.Access.the-variants as access
+use Rattle.spec_file.specs.Contents.{texts, value-of, permission-of, log-of, has-role, place}
+use Rattle.load_tokens.specs.Arrays.{role-of-number}
+use Rattle.load_spans.specs.Roles.{arrays}
+use Rattle.load_spans.specs.laws.Roles.{tally-is}
 use Rattle.load_flags.specs.Flags.{off-bits}
 use Rattle.load_flags.specs.Tokens.{tokens-in}
 use Rattle.load_flags.specs.laws.Flags.{flag-small, level-small, off-is, rank-small}
@@ -78,7 +79,7 @@ add-result-3 c =
           (record { some = omega arith; known = omega arith })))
           ∙ off-is (tokens-in (a .s .now) (a .starts .now) (a .ends .now) (a .roles .now) (a .from) (a .to)),
       flag-small
-          (nonempty (map place (select (says UnknownPredicate) (tokens-in (a .s .now) (a .starts .now) (a .ends .now) (a .roles .now) (a .from) (a .to)))))
+          (nonempty (map place (select (has-role UnknownPredicate) (tokens-in (a .s .now) (a .starts .now) (a .ends .now) (a .roles .now) (a .from) (a .to)))))
           16,
     )
 

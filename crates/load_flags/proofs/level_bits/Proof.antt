@@ -1,6 +1,6 @@
 use borrow.Author.Needs.{needs}
-use Rattle.file.specs.Contents.{texts}
-use Rattle.kept.specs.Kept.{role-of-number}
+use Rattle.spec_file.specs.Contents.{texts}
+use Rattle.load_tokens.specs.Arrays.{role-of-number}
 use Rattle.load_flags.specs.Tokens.{tokens-in}
 use Rattle.load_flags.specs.laws.Flags.{level-known}
 use Rattle.load_flags.proofs.level_bits.Statement.{statement}

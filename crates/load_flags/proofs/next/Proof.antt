@@ -2,7 +2,8 @@ use mathlib.Core.Path.{_≡_, refl}
 use Prim.Native.Nat.{_+_, _-_}
 use native.Mathlib.Omega.{arith}
 use borrow.Author.Needs.{needs}
-use Rattle.texts.specs.Rolls.{gap, gap-first, gap-second, gap-on, gap-none}
+use Rattle.load_spans.specs.Roles.{gap}
+use Rattle.load_spans.specs.laws.Roles.{gap-first, gap-second, gap-on, gap-none}
 use Rattle.load_flags.proofs.next.Statement.{statement}
 use Rattle.load_flags.proofs.next.Tie as tie
 

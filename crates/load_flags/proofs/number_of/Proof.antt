@@ -2,7 +2,7 @@ use mathlib.Core.Path.{sym, _∙_}
 use native.Mathlib.Omega.{arith}
 use lib.ListN.{length-map}
 use borrow.Author.Needs.{needs}
-use Rattle.texts.specs.Lies.{text-at}
+use Rattle.load_spans.specs.Spans.{text-at}
 use Rattle.load_flags.specs.Tokens.{texts-at}
 use Rattle.load_flags.specs.laws.Numbers.{numbered-here, numbered-out}
 use Rattle.load_flags.proofs.number_of.Statement.{statement}

@@ -1,8 +1,8 @@
 use mathlib.Core.Path.{_∙_, ap}
 use borrow.Author.Needs.{needs}
-use Rattle.file.specs.Contents.{texts}
-use Rattle.kept.specs.Kept.{role-of-number}
-use Rattle.words_known.specs.declared.Log.the-variants as log
+use Rattle.spec_file.specs.Contents.{texts}
+use Rattle.load_tokens.specs.Arrays.{role-of-number}
+use Rattle.load_values.specs.declared.Log.the-variants as log
 use Rattle.load_flags.specs.Tokens.{tokens-in}
 use Rattle.load_flags.specs.laws.Flags.{log-known}
 use Rattle.load_flags.proofs.trap_bits.Statement.{statement}

@@ -8,23 +8,23 @@ use native.Mathlib.Omega.{arith}
 use lib.Dec.{eqb}
 use lib.ListN.{length}
 use borrow.Author.Tests.{ne-eqb}
-use Rattle.lists.specs.Select.{nonempty, select}
-use Rattle.lists.specs.Text.{whole, among}
-use Rattle.token.specs.Word.{unsigned}
-use Rattle.grammar.specs.declared.Role.the-variants.{UnknownPredicate}
-use Rattle.grammar.specs.Reading.{Said}
-use Rattle.rule.specs.declared.Access.{Access}
-use Rattle.rule.specs.declared.Access.the-variants as access
-use Rattle.rule.specs.Rule.{rank}
-use Rattle.file.specs.Contents.{head-of, value-of, level-of, permission-of, log-of, says, text, place}
-use Rattle.table.specs.Written.{flag}
-use Rattle.words_known.specs.declared.Level.{Level}
-use Rattle.words_known.specs.declared.Level.the-variants as level
-use Rattle.words_known.specs.declared.Log.{Log}
-use Rattle.words_known.specs.declared.Log.the-variants as log
-use Rattle.words_known.specs.declared.Permission.{Permission}
-use Rattle.words_known.specs.declared.Permission.the-variants as permission
-use Rattle.words_known.specs.Known.{level-told, permission-told, log-told}
+use Rattle.spec_lists.specs.Select.{nonempty, select}
+use Rattle.spec_lists.specs.Text.{whole, among}
+use Rattle.spec_token.specs.Word.{unsigned}
+use Rattle.spec_grammar.specs.declared.Role.the-variants.{UnknownPredicate}
+use Rattle.spec_grammar.specs.Sentence.{Tagged}
+use Rattle.spec_rule.specs.declared.Access.{Access}
+use Rattle.spec_rule.specs.declared.Access.the-variants as access
+use Rattle.spec_rule.specs.Rule.{rank}
+use Rattle.spec_file.specs.Contents.{head-of, value-of, level-of, permission-of, log-of, has-role, text, place}
+use Rattle.spec_table.specs.Written.{flag}
+use Rattle.load_values.specs.declared.Level.{Level}
+use Rattle.load_values.specs.declared.Level.the-variants as level
+use Rattle.load_values.specs.declared.Log.{Log}
+use Rattle.load_values.specs.declared.Log.the-variants as log
+use Rattle.load_values.specs.declared.Permission.{Permission}
+use Rattle.load_values.specs.declared.Permission.the-variants as permission
+use Rattle.load_values.specs.Known.{level-told, permission-told, log-told}
 use Rattle.load_flags.specs.Flags.{off-bits}
 use Rattle.load_flags.specs.Tokens.{size}
 
@@ -62,10 +62,10 @@ flag-small true n = omega arith
 flag-small false n = omega arith
 
 -- the bit of a rule that is switched off, from the number of its unknown predicates
-pub off-is : (xs : List Said) → off-bits (size UnknownPredicate xs) ≡ flag (nonempty (map place (select (says UnknownPredicate) xs))) 16
-off-is xs = go (select (says UnknownPredicate) xs)
+pub off-is : (xs : List Tagged) → off-bits (size UnknownPredicate xs) ≡ flag (nonempty (map place (select (has-role UnknownPredicate) xs))) 16
+off-is xs = go (select (has-role UnknownPredicate) xs)
   where
-    go : (ys : List Said) → off-bits (length (map text ys)) ≡ flag (nonempty (map place ys)) 16
+    go : (ys : List Tagged) → off-bits (length (map text ys)) ≡ flag (nonempty (map place ys)) 16
     go [] = refl
     go (y ∷ ys) = rw (ne-eqb (suc (length (map text ys))) 0 (λ h. omega arith))
 

@@ -5,13 +5,14 @@ use Prim.Native.Nat.{ℕ, _≤_, _<_}
 use native.Mathlib.Omega.{arith}
 use lib.ListN.{length}
 use borrow.Author.Tests.{le-leb, lt-leb}
-use Rattle.token.specs.Token.{scanned}
-use Rattle.kept.specs.Kept.{Arrays}
-use Rattle.file.specs.declared.Refusal.{Refusal}
-use Rattle.file.specs.declared.Refusal.the-variants.{FileTooLong}
-use Rattle.file.specs.Limit.{most-bytes}
-use Rattle.file.specs.Load.{refuse, by-tokens, verdict}
-use Rattle.texts.specs.Rolls.{Lie, lie-less}
+use Rattle.spec_token.specs.Token.{scanned}
+use Rattle.load_tokens.specs.Arrays.{Arrays}
+use Rattle.spec_file.specs.declared.Refusal.{Refusal}
+use Rattle.spec_file.specs.declared.Refusal.the-variants.{FileTooLong}
+use Rattle.spec_file.specs.Limit.{most-bytes}
+use Rattle.spec_file.specs.Load.{refuse, by-tokens, verdict}
+use Rattle.load_spans.specs.Roles.{Spans-fit}
+use Rattle.load_spans.specs.laws.Roles.{spans-fit-less}
 use Rattle.load_syntax.specs.declared.Judgment.{Judgment}
 use Rattle.load_syntax.specs.declared.Judgment.the-variants.{Tokens, Refused}
 use Rattle.load_syntax.specs.Syntax.{count, open-verdict, Read}
@@ -29,7 +30,7 @@ verdict-long s h = rw (lt-leb (length s) most-bytes h)
 
 module _ {s : List ℕ} {a : Arrays} {roles : List ℕ} {r : Judgment} (l : Read s a roles r) where
   -- the texts of the tokens lie in the file
-  lies : Lie s (a .starts) (a .ends) roles (count r)
+  lies : Spans-fit s (a .starts) (a .ends) roles (count r)
   lies =
       record {
         few = omega (arith, l .few, l .capacity .short);
@@ -44,10 +45,10 @@ module _ {s : List ℕ} {a : Arrays} {roles : List ℕ} {r : Judgment} (l : Read
   -- what the causes ask for
   pub causes-ready :
       {n : ℕ} (seen : List ℕ) → r ≡ Tokens n → length s ≤ length seen
-      → Lie s (a .starts) (a .ends) roles n × (n ≤ length (a .places)) × (n ≤ length seen)
+      → Spans-fit s (a .starts) (a .ends) roles n × (n ≤ length (a .places)) × (n ≤ length seen)
   causes-ready {n} seen e h =
       let f : n ≡ count r = sym (ap count e) in
-      (lie-less (omega arith) lies, omega (arith, l .few, l .capacity .room .places), omega (arith, l .few))
+      (spans-fit-less (omega arith) lies, omega (arith, l .few, l .capacity .room .places), omega (arith, l .few))
 
   -- refused by 2 to 4
   pub refused-early : {k : Refusal} {p : ℕ} → r ≡ Refused k p → Judged s (a .places) (a .starts) (a .ends) roles (Refused k p)
@@ -55,7 +56,7 @@ module _ {s : List ℕ} {a : Arrays} {roles : List ℕ} {r : Judgment} (l : Read
       record {
         kinds = a .kinds;
         same = verdict-short s (l .capacity .short) ∙ l .same ∙ ap (open-verdict s a roles) e;
-        lie = lie-less (omega arith) lies;
+        lie = spans-fit-less (omega arith) lies;
         has-places = omega arith;
       }
 
@@ -66,6 +67,6 @@ module _ {s : List ℕ} {a : Arrays} {roles : List ℕ} {r : Judgment} (l : Read
       record {
         kinds = a .kinds;
         same = verdict-short s (l .capacity .short) ∙ l .same ∙ ap (open-verdict s a roles) e ∙ j .same;
-        lie = lie-less (omega (arith, j .few)) lies;
+        lie = spans-fit-less (omega (arith, j .few)) lies;
         has-places = omega (arith, j .few, l .few, l .capacity .room .places);
       }

@@ -1,4 +1,4 @@
-use Rattle.texts.specs.Lies.{lies-at}
+use Rattle.load_spans.specs.laws.Spans.{span-fits-at}
 use Rattle.load_limits.specs.laws.Limit.{over}
 use Rattle.load_limits.specs.Limit.{limit}
 use borrow.Author.Needs.{needs}
@@ -12,7 +12,7 @@ by-role-requires : tie.Need-by-role-requires
 by-role-requires c κs = search needs
 
 long-requires : tie.Need-long-requires
-long-requires c κs = lies-at (c .before .before .before .before .before .before .pre .1) (c .before .before .before .before .before .before .pre .0)
+long-requires c κs = span-fits-at (c .before .before .before .before .before .before .pre .1) (c .before .before .before .before .before .before .pre .0)
 
 returns : tie.Need-returns
 returns c = rw (c .before .by-role .ensures limit (c .before .before .before .before .before .before .before .pre .2), c .long .ensures) (over (c .before .before .before .before .before .before .before .args .s .now) (c .before .before .before .before .before .before .before .args .starts .now) (c .before .before .before .before .before .before .before .args .ends .now) (c .before .before .before .before .before .before .before .args .roles .now) (c .before .before .before .before .before .before .before .args .i) (c .before .before .before .before .before .before .before .pre .0 .short))

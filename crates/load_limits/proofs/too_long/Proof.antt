@@ -1,7 +1,7 @@
 use mathlib.Core.Path.{sym, refl, _∙_}
 use Prim.Native.Nat.{_-_}
-use Rattle.file.specs.Refusal.{too-long}
-use Rattle.texts.specs.laws.Search.{Searched, search-first, search-found, search-on, search-none}
+use Rattle.spec_file.specs.Refusal.{too-long}
+use Rattle.load_spans.specs.laws.Search.{Searched, search-first, search-found, search-on, search-none}
 use borrow.Author.Needs.{needs}
 use Rattle.load_limits.proofs.too_long.Statement.{statement}
 use Rattle.load_limits.proofs.too_long.Tie as tie

@@ -2,9 +2,9 @@ use mathlib.Core.Path.{refl}
 use native.Mathlib.Omega.{arith}
 use Prim.Native.Nat.{_-_}
 use lib.ListN.{getD}
-use Rattle.kept.specs.Kept.{role-of-number}
-use Rattle.file.specs.Limit.{item-of}
-use Rattle.texts.specs.laws.Search.{search-none}
+use Rattle.load_tokens.specs.Arrays.{role-of-number}
+use Rattle.spec_file.specs.Limit.{item-of}
+use Rattle.load_spans.specs.laws.Search.{search-none}
 use Rattle.load_limits.specs.laws.Count.{section, Counting, counting-first, number-small, count-bound, many-here, count-on}
 use borrow.Author.Needs.{needs}
 use Rattle.load_limits.proofs.too_many.Statement.{statement}

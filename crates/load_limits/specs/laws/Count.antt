@@ -9,16 +9,17 @@ use lib.Dec.{eqb, leb}
 use lib.ListN.{length, getD, set, replicate, length-set, getD-replicate}
 use lib.Seq.{getD-set-same, getD-set-other}
 use borrow.Author.Tests.{eq-eqb, ne-eqb, eqb-true, eqb-false, le-leb, lt-leb}
-use Rattle.lists.specs.Select.{holds-of, select, prepend-if}
-use Rattle.grammar.specs.declared.Role.{Role}
-use Rattle.grammar.specs.Reading.{Said}
-use Rattle.kept.specs.Kept.{role-of-number, said-at}
-use Rattle.file.specs.Limit.{Section, user-groups, host-groups, members, access-groups, inputs, rules, references, order, most, most-bytes, item-of}
-use Rattle.file.specs.Refusal.{item, too-many}
-use Rattle.texts.specs.Rolls.{arrays}
-use Rattle.texts.specs.Seek.{earlier, earlier-none, earlier-step}
-use Rattle.texts.specs.Search.{first-of, applies-at}
-use Rattle.texts.specs.laws.Search.{Searched, search-first, search-found, search-on}
+use Rattle.spec_lists.specs.Select.{holds-of, select, prepend-if}
+use Rattle.spec_grammar.specs.declared.Role.{Role}
+use Rattle.spec_grammar.specs.Sentence.{Tagged}
+use Rattle.load_tokens.specs.Arrays.{role-of-number, tagged-at}
+use Rattle.spec_file.specs.Limit.{Section, user-groups, host-groups, members, access-groups, inputs, rules, references, order, most, most-bytes, item-of}
+use Rattle.spec_file.specs.Refusal.{item, too-many}
+use Rattle.load_spans.specs.Roles.{arrays}
+use Rattle.load_spans.specs.Seek.{earlier}
+use Rattle.load_spans.specs.laws.Seek.{earlier-none, earlier-step}
+use Rattle.load_spans.specs.Search.{first-of, applies-at}
+use Rattle.load_spans.specs.laws.Search.{Searched, search-first, search-found, search-on}
 
 -- the number of a section, 0 for none, 1 for the first, and how many items it may have; no file has most-bytes tokens before another
 abbrev pub number-of : Option Section → ℕ
@@ -34,11 +35,11 @@ abbrev pub section : Role → ℕ
 section r = number-of (item-of r)
 
 -- how many of some tokens are items of the k-th section
-unfoldable pub counted : ℕ → List Said → ℕ
+unfoldable pub counted : ℕ → List Tagged → ℕ
 counted k [] = 0
 counted k (x ∷ xs) = cond (eqb (section (x .role)) k) 1 0 + counted k xs
 
-counted-bound : (k : ℕ) (xs : List Said) → counted k xs ≤ length xs
+counted-bound : (k : ℕ) (xs : List Tagged) → counted k xs ≤ length xs
 unfolding counted
 counted-bound k [] = omega arith
 counted-bound k (x ∷ xs) = go (eqb (section (x .role)) k) (counted-bound k xs)
@@ -85,7 +86,7 @@ same-item : (t : Section) (o : Option Section) → holds-of o (λ u. eqb (order 
 same-item t none = sym (ne-eqb 0 (number-of (some t)) (λ h. omega arith))
 same-item t (some u) = eqb-suc (order u) (order t)
 
-counted-is : (t : Section) (xs : List Said) → length (select (item t) xs) ≡ counted (number-of (some t)) xs
+counted-is : (t : Section) (xs : List Tagged) → length (select (item t) xs) ≡ counted (number-of (some t)) xs
 unfolding counted
 counted-is t [] = refl
 counted-is t (x ∷ xs) = rw (same-item t (item-of (x .role))) (go (eqb (section (x .role)) (number-of (some t))) (counted-is t xs))
@@ -94,7 +95,7 @@ counted-is t (x ∷ xs) = rw (same-item t (item-of (x .role))) (go (eqb (section
     go true e = omega (arith, e)
     go false e = omega (arith, e)
 
-passed : (o : Option Section) (xs : List Said) → length xs < most-bytes → leb (most-of o) (counted (number-of o) xs) ≡ holds-of o (λ t. leb (most t) (length (select (item t) xs)))
+passed : (o : Option Section) (xs : List Tagged) → length xs < most-bytes → leb (most-of o) (counted (number-of o) xs) ≡ holds-of o (λ t. leb (most t) (length (select (item t) xs)))
 passed none xs h = lt-leb most-bytes (counted 0 xs) (omega (arith, counted-bound 0 xs))
 passed (some t) xs h = ap (leb (most t)) (sym (counted-is t xs))
 
@@ -135,7 +136,7 @@ module _ (s starts ends roles : List ℕ) where
     pub many-here : {k : ℕ} → n ≤ most-bytes → i < n → k ≡ section-at i → getD limits k 0 ≤ getD counts k 0 → i ≡ first-of too-many s starts ends roles n
     many-here {k} f h z g = search-found (c .searched) h (sym (many-is f h) ∙ rw z at (le-leb (getD limits k 0) (getD counts k 0) g))
 
-    counted-on : (j : ℕ) → j < 8 → getD (set counts (section-at i) (getD counts (section-at i) 0 + 1)) j 0 ≡ counted j (said-at s (arrays starts ends) roles i ∷ earlier s (arrays starts ends) roles i)
+    counted-on : (j : ℕ) → j < 8 → getD (set counts (section-at i) (getD counts (section-at i) 0 + 1)) j 0 ≡ counted j (tagged-at s (arrays starts ends) roles i ∷ earlier s (arrays starts ends) roles i)
     unfolding counted
     counted-on j h = go (eqb (section-at i) j) refl
       where

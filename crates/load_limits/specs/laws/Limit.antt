@@ -7,10 +7,10 @@ use native.Mathlib.Omega.{arith}
 use lib.Dec.{ltb}
 use lib.ListN.{length, getD, length-take, length-drop}
 use borrow.Author.Tests.{le-ltb}
-use Rattle.lists.specs.Select.{holds-of}
-use Rattle.kept.specs.Kept.{role-of-number, between}
-use Rattle.file.specs.Limit.{longest, most-bytes}
-use Rattle.texts.specs.Lies.{text-at}
+use Rattle.spec_lists.specs.Select.{holds-of}
+use Rattle.load_tokens.specs.Arrays.{role-of-number, between}
+use Rattle.spec_file.specs.Limit.{longest, most-bytes}
+use Rattle.load_spans.specs.Spans.{text-at}
 use Rattle.load_limits.specs.Limit.{limit}
 
 over-limit : (o : Option ℕ) (k : ℕ) → k ≤ most-bytes → ltb (Option·getD o most-bytes) k ≡ holds-of o (λ n. ltb n k)

@@ -3,13 +3,13 @@ use mathlib.Core.Path.{_≡_}
 use mathlib.Core.List.{List, map}
 use Prim.Native.Nat.{ℕ, _<_}
 use lib.ListN.{length, drop}
-use Rattle.kept.specs.Kept.{said-from}
-use Rattle.file.specs.Limit.{most-bytes}
-use Rattle.file.specs.declared.Refusal.{Refusal}
-use Rattle.file.specs.declared.Refusal.the-variants.{FileTooLong}
-use Rattle.file.specs.Warning.{number, warnings}
-use Rattle.load.specs.declared.Listed.the-variants.{Warnings, Refused}
-use Rattle.load.specs.Listing.{listing}
+use Rattle.load_tokens.specs.Arrays.{tagged-from}
+use Rattle.spec_file.specs.Limit.{most-bytes}
+use Rattle.spec_file.specs.declared.Refusal.{Refusal}
+use Rattle.spec_file.specs.declared.Refusal.the-variants.{FileTooLong}
+use Rattle.spec_file.specs.Warning.{number, warnings}
+use Rattle.spec_load.specs.declared.Listed.the-variants.{Warnings, Refused}
+use Rattle.spec_load.specs.Listing.{listing}
 use Rattle.load_syntax.specs.declared.Judgment.{Judgment}
 use Rattle.load_syntax.specs.declared.Judgment.the-variants as judgment
 use Rattle.load_judge.specs.Judged.{Judged}
@@ -32,7 +32,7 @@ module _ {s places starts ends roles : List ℕ} {r : Judgment} (f : Judged s pl
       → record { answer = Warnings count; numbers = c; places = d } ≡ listing skip numbers at s
   unfolding listing
   listed-warnings {n} e t =
-      let ws = warnings (said-from s (arrays-of f) roles 0 n) in
+      let ws = warnings (tagged-from s (arrays-of f) roles 0 n) in
       rw (
         accepted-as f e,
         t .count,

@@ -3,7 +3,7 @@ use mathlib.Core.Path.{_≡_, refl, ap, _∙_}
 use mathlib.Core.List.{List, [], _∷_}
 use Prim.Native.Nat.{ℕ, suc}
 use lib.Seq.{sets}
-use Rattle.load.specs.Listing.{laid-over}
+use Rattle.spec_load.specs.Listing.{laid-over}
 
 -- there is no room
 sets-none : (vs : List ℕ) (i : ℕ) → sets [] i vs ≡ []

@@ -1,7 +1,7 @@
 use mathlib.Core.List.{[]}
 use native.Mathlib.Omega.{arith}
 use borrow.Author.Needs.{needs}
-use Rattle.kept.specs.Kept.{role-of-number}
+use Rattle.load_tokens.specs.Arrays.{role-of-number}
 use Rattle.load_records.specs.laws.Cursors.{emitted}
 use Rattle.load_passes.specs.laws.Bounds.{bounded-on, bounded-tokens}
 use Rattle.load_passes.proofs.plain_pass.Statement.{statement}

@@ -3,9 +3,9 @@ use Prim.Native.Nat.{_≤_}
 use native.Mathlib.Omega.{arith}
 use lib.ListN.{length, getD}
 use borrow.Author.Needs.{needs}
-use Rattle.lists.specs.SameLaws.{unchanged}
-use Rattle.lists.specs.Text.{lowered}
-use Rattle.texts.specs.Lies.{lies-at}
+use Rattle.spec_lists.specs.laws.Same.{unchanged}
+use Rattle.spec_lists.specs.Text.{lowered}
+use Rattle.load_spans.specs.laws.Spans.{span-fits-at}
 use Rattle.load_records.specs.laws.Cursors.{emitted-text}
 use Rattle.load_records.specs.laws.Tokens.{between-limit}
 use Rattle.load_passes.proofs.put.Statement.{statement}
@@ -23,7 +23,7 @@ enum-told-2 c = search needs
 put-name-requires : tie.Need-put-name-requires
 put-name-requires c κs =
     let pre = c .before .before .before .before .before .before .before .before .before .pre in
-    (lies-at (pre .0 .here) (pre .0 .lie), pre .0 .bounded, omega (arith, pre .0 .lie .short))
+    (span-fits-at (pre .0 .here) (pre .0 .lie), pre .0 .bounded, omega (arith, pre .0 .lie .short))
 
 enum-told-3 : tie.Need-enum-told-3
 enum-told-3 c = search needs
@@ -49,7 +49,7 @@ enum-told-6 c = search needs
 put-reference-requires : tie.Need-put-reference-requires
 put-reference-requires c κs =
     let pre = c .before .before .before .before .before .before .before .before .before .pre in
-    (lies-at (pre .0 .here) (pre .0 .lie), pre .1, pre .0 .bounded, omega (arith, pre .0 .lie .short))
+    (span-fits-at (pre .0 .here) (pre .0 .lie), pre .1, pre .0 .bounded, omega (arith, pre .0 .lie .short))
 
 enum-told-7 : tie.Need-enum-told-7
 enum-told-7 c = search needs
@@ -57,7 +57,7 @@ enum-told-7 c = search needs
 text-requires : tie.Need-text-requires
 text-requires c κs =
     let pre = c .before .before .before .before .before .before .before .before .pre in
-    lies-at (pre .0 .here) (pre .0 .lie)
+    span-fits-at (pre .0 .here) (pre .0 .lie)
 
 put-string-requires : tie.Need-put-string-requires
 put-string-requires c κs =
@@ -73,7 +73,7 @@ enum-told-8 c = search needs
 text-requires-2 : tie.Need-text-requires-2
 text-requires-2 c κs =
     let pre = c .before .before .before .before .before .before .before .before .pre in
-    lies-at (pre .0 .here) (pre .0 .lie)
+    span-fits-at (pre .0 .here) (pre .0 .lie)
 
 put-string-requires-2 : tie.Need-put-string-requires-2
 put-string-requires-2 c κs =

@@ -1,8 +1,9 @@
 use Prim.Native.Nat.{_+_}
 use native.Mathlib.Omega.{arith}
 use borrow.Author.Needs.{needs}
-use Rattle.kept.specs.Kept.{role-of-number}
-use Rattle.texts.specs.Rolls.{lie-less, arrays}
+use Rattle.load_tokens.specs.Arrays.{role-of-number}
+use Rattle.load_spans.specs.laws.Roles.{spans-fit-less}
+use Rattle.load_spans.specs.Roles.{arrays}
 use Rattle.load_flags.specs.Tokens.{texts-at, tokens-in}
 use Rattle.load_records.specs.laws.Bounds.{bounded-more}
 use Rattle.load_records.specs.laws.Tokens.{cut-is, gap-end}
@@ -23,7 +24,7 @@ pass-requires c κs =
     let pre = c .before .before .before .before .before .before .before .before .before .pre in (
       record {
         lie =
-            lie-less (gap-end 8 5 (a .roles .now) (a .i + 1) (a .n) (c .before .next .result) (omega (arith, pre .2)) (c .before .next .ensures))
+            spans-fit-less (gap-end 8 5 (a .roles .now) (a .i + 1) (a .n) (c .before .next .result) (omega (arith, pre .2)) (c .before .next .ensures))
             (pre .0 .lie);
         head = record { some = omega arith; known = omega arith };
         part = record { some = omega arith; known = omega arith };
@@ -37,7 +38,7 @@ pass-requires-2 c κs =
     let a = c .before .before .before .before .before .before .before .before .before .before .before .before .before .args in
     let end = c .before .before .before .before .before .next in
     let pre = c .before .before .before .before .before .before .before .before .before .before .before .before .before .pre in
-    let less = lie-less (gap-end 8 5 (a .roles .now) (a .i + 1) (a .n) (end .result) (omega (arith, pre .2)) (end .ensures)) (pre .0 .lie) in (record { lie = less; head = record { some = omega arith; known = omega arith }; part = record { some = omega arith; known = omega arith }; bounded = bounded-on (c .before .before .before .pass .ensures) (bounded-more (omega arith) (bounded-tokens less (role-of-number 12) (role-of-number 12) (texts-at (a .s .now) (a .starts .now) (a .ends .now) (a .uags .now)) (a .work) (a .i + 1) (pre .1))) }, pre .0 .hosts)
+    let less = spans-fit-less (gap-end 8 5 (a .roles .now) (a .i + 1) (a .n) (end .result) (omega (arith, pre .2)) (end .ensures)) (pre .0 .lie) in (record { lie = less; head = record { some = omega arith; known = omega arith }; part = record { some = omega arith; known = omega arith }; bounded = bounded-on (c .before .before .before .pass .ensures) (bounded-more (omega arith) (bounded-tokens less (role-of-number 12) (role-of-number 12) (texts-at (a .s .now) (a .starts .now) (a .ends .now) (a .uags .now)) (a .work) (a .i + 1) (pre .1))) }, pre .0 .hosts)
 
 same-length : tie.Need-same-length
 same-length c = search needs

@@ -4,12 +4,13 @@ use mathlib.Core.List.{List}
 use Prim.Native.Nat.{ℕ, _+_, _*_, _-_, _≤_}
 use native.Mathlib.Omega.{arith}
 use lib.ListN.{length}
-use Rattle.lists.specs.Every.{Every, every-run}
-use Rattle.grammar.specs.declared.Role.{Role}
-use Rattle.grammar.specs.declared.Role.the-variants.{AsgName, RuleWord, UagNamed, HagNamed}
-use Rattle.grammar.specs.Reading.{Said}
-use Rattle.file.specs.Contents.{says, until}
-use Rattle.texts.specs.Rolls.{Lie, arrays}
+use Rattle.spec_lists.specs.Every.{Every}
+use Rattle.spec_lists.specs.laws.Every.{every-run}
+use Rattle.spec_grammar.specs.declared.Role.{Role}
+use Rattle.spec_grammar.specs.declared.Role.the-variants.{AsgName, RuleWord, UagNamed, HagNamed}
+use Rattle.spec_grammar.specs.Sentence.{Tagged}
+use Rattle.spec_file.specs.Contents.{has-role, until}
+use Rattle.load_spans.specs.Roles.{Spans-fit, arrays}
 use Rattle.load_flags.specs.Tokens.{cut, tokens-in}
 use Rattle.load_records.specs.declared.Cursor.{Cursor}
 use Rattle.load_records.specs.declared.Work.{Work}
@@ -25,21 +26,21 @@ pub bounded-on : {b c : List ℕ} {k : ℕ} {p t r : Cursor} {bs : List ℕ} →
 bounded-on d n = rw (d .moved) n
 
 bounded-moves :
-    (q m : Role) (names : List (List ℕ)) (w : Work) {b : ℕ} {p : Cursor} (xs : List Said) → Every Short xs → length xs ≤ 16384 → Bounded b p
+    (q m : Role) (names : List (List ℕ)) (w : Work) {b : ℕ} {p : Cursor} (xs : List Tagged) → Every Short xs → length xs ≤ 16384 → Bounded b p
     → Bounded (b + 65536 * length xs) (moves q m names w xs p)
 bounded-moves q m names w = each-bounded q (move q m names w) 65536 (λ x xs b p h. bounded-move q m names w {b = b} {p = p} x {xs = xs} h)
 
 -- ---- what belongs to a rule
 
-cut-length : (xs : List Said) → length (cut RuleWord xs) ≤ length xs
-cut-length xs = omega (arith, run-length (λ x. not (says RuleWord x)) (until AsgName xs), run-length (λ x. not (says AsgName x)) xs)
+cut-length : (xs : List Tagged) → length (cut RuleWord xs) ≤ length xs
+cut-length xs = omega (arith, run-length (λ x. not (has-role RuleWord x)) (until AsgName xs), run-length (λ x. not (has-role AsgName x)) xs)
 
-cut-short-texts : {xs : List Said} → Every Short xs → Every Short (cut RuleWord xs)
-cut-short-texts e = every-run (λ x. not (says RuleWord x)) (every-run (λ x. not (says AsgName x)) e)
+cut-short-texts : {xs : List Tagged} → Every Short xs → Every Short (cut RuleWord xs)
+cut-short-texts e = every-run (λ x. not (has-role RuleWord x)) (every-run (λ x. not (has-role AsgName x)) e)
 
 module _ (w : Work) (us hs : List (List ℕ)) where
   pub bounded-rule :
-      {b : ℕ} {p : Cursor} {xs : List Said} → Every Short xs → length xs ≤ 16384 → Bounded b p → Bounded (b + 2147483648)
+      {b : ℕ} {p : Cursor} {xs : List Tagged} → Every Short xs → length xs ≤ 16384 → Bounded b p → Bounded (b + 2147483648)
       (rule-moves w us hs (cut RuleWord xs) p)
   bounded-rule {xs = xs} e l n =
       let ys = cut RuleWord xs in
@@ -48,12 +49,12 @@ module _ (w : Work) (us hs : List (List ℕ)) where
       bounded-more (omega arith) (bounded-moves HagNamed HagNamed hs w ys f few (bounded-moves UagNamed UagNamed us w ys f few n))
 
   bounded-refers :
-      {b : ℕ} {p : Cursor} (xs : List Said) → Every Short xs → length xs ≤ 16384 → Bounded b p → Bounded (b + 2147483648 * length xs) (refer-moves w us hs xs p)
+      {b : ℕ} {p : Cursor} (xs : List Tagged) → Every Short xs → length xs ≤ 16384 → Bounded b p → Bounded (b + 2147483648 * length xs) (refer-moves w us hs xs p)
   bounded-refers = each-bounded RuleWord (λ x ys c. rule-moves w us hs (cut RuleWord ys) c) 2147483648 (λ x xs b p h. bounded-rule {b = b} {p = p} {xs = xs})
 
 -- ---- the same for kept tokens
 
-module _ {s starts ends roles : List ℕ} {to : ℕ} (lie : Lie s starts ends roles to) where
+module _ {s starts ends roles : List ℕ} {to : ℕ} (lie : Spans-fit s starts ends roles to) where
   pub tokens-few : (i : ℕ) → length (tokens-in s starts ends roles i to) ≤ 16384
   tokens-few i = omega (arith, tokens-length s (arrays starts ends) roles i (to - i), lie .few)
 

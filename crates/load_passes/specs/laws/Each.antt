@@ -7,10 +7,10 @@ use native.Mathlib.Nat.{add-zero}
 use native.Mathlib.Omega.{arith}
 use lib.ListN.{length, length-append}
 use lib.Seq.{sets, length-sets}
-use Rattle.lists.specs.Every.{Every, cons}
-use Rattle.grammar.specs.declared.Role.{Role}
-use Rattle.grammar.specs.Reading.{Said}
-use Rattle.file.specs.Contents.{says}
+use Rattle.spec_lists.specs.Every.{Every, cons}
+use Rattle.spec_grammar.specs.declared.Role.{Role}
+use Rattle.spec_grammar.specs.Sentence.{Tagged}
+use Rattle.spec_file.specs.Contents.{has-role}
 use Rattle.byte_write.specs.Put.{Put}
 use Rattle.byte_write.specs.laws.Puts.{sets-sets}
 use Rattle.load_records.specs.declared.Cursor.{Cursor}
@@ -20,18 +20,18 @@ use Rattle.load_records.specs.laws.Tokens.{Short}
 use Rattle.load_passes.specs.Pass.{each-emits, each-moves}
 
 -- a token says q, or does not
-pub by-says : {P : Type 0} (q : Role) (x : Said) → (says q x ≡ true → P) → (says q x ≡ false → P) → P
-by-says {P} q x f g = go (says q x) refl
+pub by-says : {P : Type 0} (q : Role) (x : Tagged) → (has-role q x ≡ true → P) → (has-role q x ≡ false → P) → P
+by-says {P} q x f g = go (has-role q x) refl
   where
-    go : (b : Bool) → says q x ≡ b → P
+    go : (b : Bool) → has-role q x ≡ b → P
     go true e = f e
     go false e = g e
 
 -- the cursor behind one token, and so behind all, is bounded
 pub each-bounded :
-    (q : Role) (m : Said → List Said → Cursor → Cursor) (k : ℕ)
-    → ((x : Said) (xs : List Said) (b : ℕ) (p : Cursor) → Short x → Every Short xs → length xs ≤ 16384 → Bounded b p → Bounded (b + k) (m x xs p))
-    → {b : ℕ} {p : Cursor} (xs : List Said) → Every Short xs → length xs ≤ 16384 → Bounded b p → Bounded (b + k * length xs) (each-moves q m xs p)
+    (q : Role) (m : Tagged → List Tagged → Cursor → Cursor) (k : ℕ)
+    → ((x : Tagged) (xs : List Tagged) (b : ℕ) (p : Cursor) → Short x → Every Short xs → length xs ≤ 16384 → Bounded b p → Bounded (b + k) (m x xs p))
+    → {b : ℕ} {p : Cursor} (xs : List Tagged) → Every Short xs → length xs ≤ 16384 → Bounded b p → Bounded (b + k * length xs) (each-moves q m xs p)
 unfolding each-moves
 each-bounded q m k one [] e l n = bounded-more (omega arith) n
 each-bounded q m k one {b} {p} (x ∷ xs) (cons h e) l n =
@@ -42,30 +42,30 @@ each-bounded q m k one {b} {p} (x ∷ xs) (cons h e) l n =
     (λ s. rw s (bounded-more (omega arith) (each-bounded q m k one xs e (omega arith) n)))
 
 -- e: what is written for a token; m: the cursor behind it
-module _ (q : Role) (e : Said → List Said → Cursor → List ℕ) (m : Said → List Said → Cursor → Cursor) where
+module _ (q : Role) (e : Tagged → List Tagged → Cursor → List ℕ) (m : Tagged → List Tagged → Cursor → Cursor) where
   -- with xs left to write at p, the bytes b become what b₀ becomes with xs₀ at p₀
-  pub record Head (b₀ : List ℕ) (p₀ : Cursor) (xs₀ : List Said) (b : List ℕ) (p : Cursor) (xs : List Said) : Type 0 where
+  pub record Head (b₀ : List ℕ) (p₀ : Cursor) (xs₀ : List Tagged) (b : List ℕ) (p : Cursor) (xs : List Tagged) : Type 0 where
     pub same : length b ≡ length b₀
     pub bytes : sets b (p .at) (each-emits q e m xs p) ≡ sets b₀ (p₀ .at) (each-emits q e m xs₀ p₀)
     pub moved : each-moves q m xs p ≡ each-moves q m xs₀ p₀
 
-  pub head-start : (b : List ℕ) (p : Cursor) (xs : List Said) → Head b p xs b p xs
+  pub head-start : (b : List ℕ) (p : Cursor) (xs : List Tagged) → Head b p xs b p xs
   head-start b p xs = record { same = refl; bytes = refl; moved = refl }
 
-  pub head-end : {b₀ b : List ℕ} {p₀ p : Cursor} {xs₀ : List Said} → Head b₀ p₀ xs₀ b p [] → Emitted b₀ b p₀ (each-emits q e m xs₀ p₀) (each-moves q m xs₀ p₀) p
+  pub head-end : {b₀ b : List ℕ} {p₀ p : Cursor} {xs₀ : List Tagged} → Head b₀ p₀ xs₀ b p [] → Emitted b₀ b p₀ (each-emits q e m xs₀ p₀) (each-moves q m xs₀ p₀) p
   unfolding each-emits each-moves
   head-end h = record { bytes = h .bytes; moved = h .moved }
 
   pub head-miss :
-      {b₀ b : List ℕ} {p₀ p : Cursor} {xs₀ : List Said} {x : Said} {xs : List Said} → says q x ≡ false → Head b₀ p₀ xs₀ b p (x ∷ xs)
+      {b₀ b : List ℕ} {p₀ p : Cursor} {xs₀ : List Tagged} {x : Tagged} {xs : List Tagged} → has-role q x ≡ false → Head b₀ p₀ xs₀ b p (x ∷ xs)
       → Head b₀ p₀ xs₀ b p xs
   unfolding each-emits each-moves
   head-miss s h = record { same = h .same; bytes = rw s at (h .bytes); moved = rw s at (h .moved) }
 
   -- where the cursor moves by what is written
-  module _ (by : (x : Said) (xs : List Said) (p : Cursor) → m x xs p .at ≡ p .at + length (e x xs p)) where
+  module _ (by : (x : Tagged) (xs : List Tagged) (p : Cursor) → m x xs p .at ≡ p .at + length (e x xs p)) where
     pub head-hit :
-        {b₀ b c : List ℕ} {p₀ p r : Cursor} {xs₀ : List Said} {x : Said} {xs : List Said} → says q x ≡ true
+        {b₀ b c : List ℕ} {p₀ p r : Cursor} {xs₀ : List Tagged} {x : Tagged} {xs : List Tagged} → has-role q x ≡ true
         → Emitted b c p (e x xs p) (m x xs p) r → Head b₀ p₀ xs₀ b p (x ∷ xs) → Head b₀ p₀ xs₀ c r xs
     unfolding each-emits each-moves
     head-hit {b₀} {b} {c} {p₀} {p} {r} {xs₀} {x} {xs} s d h =
@@ -77,7 +77,7 @@ module _ (q : Role) (e : Said → List Said → Cursor → List ℕ) (m : Said �
           moved = rw s at (h .moved);
         })
 
-    pub each-moves-at : (xs : List Said) (p : Cursor) → each-moves q m xs p .at ≡ p .at + length (each-emits q e m xs p)
+    pub each-moves-at : (xs : List Tagged) (p : Cursor) → each-moves q m xs p .at ≡ p .at + length (each-emits q e m xs p)
     unfolding each-emits each-moves
     each-moves-at [] p = sym (add-zero (p .at))
     each-moves-at (x ∷ xs) p =
@@ -89,7 +89,7 @@ module _ (q : Role) (e : Said → List Said → Cursor → List ℕ) (m : Said �
 
     -- from a cursor that is known
     pub each-put :
-        {b c : List ℕ} (xs : List Said) {p t r : Cursor} → p ≡ t → Emitted b c p (each-emits q e m xs p) (each-moves q m xs p) r
+        {b c : List ℕ} (xs : List Tagged) {p t r : Cursor} → p ≡ t → Emitted b c p (each-emits q e m xs p) (each-moves q m xs p) r
         → Put b c (t .at) (each-emits q e m xs t) (each-moves q m xs t .at) × (r ≡ each-moves q m xs t)
     each-put {b} {c} xs {p} {t} {r} i d =
         let z = subst (λ (k : Cursor). Emitted b c k (each-emits q e m xs k) (each-moves q m xs k) r) i d in
@@ -97,8 +97,8 @@ module _ (q : Role) (e : Said → List Said → Cursor → List ℕ) (m : Said �
 
 -- what is written depends on no cursor if that for one token depends on none
 pub each-same :
-    (q : Role) (e e′ : Said → List Said → Cursor → List ℕ) (m m′ : Said → List Said → Cursor → Cursor)
-    → ((x : Said) (xs : List Said) (p t : Cursor) → e x xs p ≡ e′ x xs t) → (xs : List Said) (p t : Cursor) → each-emits q e m xs p ≡ each-emits q e′ m′ xs t
+    (q : Role) (e e′ : Tagged → List Tagged → Cursor → List ℕ) (m m′ : Tagged → List Tagged → Cursor → Cursor)
+    → ((x : Tagged) (xs : List Tagged) (p t : Cursor) → e x xs p ≡ e′ x xs t) → (xs : List Tagged) (p t : Cursor) → each-emits q e m xs p ≡ each-emits q e′ m′ xs t
 unfolding each-emits
 each-same q e e′ m m′ one [] p t = refl
 each-same q e e′ m m′ one (x ∷ xs) p t =

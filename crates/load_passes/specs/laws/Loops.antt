@@ -5,11 +5,12 @@ use Prim.Native.Nat.{ℕ, _+_, _*_, _≤_, _<_}
 use native.Mathlib.Omega.{arith}
 use lib.ListN.{length, length-append, getD}
 use borrow.Author.Tests.{eq-eqb, ne-eqb}
-use Rattle.grammar.specs.declared.Role.{Role}
-use Rattle.grammar.specs.declared.Role.the-variants.{RuleWord, UagNamed, HagNamed}
-use Rattle.grammar.specs.Reading.{Said}
-use Rattle.kept.specs.Kept.{role-of-number, said-at}
-use Rattle.texts.specs.Rolls.{Telling, Lie, arrays, tokens-step, tokens-none, same-number}
+use Rattle.spec_grammar.specs.declared.Role.{Role}
+use Rattle.spec_grammar.specs.declared.Role.the-variants.{RuleWord, UagNamed, HagNamed}
+use Rattle.spec_grammar.specs.Sentence.{Tagged}
+use Rattle.load_tokens.specs.Arrays.{role-of-number, tagged-at}
+use Rattle.load_spans.specs.Roles.{Role-code, Spans-fit, arrays}
+use Rattle.load_spans.specs.laws.Roles.{tokens-step, tokens-none, same-number}
 use Rattle.byte_write.specs.Put.{Put}
 use Rattle.byte_write.specs.laws.Puts.{put-put}
 use Rattle.load_flags.specs.Tokens.{cut, texts-at, tokens-in}
@@ -28,16 +29,16 @@ use Rattle.load_passes.specs.laws.Each.{Head, each-moves-at, each-put, h
 -- ---- a pass, the references of one rule, and those of all rules: where the cursor stands behind them
 
 module _ (q m : Role) (names : List (List ℕ)) (w : Work) where
-  pub moves-at : (xs : List Said) (p : Cursor) → moves q m names w xs p .at ≡ p .at + length (emits q m names w xs p)
+  pub moves-at : (xs : List Tagged) (p : Cursor) → moves q m names w xs p .at ≡ p .at + length (emits q m names w xs p)
   moves-at = each-moves-at q (emit q m names w) (move q m names w) (λ x xs p. refl)
 
   pub pass-put :
-      {b c : List ℕ} (xs : List Said) {p t r : Cursor} → p ≡ t → Emitted b c p (emits q m names w xs p) (moves q m names w xs p) r
+      {b c : List ℕ} (xs : List Tagged) {p t r : Cursor} → p ≡ t → Emitted b c p (emits q m names w xs p) (moves q m names w xs p) r
       → Put b c (t .at) (emits q m names w xs t) (moves q m names w xs t .at) × (r ≡ moves q m names w xs t)
   pass-put = each-put q (emit q m names w) (move q m names w) (λ x xs p. refl)
 
 module _ (w : Work) (us hs : List (List ℕ)) where
-  rule-moves-at : (ys : List Said) (p : Cursor) → rule-moves w us hs ys p .at ≡ p .at + length (rule-emits w us hs ys p)
+  rule-moves-at : (ys : List Tagged) (p : Cursor) → rule-moves w us hs ys p .at ≡ p .at + length (rule-emits w us hs ys p)
   rule-moves-at ys p =
       let t = moves UagNamed UagNamed us w ys p in
       omega (
@@ -47,23 +48,23 @@ module _ (w : Work) (us hs : List (List ℕ)) where
         length-append (emits UagNamed UagNamed us w ys p) (emits HagNamed HagNamed hs w ys t),
       )
 
-  abbrev rule-e : Said → List Said → Cursor → List ℕ
+  abbrev rule-e : Tagged → List Tagged → Cursor → List ℕ
   rule-e x xs p = rule-emits w us hs (cut RuleWord xs) p
 
-  abbrev rule-m : Said → List Said → Cursor → Cursor
+  abbrev rule-m : Tagged → List Tagged → Cursor → Cursor
   rule-m x xs p = rule-moves w us hs (cut RuleWord xs) p
 
-  pub refer-moves-at : (xs : List Said) (p : Cursor) → refer-moves w us hs xs p .at ≡ p .at + length (refer-emits w us hs xs p)
+  pub refer-moves-at : (xs : List Tagged) (p : Cursor) → refer-moves w us hs xs p .at ≡ p .at + length (refer-emits w us hs xs p)
   refer-moves-at = each-moves-at RuleWord rule-e rule-m (λ x xs p. rule-moves-at (cut RuleWord xs) p)
 
   pub references-put :
-      {b c : List ℕ} (xs : List Said) {p t r : Cursor} → p ≡ t → Emitted b c p (refer-emits w us hs xs p) (refer-moves w us hs xs p) r
+      {b c : List ℕ} (xs : List Tagged) {p t r : Cursor} → p ≡ t → Emitted b c p (refer-emits w us hs xs p) (refer-moves w us hs xs p) r
       → Put b c (t .at) (refer-emits w us hs xs t) (refer-moves w us hs xs t .at) × (r ≡ refer-moves w us hs xs t)
   references-put = each-put RuleWord rule-e rule-m (λ x xs p. rule-moves-at (cut RuleWord xs) p)
 
   -- user groups, then host groups
   pub rule-done :
-      {b c d : List ℕ} {p u r : Cursor} (xs ys : List Said) → cut RuleWord xs ≡ ys
+      {b c d : List ℕ} {p u r : Cursor} (xs ys : List Tagged) → cut RuleWord xs ≡ ys
       → Emitted b c p (emits UagNamed UagNamed us w ys p) (moves UagNamed UagNamed us w ys p) u
       → Emitted c d u (emits HagNamed HagNamed hs w ys u) (moves HagNamed HagNamed hs w ys u) r
       → Emitted b d p (rule-emits w us hs (cut RuleWord xs) p) (rule-moves w us hs (cut RuleWord xs) p) r
@@ -71,21 +72,21 @@ module _ (w : Work) (us hs : List (List ℕ)) where
       let a = pass-put UagNamed UagNamed us w ys refl l in
       let z = pass-put HagNamed HagNamed hs w ys (a .1) m in
       subst
-      (λ (ys : List Said). Emitted b d p (rule-emits w us hs ys p) (rule-moves w us hs ys p) r)
+      (λ (ys : List Tagged). Emitted b d p (rule-emits w us hs ys p) (rule-moves w us hs ys p) r)
       (sym e)
       (record { bytes = put-put (a .0) (z .0) .bytes; moved = z .1 })
 
 -- ---- a turn of a loop over kept tokens
 
 module _
-    (q : ℕ) (e : Said → List Said → Cursor → List ℕ) (m : Said → List Said → Cursor → Cursor) (s starts ends roles : List ℕ) (tq : Telling q)
-    {i to : ℕ} {b₀ : List ℕ} {p₀ : Cursor} {xs₀ : List Said} where
+    (q : ℕ) (e : Tagged → List Tagged → Cursor → List ℕ) (m : Tagged → List Tagged → Cursor → Cursor) (s starts ends roles : List ℕ) (tq : Role-code q)
+    {i to : ℕ} {b₀ : List ℕ} {p₀ : Cursor} {xs₀ : List Tagged} where
   turn-hit :
-      ((x : Said) (xs : List Said) (p : Cursor) → m x xs p .at ≡ p .at + length (e x xs p))
+      ((x : Tagged) (xs : List Tagged) (p : Cursor) → m x xs p .at ≡ p .at + length (e x xs p))
       → {b c : List ℕ} {p r : Cursor} → i < to → getD roles i 0 ≡ q
       → Emitted b c p
-      (e (said-at s (arrays starts ends) roles i) (tokens-in s starts ends roles (i + 1) to) p)
-      (m (said-at s (arrays starts ends) roles i) (tokens-in s starts ends roles (i + 1) to) p)
+      (e (tagged-at s (arrays starts ends) roles i) (tokens-in s starts ends roles (i + 1) to) p)
+      (m (tagged-at s (arrays starts ends) roles i) (tokens-in s starts ends roles (i + 1) to) p)
       r
       → Head (role-of-number q) e m b₀ p₀ xs₀ b p (tokens-in s starts ends roles i to)
       → Head (role-of-number q) e m b₀ p₀ xs₀ c r (tokens-in s starts ends roles (i + 1) to)
@@ -119,10 +120,10 @@ module _
 -- ---- the loop of a pass
 
 module _ (w : Work) (q m : ℕ) (names s starts ends roles : List ℕ) (from to : ℕ) (b₀ : List ℕ) (p₀ : Cursor) where
-  abbrev pass-e : Said → List Said → Cursor → List ℕ
+  abbrev pass-e : Tagged → List Tagged → Cursor → List ℕ
   pass-e = emit (role-of-number q) (role-of-number m) (texts-at s starts ends names) w
 
-  abbrev pass-m : Said → List Said → Cursor → Cursor
+  abbrev pass-m : Tagged → List Tagged → Cursor → Cursor
   pass-m = move (role-of-number q) (role-of-number m) (texts-at s starts ends names) w
 
   -- at the i-th token
@@ -135,26 +136,26 @@ module _ (w : Work) (q m : ℕ) (names s starts ends roles : List ℕ) (from to 
       record { bounded = bounded-more (omega arith) n; head = head-start (role-of-number q) pass-e pass-m b₀ p₀ (tokens-in s starts ends roles from to) }
 
   pub pass-hit :
-      {b c : List ℕ} {p r : Cursor} {i : ℕ} → Telling q → Lie s starts ends roles to → i < to → getD roles i 0 ≡ q → Pass-head b p i
+      {b c : List ℕ} {p r : Cursor} {i : ℕ} → Role-code q → Spans-fit s starts ends roles to → i < to → getD roles i 0 ≡ q → Pass-head b p i
       → Step w q m names s starts ends roles i to b c p r → Pass-head c r (i + 1)
   pass-hit {p = p} {i = i} tq lie h g l d =
       let short = between-limit s (getD starts i 0) (getD ends i 0) (lie .short) in
-      let one = bounded-move (role-of-number q) (role-of-number m) (texts-at s starts ends names) w {p = p} (said-at s (arrays starts ends) roles i) short in
+      let one = bounded-move (role-of-number q) (role-of-number m) (texts-at s starts ends names) w {p = p} (tagged-at s (arrays starts ends) roles i) short in
       record {
         bounded = bounded-on d (bounded-more (omega arith) (one (tokens-all-short lie (i + 1)) (tokens-few lie (i + 1)) (l .bounded)));
         head = turn-hit q pass-e pass-m s starts ends roles tq (λ x xs p. refl) h g d (l .head);
       }
 
-  pub pass-miss : {b : List ℕ} {p : Cursor} {i : ℕ} → Telling q → i < to → (getD roles i 0 ≡ q → ⊥) → Pass-head b p i → Pass-head b p (i + 1)
+  pub pass-miss : {b : List ℕ} {p : Cursor} {i : ℕ} → Role-code q → i < to → (getD roles i 0 ≡ q → ⊥) → Pass-head b p i → Pass-head b p (i + 1)
   pass-miss tq h g l =
       record { bounded = bounded-more (omega arith) (l .bounded); head = turn-miss q pass-e pass-m s starts ends roles tq h g (l .head) }
 
-  pub pass-end : {b : List ℕ} {p : Cursor} {i : ℕ} → Telling q → to ≤ i → Pass-head b p i → Passed w q m names s starts ends roles from to b₀ b p₀ p
+  pub pass-end : {b : List ℕ} {p : Cursor} {i : ℕ} → Role-code q → to ≤ i → Pass-head b p i → Passed w q m names s starts ends roles from to b₀ b p₀ p
   pass-end tq h l = turn-end q pass-e pass-m s starts ends roles tq h (l .head)
 
 -- ---- the loop over rules
 
-pub rule-word-known : Telling 8
+pub rule-word-known : Role-code 8
 rule-word-known = record { some = omega arith; known = omega arith }
 
 module _ (w : Work) (s starts ends roles uags hags : List ℕ) (from to : ℕ) (b₀ : List ℕ) (p₀ : Cursor) where
@@ -176,7 +177,7 @@ module _ (w : Work) (s starts ends roles uags hags : List ℕ) (from to : ℕ) (
       }
 
   pub rules-hit :
-      {b c : List ℕ} {p r : Cursor} {i : ℕ} → Lie s starts ends roles to → i < to → getD roles i 0 ≡ 8 → Rules-head b p i
+      {b c : List ℕ} {p r : Cursor} {i : ℕ} → Spans-fit s starts ends roles to → i < to → getD roles i 0 ≡ 8 → Rules-head b p i
       → Rule-passed w s starts ends roles uags hags i to b c p r → Rules-head c r (i + 1)
   rules-hit {i = i} lie h g l d =
       record {

@@ -1,5 +1,5 @@
 use Rattle.load_quote.specs.laws.Quotes.{goes-on, closes-at, breaks-at, never-at}
-use Rattle.token.specs.Quotes.{Inside, start}
+use Rattle.spec_token.specs.laws.Quotes.{Inside, start}
 use lib.ListN.{length}
 use native.Mathlib.Omega.{arith}
 use mathlib.Core.Path.{sym, _∙_}

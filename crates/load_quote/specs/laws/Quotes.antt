@@ -4,10 +4,10 @@ use mathlib.Core.Bool.{Bool, true, false, cond}
 use mathlib.Core.List.{List, [], _∷_}
 use Prim.Native.Nat.{ℕ, _+_, _≤_, _<_}
 use lib.ListN.{length, getD, drop}
-use Rattle.lists.specs.Text.{among}
-use Rattle.token.specs.Word.{newline}
-use Rattle.token.specs.Token.{Quoted, closed, broken, unclosed, also, quoted}
-use Rattle.token.specs.Quotes.{Inside, further, closes, breaks, never-closes}
+use Rattle.spec_lists.specs.Text.{among}
+use Rattle.spec_token.specs.Word.{newline}
+use Rattle.spec_token.specs.Token.{Quoted, closed, broken, also, quoted}
+use Rattle.spec_token.specs.laws.Quotes.{Inside, further, closes, breaks, never-closes}
 use Rattle.load_quote.specs.declared.Act.{Act}
 use Rattle.load_quote.specs.declared.Act.the-variants.{On, Close, Break}
 use Rattle.load_quote.specs.declared.Quote.the-variants as quote

@@ -4,10 +4,11 @@ use Prim.Native.Nat.{_+_, _-_, _≤_}
 use native.Mathlib.Omega.{arith}
 use lib.ListN.{length}
 use borrow.Author.Needs.{needs}
-use Rattle.lists.specs.SameLaws.{unchanged}
-use Rattle.grammar.specs.Reading.{Said}
-use Rattle.kept.specs.Kept.{role-of-number}
-use Rattle.texts.specs.Rolls.{arrays, lie-less}
+use Rattle.spec_lists.specs.laws.Same.{unchanged}
+use Rattle.spec_grammar.specs.Sentence.{Tagged}
+use Rattle.load_tokens.specs.Arrays.{role-of-number}
+use Rattle.load_spans.specs.Roles.{arrays}
+use Rattle.load_spans.specs.laws.Roles.{spans-fit-less}
 use Rattle.load_flags.specs.Tokens.{first-text}
 use Rattle.load_records.specs.laws.Cursors.{emitted-text}
 use Rattle.load_records.specs.laws.Tokens.{cut-is, first-short, gap-end, tokens-short}
@@ -27,7 +28,7 @@ first-text-requires : tie.Need-first-text-requires
 first-text-requires c κs =
     let a = c .before .before .before .before .before .before .args in
     let pre = c .before .before .before .before .before .before .pre in (
-      lie-less (gap-end (a .q) 5 (a .roles .now) (a .i + 1) (a .to) (c .next .result) (omega (arith, pre .here)) (c .next .ensures)) (pre .lie),
+      spans-fit-less (gap-end (a .q) 5 (a .roles .now) (a .i + 1) (a .to) (c .next .result) (omega (arith, pre .here)) (c .next .ensures)) (pre .lie),
       pre .part,
     )
 
@@ -51,7 +52,7 @@ returns c =
     emitted-text
     (unchanged (by-first-text .result .now)
     ∙ by-first-text .ensures
-    ∙ ap (λ (x : List Said). first-text (role-of-number (a .m)) x)
+    ∙ ap (λ (x : List Tagged). first-text (role-of-number (a .m)) x)
     (sym
     (cut-is (a .s .now) (arrays (a .starts .now) (a .ends .now)) (a .roles .now) (a .q) (a .m) (a .i + 1) (a .to) (end .result) (pre .head)
     (pre .part) (end .ensures))))

@@ -5,9 +5,10 @@ use native.Mathlib.Nat.{add-zero}
 use native.Mathlib.Omega.{arith}
 use lib.ListN.{getD}
 use borrow.Author.Needs.{needs}
-use Rattle.lists.specs.Words.{spelled-out}
-use Rattle.texts.specs.Lies.{lies-at}
-use Rattle.texts.specs.Rolls.{arrays, tally-bound}
+use Rattle.spec_lists.specs.Words.{spelled-out}
+use Rattle.load_spans.specs.laws.Spans.{span-fits-at}
+use Rattle.load_spans.specs.Roles.{arrays}
+use Rattle.load_spans.specs.laws.Roles.{tally-bound}
 use Rattle.byte_write.specs.laws.Puts.{put-put}
 use Rattle.load_records.specs.laws.Cursors.{emitted}
 use Rattle.load_records.specs.laws.Tokens.{between-limit, counted-until, gap-end}
@@ -15,7 +16,7 @@ use Rattle.load_records.proofs.put_group.Statement.{statement}
 use Rattle.load_records.proofs.put_group.Tie as tie
 
 long-requires : tie.Need-long-requires
-long-requires c κs = lies-at (c .before .before .before .before .before .pre .here) (c .before .before .before .before .before .pre .lie)
+long-requires c κs = span-fits-at (c .before .before .before .before .before .pre .here) (c .before .before .before .before .before .pre .lie)
 
 add-next : tie.Need-add-next
 add-next c = search needs

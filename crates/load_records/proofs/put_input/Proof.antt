@@ -5,11 +5,12 @@ use native.Mathlib.Nat.{add-zero}
 use native.Mathlib.Omega.{arith}
 use lib.ListN.{length}
 use borrow.Author.Needs.{needs}
-use Rattle.lists.specs.Words.{spelled-out}
-use Rattle.grammar.specs.Reading.{Said}
-use Rattle.kept.specs.Kept.{role-of-number}
-use Rattle.texts.specs.Lies.{lies-at}
-use Rattle.texts.specs.Rolls.{arrays, lie-less}
+use Rattle.spec_lists.specs.Words.{spelled-out}
+use Rattle.spec_grammar.specs.Sentence.{Tagged}
+use Rattle.load_tokens.specs.Arrays.{role-of-number}
+use Rattle.load_spans.specs.laws.Spans.{span-fits-at}
+use Rattle.load_spans.specs.Roles.{arrays}
+use Rattle.load_spans.specs.laws.Roles.{spans-fit-less}
 use Rattle.load_flags.specs.Tokens.{first-text}
 use Rattle.load_records.specs.laws.Cursors.{emitted}
 use Rattle.load_records.specs.laws.Tokens.{cut-is, gap-end}
@@ -29,14 +30,14 @@ first-text-requires : tie.Need-first-text-requires
 first-text-requires c κs =
     let a = c .before .before .before .before .before .before .args in
     let pre = c .before .before .before .before .before .before .pre in (
-      lie-less (gap-end (a .q) 5 (a .roles .now) (a .i + 1) (a .to) (c .next .result) (omega (arith, pre .here)) (c .next .ensures)) (pre .lie),
+      spans-fit-less (gap-end (a .q) 5 (a .roles .now) (a .i + 1) (a .to) (c .next .result) (omega (arith, pre .here)) (c .next .ensures)) (pre .lie),
       pre .part,
     )
 
 letter-requires : tie.Need-letter-requires
 letter-requires c κs =
     let pre = c .before .before .before .before .before .before .before .before .pre in
-    lies-at (pre .here) (pre .lie)
+    span-fits-at (pre .here) (pre .lie)
 
 put-three-requires : tie.Need-put-three-requires
 put-three-requires c κs = search needs
@@ -57,14 +58,14 @@ returns c =
     (ap₂ (λ (k n : ℕ). spelled-out (k ∷ (a .p .string) ∷ n ∷ [])) (c .before .before .before .before .letter .ensures)
     (ap length
     (by-first-text .ensures
-    ∙ ap (λ (x : List Said). first-text (role-of-number (a .m)) x)
+    ∙ ap (λ (x : List Tagged). first-text (role-of-number (a .m)) x)
     (sym
     (cut-is (a .s .now) (arrays (a .starts .now) (a .ends .now)) (a .roles .now) (a .q) (a .m) (a .i + 1) (a .to) (end .result) (pre .head)
     (pre .part) (end .ensures))))))
     (ap (λ (n : ℕ). (a .p .string) + n)
     (ap length
     (by-first-text .ensures
-    ∙ ap (λ (x : List Said). first-text (role-of-number (a .m)) x)
+    ∙ ap (λ (x : List Tagged). first-text (role-of-number (a .m)) x)
     (sym
     (cut-is (a .s .now) (arrays (a .starts .now) (a .ends .now)) (a .roles .now) (a .q) (a .m) (a .i + 1) (a .to) (end .result) (pre .head)
     (pre .part) (end .ensures))))))

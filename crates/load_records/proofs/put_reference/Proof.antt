@@ -5,7 +5,7 @@ use native.Mathlib.Nat.{add-zero}
 use native.Mathlib.Omega.{arith}
 use lib.ListN.{getD}
 use borrow.Author.Needs.{needs}
-use Rattle.lists.specs.Words.{spelled-out}
+use Rattle.spec_lists.specs.Words.{spelled-out}
 use Rattle.load_records.specs.laws.Cursors.{emitted}
 use Rattle.load_records.specs.laws.Tokens.{between-short}
 use Rattle.load_records.proofs.put_reference.Statement.{statement}

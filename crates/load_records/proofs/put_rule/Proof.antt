@@ -5,11 +5,12 @@ use native.Mathlib.Nat.{add-zero}
 use native.Mathlib.Omega.{arith}
 use lib.ListN.{length}
 use borrow.Author.Needs.{needs}
-use Rattle.grammar.specs.Reading.{Said}
-use Rattle.file.specs.Contents.{rule-text}
-use Rattle.table.specs.Written.{flags}
-use Rattle.kept.specs.Kept.{role-of-number}
-use Rattle.texts.specs.Rolls.{arrays, tally-bound, lie-less}
+use Rattle.spec_grammar.specs.Sentence.{Tagged}
+use Rattle.spec_file.specs.Contents.{rule-text}
+use Rattle.spec_table.specs.Written.{flags}
+use Rattle.load_tokens.specs.Arrays.{role-of-number}
+use Rattle.load_spans.specs.Roles.{arrays}
+use Rattle.load_spans.specs.laws.Roles.{tally-bound, spans-fit-less}
 use Rattle.byte_write.specs.laws.Puts.{put-put}
 use Rattle.load_flags.specs.Tokens.{first-text}
 use Rattle.load_records.specs.laws.Cursors.{emitted}
@@ -69,7 +70,7 @@ first-text-requires c κs =
     let a = c .before .before .before .before .before .before .before .before .before .args in
     let end = c .before .before .before .next in
     let pre = c .before .before .before .before .before .before .before .before .before .pre in
-    (lie-less (gap-end (a .q) 5 (a .roles .now) (a .i + 1) (a .to) (end .result) (omega (arith, pre .here)) (end .ensures)) (pre .lie), pre .part)
+    (spans-fit-less (gap-end (a .q) 5 (a .roles .now) (a .i + 1) (a .to) (end .result) (omega (arith, pre .here)) (end .ensures)) (pre .lie), pre .part)
 
 add-flags-of : tie.Need-add-flags-of
 add-flags-of c = search needs
@@ -79,7 +80,7 @@ flags-of-requires c κs =
     let a = c .before .before .before .before .before .before .before .before .before .before .args in
     let end = c .before .before .before .before .next in
     let pre = c .before .before .before .before .before .before .before .before .before .before .pre in
-    lie-less (gap-end (a .q) 5 (a .roles .now) (a .i + 1) (a .to) (end .result) (omega (arith, pre .here)) (end .ensures)) (pre .lie)
+    spans-fit-less (gap-end (a .q) 5 (a .roles .now) (a .i + 1) (a .to) (end .result) (omega (arith, pre .here)) (end .ensures)) (pre .lie)
 
 put-three-requires : tie.Need-put-three-requires
 put-three-requires c κs = search needs
@@ -173,7 +174,7 @@ returns c =
     (c .before .before .before .before .put-two2 .ensures)))
     (rule-words (a .p .first)
     (c .before .before .before .before .before .before .before .before .before .before .before .before .before .before .before .before .flags-of .ensures
-    ∙ ap (λ (x : List Said). flags (rule-text x))
+    ∙ ap (λ (x : List Tagged). flags (rule-text x))
     (sym
     (cut-is (a .s .now) (arrays (a .starts .now) (a .ends .now)) (a .roles .now) (a .q) (a .m) (a .i + 1) (a .to) (end .result) (pre .head)
     (pre .part) (end .ensures))))
@@ -186,14 +187,14 @@ returns c =
     (by-next2 .result) (a .p .string) (length (by-first-text .result .now)) (pre .head) (pre .part) (end .ensures) (by-next2 .ensures)
     (ap length
     (by-first-text .ensures
-    ∙ ap (λ (x : List Said). first-text (role-of-number (a .m)) x)
+    ∙ ap (λ (x : List Tagged). first-text (role-of-number (a .m)) x)
     (sym
     (cut-is (a .s .now) (arrays (a .starts .now) (a .ends .now)) (a .roles .now) (a .q) (a .m) (a .i + 1) (a .to) (end .result) (pre .head)
     (pre .part) (end .ensures)))))))
     (ap (λ (n : ℕ). (a .p .string) + n)
     (ap length
     (by-first-text .ensures
-    ∙ ap (λ (x : List Said). first-text (role-of-number (a .m)) x)
+    ∙ ap (λ (x : List Tagged). first-text (role-of-number (a .m)) x)
     (sym
     (cut-is (a .s .now) (arrays (a .starts .now) (a .ends .now)) (a .roles .now) (a .q) (a .m) (a .i + 1) (a .to) (end .result) (pre .head)
     (pre .part) (end .ensures))))))

@@ -3,14 +3,14 @@ use mathlib.Core.List.{List}
 use Prim.Native.Nat.{ℕ, _≤_, _+_}
 use native.Mathlib.Omega.{arith}
 use lib.ListN.{length, length-map}
-use Rattle.lists.specs.Every.{Every}
-use Rattle.lists.specs.Runs.{Run}
-use Rattle.lists.specs.Text.{lower-byte}
-use Rattle.grammar.specs.declared.Role.{Role}
-use Rattle.grammar.specs.declared.Role.the-variants.{UagNamed, HagNamed, Input, RuleWord}
-use Rattle.grammar.specs.Reading.{Said}
-use Rattle.file.specs.Contents.{text, texts, head-of, rule-text}
-use Rattle.table.specs.Written.{flags}
+use Rattle.spec_lists.specs.Every.{Every}
+use Rattle.spec_lists.specs.Runs.{Run}
+use Rattle.spec_lists.specs.Text.{lower-byte}
+use Rattle.spec_grammar.specs.declared.Role.{Role}
+use Rattle.spec_grammar.specs.declared.Role.the-variants.{UagNamed, HagNamed, Input, RuleWord}
+use Rattle.spec_grammar.specs.Sentence.{Tagged}
+use Rattle.spec_file.specs.Contents.{text, texts, head-of, rule-text}
+use Rattle.spec_table.specs.Written.{flags}
 use Rattle.load_flags.specs.Tokens.{cut, first-text, size}
 use Rattle.load_records.specs.declared.Cursor.{Cursor}
 use Rattle.load_records.specs.declared.Work.{Work}
@@ -30,7 +30,7 @@ bounded-more h n =
     }
 
 module _ (q m : Role) (names : List (List ℕ)) where
-  emit-bound : (w : Work) (x : Said) {xs : List Said} (p : Cursor) → Short x → Every Short xs → length (emit q m names w x xs p) ≤ 16384
+  emit-bound : (w : Work) (x : Tagged) {xs : List Tagged} (p : Cursor) → Short x → Every Short xs → length (emit q m names w x xs p) ≤ 16384
   emit-bound Groups x p h e = omega arith
   emit-bound Names x p h e = omega arith
   emit-bound Access x p h e = omega arith
@@ -47,7 +47,7 @@ module _ (q m : Role) (names : List (List ℕ)) where
   emit-bound Lowered x p h e = omega (arith, length-map (text x) lower-byte)
   emit-bound Firsts x p h e = cut-short-texts m q e
 
-  named-bound : (w : Work) (x : Said) {xs : List Said} → Short x → Every Short xs → named q m names w x xs ≤ 16384
+  named-bound : (w : Work) (x : Tagged) {xs : List Tagged} → Short x → Every Short xs → named q m names w x xs ≤ 16384
   named-bound Groups x h e = h
   named-bound Names x h e = h
   named-bound Access x h e = h
@@ -58,7 +58,7 @@ module _ (q m : Role) (names : List (List ℕ)) where
   named-bound Lowered x h e = omega arith
   named-bound Firsts x h e = omega arith
 
-  firsts-bound : (w : Work) (x : Said) (xs : List Said) → firsts q m names w x xs ≤ length xs + length xs
+  firsts-bound : (w : Work) (x : Tagged) (xs : List Tagged) → firsts q m names w x xs ≤ length xs + length xs
   firsts-bound Groups x xs = omega (arith, until-size m q xs)
   firsts-bound Names x xs = omega arith
   firsts-bound Access x xs = omega (arith, until-size Input q xs)
@@ -69,7 +69,7 @@ module _ (q m : Role) (names : List (List ℕ)) where
   firsts-bound Lowered x xs = omega arith
   firsts-bound Firsts x xs = omega arith
 
-  seconds-bound : (w : Work) (x : Said) (xs : List Said) → seconds q m names w x xs ≤ length xs
+  seconds-bound : (w : Work) (x : Tagged) (xs : List Tagged) → seconds q m names w x xs ≤ length xs
   seconds-bound Groups x xs = omega arith
   seconds-bound Names x xs = omega arith
   seconds-bound Access x xs = until-size RuleWord q xs
@@ -81,7 +81,7 @@ module _ (q m : Role) (names : List (List ℕ)) where
   seconds-bound Firsts x xs = omega arith
 
   pub bounded-move :
-      (w : Work) {b : ℕ} {p : Cursor} (x : Said) {xs : List Said} → Short x → Every Short xs → length xs ≤ 16384 → Bounded b p
+      (w : Work) {b : ℕ} {p : Cursor} (x : Tagged) {xs : List Tagged} → Short x → Every Short xs → length xs ≤ 16384 → Bounded b p
       → Bounded (b + 65536) (move q m names w x xs p)
   bounded-move w {b} {p} x {xs} h e l n =
       record {

@@ -7,19 +7,19 @@ use Prim.Native.Nat.{ℕ, _+_, _-_}
 use lib.Dec.{ltb}
 use lib.ListN.{length}
 use borrow.Author.Tests.{ltb-true, ltb-false}
-use Rattle.lists.specs.Runs.{Run}
-use Rattle.lists.specs.Words.{spelled-out}
-use Rattle.grammar.specs.Reading.{Said}
-use Rattle.file.specs.Contents.{texts, head-of}
-use Rattle.table.specs.Written.{calculation-words}
-use Rattle.kept.specs.Kept.{Arrays, role-of-number}
-use Rattle.texts.specs.Rolls.{Telling, tokens, gap}
+use Rattle.spec_lists.specs.Runs.{Run}
+use Rattle.spec_lists.specs.Words.{spelled-out}
+use Rattle.spec_grammar.specs.Sentence.{Tagged}
+use Rattle.spec_file.specs.Contents.{texts, head-of}
+use Rattle.spec_table.specs.Written.{calculation-words}
+use Rattle.load_tokens.specs.Arrays.{Arrays, role-of-number}
+use Rattle.load_spans.specs.Roles.{Role-code, tokens, gap}
 use Rattle.load_flags.specs.Tokens.{cut, first-text}
 use Rattle.load_records.specs.laws.Tokens.{first-in, none-in}
 
 -- what stands for a calculation, from where the code finds it: at j, or nowhere before e
 pub calculation-is :
-    (s : List ℕ) (ar : Arrays) (roles : List ℕ) (q m i to e j o len : ℕ) → Telling q → Telling m
+    (s : List ℕ) (ar : Arrays) (roles : List ℕ) (q m i to e j o len : ℕ) → Role-code q → Role-code m
     → e ≡ i + gap q 5 roles i (to - i) → j ≡ i + gap m m roles i (e - i)
     → len ≡ length (first-text (role-of-number m) (cut (role-of-number q) (tokens s ar roles i to)))
     → cond (ltb j e) o 0 ∷ len ∷ []
@@ -28,7 +28,7 @@ pub calculation-is :
     (record { first = o; count = length (first-text (role-of-number m) (cut (role-of-number q) (tokens s ar roles i to))) })
 calculation-is s ar roles q m i to e j o len tq tm h g l = go (ltb j e) refl
   where
-    xs : List Said
+    xs : List Tagged
     xs = cut (role-of-number q) (tokens s ar roles i to)
 
     go :

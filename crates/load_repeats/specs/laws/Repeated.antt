@@ -3,19 +3,17 @@ use mathlib.Core.Path.{_≡_, refl, ap, _∙_}
 use mathlib.Core.Bool.{Bool, true, false, not, _&&_, _||_}
 use mathlib.Core.List.{List, [], _∷_}
 use Prim.Native.Nat.{ℕ, min}
-use Rattle.lists.specs.Select.{any, run}
-use Rattle.token.specs.Token.{Token}
-use Rattle.grammar.specs.declared.Role.{Role}
-use Rattle.grammar.specs.declared.Role.the-variants.{Mute, UagName, User, HagName, Host, AsgName, Input, Pvname, RuleWord, Level, Permission}
-use Rattle.grammar.specs.declared.Role.the-variants.{LogOption, UagNamed, HagNamed, CalcWord, Calculation, UnknownItem, UnknownPredicate}
-use Rattle.grammar.specs.Role.{same-role}
-use Rattle.grammar.specs.Reading.{Said}
-use Rattle.file.specs.Contents.{says, until}
-use Rattle.file.specs.Refusal.{Context, given-again}
-use Rattle.file.specs.Counted.{role-is}
-use Rattle.texts.specs.Rolls.{arrays, tokens}
-use Rattle.texts.specs.Seek.{seek-same, seek-either}
-use Rattle.texts.specs.Search.{first-of}
+use Rattle.spec_lists.specs.Select.{any, run}
+use Rattle.spec_grammar.specs.declared.Role.{Role}
+use Rattle.spec_grammar.specs.declared.Role.the-variants.{UagName, HagName, AsgName, Input, RuleWord, CalcWord}
+use Rattle.spec_grammar.specs.Codes.{same-role}
+use Rattle.spec_grammar.specs.Sentence.{Tagged}
+use Rattle.spec_file.specs.Contents.{has-role, until}
+use Rattle.spec_file.specs.Refusal.{Context, given-again}
+use Rattle.spec_file.specs.laws.Counted.{role-is}
+use Rattle.load_spans.specs.Roles.{arrays, tokens}
+use Rattle.load_spans.specs.laws.Seek.{seek-same, seek-either}
+use Rattle.load_spans.specs.Search.{first-of}
 use Rattle.load_repeats.specs.Repeated.{since, repeated, name-repeated}
 
 module _ {A : Type 0} (p q : A → Bool) (e : (x : A) → p x ≡ q x) where
@@ -32,24 +30,24 @@ run-all [] = refl
 run-all (x ∷ xs) = ap (λ (l : List _). x ∷ l) (run-all xs)
 
 -- nothing ends the scope of a name
-since-ever : (q : Role) (xs : List Said) → since q q xs ≡ xs
-since-ever q xs = run-same _ (λ x. true) (λ x. go (says q x)) xs ∙ run-all xs
+since-ever : (q : Role) (xs : List Tagged) → since q q xs ≡ xs
+since-ever q xs = run-same _ (λ x. true) (λ x. go (has-role q x)) xs ∙ run-all xs
   where
     go : (b : Bool) → not (not b && b) ≡ true
     go true = refl
     go false = refl
 
 -- the scope of a token of another role reaches back to the last token of the role stop
-since-until : (q stop : Role) → same-role stop q ≡ false → (xs : List Said) → since q stop xs ≡ until stop xs
-since-until q stop d xs = run-same _ _ (λ x. go x (says stop x) refl) xs
+since-until : (q stop : Role) → same-role stop q ≡ false → (xs : List Tagged) → since q stop xs ≡ until stop xs
+since-until q stop d xs = run-same _ _ (λ x. go x (has-role stop x) refl) xs
   where
     other : (b : Bool) → not (not b && false) ≡ true
     other true = refl
     other false = refl
 
-    go : (x : Said) (b : Bool) → says stop x ≡ b → not (not (says q x) && b) ≡ not b
+    go : (x : Tagged) (b : Bool) → has-role stop x ≡ b → not (not (has-role q x) && b) ≡ not b
     go x true e = rw (ap (λ (r : Role). same-role r q) (role-is stop x e), d)
-    go x false e = other (says q x)
+    go x false e = other (has-role q x)
 
 -- the roles of 7, each with the role that ends its scope
 abbrev repeated-any : Context → Bool
@@ -59,11 +57,11 @@ repeated-any c = name-repeated c || (repeated Input AsgName c || repeated CalcWo
 again-repeated : (c : Context) → given-again c ≡ repeated-any c
 again-repeated c =
     rw (
-      since-ever UagName (c .before),
-      since-ever HagName (c .before),
-      since-ever AsgName (c .before),
-      since-until Input AsgName refl (c .before),
-      since-until CalcWord RuleWord refl (c .before),
+      since-ever UagName (c .backwards),
+      since-ever HagName (c .backwards),
+      since-ever AsgName (c .backwards),
+      since-until Input AsgName refl (c .backwards),
+      since-until CalcWord RuleWord refl (c .backwards),
     )
 
 module _ (s starts ends roles : List ℕ) (n : ℕ) where

@@ -1,6 +1,6 @@
 use Rattle.load_elements.specs.laws.Stacks.{then, unread}
 use Rattle.load_strings.specs.laws.Enclosed.{braces-come, no-braces-come}
-use Rattle.grammar.specs.Reader.{once, often, rule-item, rule-block}
+use Rattle.spec_grammar.specs.Reader.{once, often, rule-item, rule-block}
 use mathlib.Core.List.{_∷_}
 use native.Mathlib.Omega.{arith}
 use mathlib.Core.Path.{refl}

@@ -2,8 +2,8 @@ use Rattle.load_elements.specs.laws.Tokens.{Loops, loop-begins}
 use Rattle.load_elements.specs.laws.Stacks.{then, when}
 use Rattle.load_elements.specs.laws.Kinds.{some-remain}
 use Rattle.load_elements.specs.Reads.{expected, remaining}
-use Rattle.grammar.specs.Reader.{once, often, rule-item, mute}
-use Rattle.token.specs.declared.Kind.the-variants as kind
+use Rattle.spec_grammar.specs.Reader.{once, often, rule-item, mute}
+use Rattle.spec_token.specs.declared.Kind.the-variants as kind
 use borrow.Author.Tests.{lt-ltb, le-leb}
 use lib.Dec.{ltb, leb}
 use native.Mathlib.Omega.{arith}

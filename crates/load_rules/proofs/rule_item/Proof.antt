@@ -1,7 +1,7 @@
 use mathlib.Core.Path.{refl}
 use mathlib.Core.List.{[], _∷_}
 use native.Mathlib.Omega.{arith}
-use Rattle.grammar.specs.Reader.{headed, perhaps, block, inner}
+use Rattle.spec_grammar.specs.Reader.{headed, perhaps, block, inner}
 use Rattle.load_rules.specs.laws.Rules.{name-or-low}
 use Rattle.load_rules.specs.Rules.{name-or-string}
 use Rattle.load_elements.specs.laws.Stacks.{at, when-as}

@@ -1,7 +1,7 @@
 use Prim.Native.Nat.{_+_}
 use native.Mathlib.Omega.{arith}
 use borrow.Author.Needs.{needs}
-use Rattle.texts.specs.Rolls.{arrays}
+use Rattle.load_spans.specs.Roles.{arrays}
 use Rattle.load_flags.specs.Tokens.{texts-at, tokens-in}
 use Rattle.load_records.specs.declared.Work.the-variants.{Texts}
 use Rattle.load_records.specs.laws.Bounds.{bounded-more}

@@ -2,7 +2,8 @@ use mathlib.Core.Path.{_∙_, sym}
 use Prim.Native.Nat.{_-_}
 use native.Mathlib.Omega.{arith}
 use borrow.Author.Needs.{needs}
-use Rattle.texts.specs.Rolls.{arrays, tally-is}
+use Rattle.load_spans.specs.Roles.{arrays}
+use Rattle.load_spans.specs.laws.Roles.{tally-is}
 use Rattle.load_flags.specs.Tokens.{texts-at, tokens-in}
 use Rattle.load_records.specs.declared.Work.the-variants.{References}
 use Rattle.load_records.specs.laws.Bounds.{bounded-more}

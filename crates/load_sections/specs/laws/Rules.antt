@@ -4,12 +4,12 @@ use mathlib.Core.Path.{_≡_, refl}
 use Prim.Native.Nat.{ℕ, _*_, _+_}
 use native.Mathlib.Omega.{arith}
 use lib.ListN.{length, length-append}
-use Rattle.lists.specs.Runs.{Run}
-use Rattle.grammar.specs.declared.Role.{Role}
-use Rattle.grammar.specs.declared.Role.the-variants.{UagNamed, HagNamed}
-use Rattle.grammar.specs.Reading.{Said}
-use Rattle.file.specs.Contents.{texts, head-of, rule-text}
-use Rattle.table.specs.Written.{flags}
+use Rattle.spec_lists.specs.Runs.{Run}
+use Rattle.spec_grammar.specs.declared.Role.{Role}
+use Rattle.spec_grammar.specs.declared.Role.the-variants.{UagNamed, HagNamed}
+use Rattle.spec_grammar.specs.Sentence.{Tagged}
+use Rattle.spec_file.specs.Contents.{texts, head-of, rule-text}
+use Rattle.spec_table.specs.Written.{flags}
 use Rattle.load_flags.specs.Tokens.{cut, first-text, size}
 use Rattle.load_records.specs.declared.Cursor.{Cursor}
 use Rattle.load_records.specs.declared.Work.the-variants.{Rules}
@@ -19,13 +19,13 @@ use Rattle.load_passes.specs.Pass.{each-emits, emits}
 use Rattle.load_passes.specs.laws.Each.{by-says}
 
 module _ (q m : Role) (names : List (List ℕ)) where
-  one-rule : (x : Said) (xs : List Said) (p : Cursor) → length (emit q m names Rules x xs p) ≡ 14
+  one-rule : (x : Tagged) (xs : List Tagged) (p : Cursor) → length (emit q m names Rules x xs p) ≡ 14
   one-rule x xs p =
       let r : Run = record { first = p .string; count = length (first-text m (cut q xs)) } in
       let u = size UagNamed (cut q xs) in
       rule-length (flags (rule-text (cut q xs))) (p .first) u (p .first + u) (size HagNamed (cut q xs)) (head-of (texts m (cut q xs))) r
 
-  pub rules-bytes : (xs : List Said) (p : Cursor) → length (emits q m names Rules xs p) ≡ 14 * size q xs
+  pub rules-bytes : (xs : List Tagged) (p : Cursor) → length (emits q m names Rules xs p) ≡ 14 * size q xs
   unfolding each-emits
   rules-bytes [] p = refl
   rules-bytes (x ∷ xs) p =

@@ -3,10 +3,11 @@ use mathlib.Core.List.{List, []}
 use mathlib.Core.Path.{_≡_, sym, refl, ap}
 use Prim.Native.Nat.{ℕ, _+_, _-_, _*_, _≤_}
 use native.Mathlib.Omega.{arith}
-use Rattle.grammar.specs.declared.Role.the-variants.{UagName, User, HagName, Host, AsgName, Input, Pvname, RuleWord, Calculation}
-use Rattle.grammar.specs.Reading.{Said}
-use Rattle.kept.specs.Kept.{Arrays, role-of-number}
-use Rattle.texts.specs.Rolls.{Lie, tally, tally-bound, Telling, tokens, gap, after-one}
+use Rattle.spec_grammar.specs.declared.Role.the-variants.{UagName, User, HagName, Host, AsgName, Input, Pvname, RuleWord, Calculation}
+use Rattle.spec_grammar.specs.Sentence.{Tagged}
+use Rattle.load_tokens.specs.Arrays.{Arrays, role-of-number}
+use Rattle.load_spans.specs.Roles.{Spans-fit, tally, Role-code, tokens, gap}
+use Rattle.load_spans.specs.laws.Roles.{tally-bound, after-one}
 use Rattle.byte_write.specs.laws.Puts.{put-before, put-put}
 use Rattle.load_flags.specs.Tokens.{size}
 use Rattle.load_records.specs.declared.Cursor.{Cursor}
@@ -19,22 +20,22 @@ use Rattle.load_sections.specs.laws.Rules.{rules-bytes}
 
 -- the tokens from the first of a role on
 pub from-is :
-    (s : List ℕ) (ar : Arrays) (roles : List ℕ) (q n j : ℕ) → Telling q → j ≡ 0 + gap q q roles 0 (n - 0)
+    (s : List ℕ) (ar : Arrays) (roles : List ℕ) (q n j : ℕ) → Role-code q → j ≡ 0 + gap q q roles 0 (n - 0)
     → tokens s ar roles j n ≡ from (role-of-number q) (tokens s ar roles 0 n)
 from-is s ar roles q n j t e =
     let k : n - j ≡ n - 0 - gap q q roles 0 (n - 0) = omega arith in
     rw (k, e) (sym (after-one s ar roles q 0 (n - 0) t))
 
 -- a count of tokens is no greater than that of a file's tokens
-pub tally-few : {s starts ends roles : List ℕ} {n k : ℕ} (m j : ℕ) → Lie s starts ends roles n → k ≡ tally m roles j (n - j) → k ≤ 16384
+pub tally-few : {s starts ends roles : List ℕ} {n k : ℕ} (m j : ℕ) → Spans-fit s starts ends roles n → k ≡ tally m roles j (n - j) → k ≤ 16384
 tally-few {roles = roles} {n} m j lie e = omega (arith, e, tally-bound m roles j (n - j), lie .few)
 
 pub bounded-start : Bounded 36 (cursor 36 0 0 0)
 bounded-start = record { at-bound = omega arith; string-bound = omega arith; first-bound = omega arith; second-bound = omega arith }
 
-module _ (xs : List Said) where
+module _ (xs : List Tagged) where
   pub groups-written :
-      {b c d e f : List ℕ} {p g h i j : Cursor} (ys zs : List Said) → ys ≡ from UagName xs → zs ≡ from HagName xs → Bounded limit-3 j
+      {b c d e f : List ℕ} {p g h i j : Cursor} (ys zs : List Tagged) → ys ≡ from UagName xs → zs ≡ from HagName xs → Bounded limit-3 j
       → Emitted b c p (emits UagName User [] Groups xs p) (moves UagName User [] Groups xs p) g
       → Emitted c d g (emits HagName Host [] Groups xs g) (moves HagName Host [] Groups xs g) h
       → Emitted d e h (emits User User [] Names ys h) (moves User User [] Names ys h) i
@@ -54,7 +55,7 @@ module _ (xs : List Said) where
       }
 
   pub access-written :
-      {b c d : List ℕ} {p g h : Cursor} (ys : List Said) → ys ≡ from AsgName xs → Bounded limit-5 h
+      {b c d : List ℕ} {p g h : Cursor} (ys : List Tagged) → ys ≡ from AsgName xs → Bounded limit-5 h
       → Emitted b c (new-runs p) (emits AsgName AsgName [] Access xs (new-runs p)) (moves AsgName AsgName [] Access xs (new-runs p)) g
       → Emitted c d g (emits Input Pvname [] Inputs ys g) (moves Input Pvname [] Inputs ys g) h → Access-written xs b d p (record { five = g .at; cursor = h })
   access-written ys e n d₁ d₂ =
@@ -72,10 +73,10 @@ pub bounded-before : {p g : Cursor} → Bounded limit-5 p → Bounded limit-7 g 
 bounded-before n h =
     record { at-bound = omega (arith, n .at-bound); string-bound = h .string-bound; first-bound = omega arith; second-bound = omega arith }
 
-module _ (us hs : List (List ℕ)) (xs : List Said) where
+module _ (us hs : List (List ℕ)) (xs : List Tagged) where
   -- k: how many rules there are; the references are written first
   pub rules-written :
-      {b c d : List ℕ} {p g h : Cursor} (ys : List Said) (k : ℕ) → ys ≡ from AsgName xs → k ≡ size RuleWord ys → Bounded limit-7 g
+      {b c d : List ℕ} {p g h : Cursor} (ys : List Tagged) (k : ℕ) → ys ≡ from AsgName xs → k ≡ size RuleWord ys → Bounded limit-7 g
       → Emitted b c
       (cursor (p .at + 14 * k) (p .string) 0 0)
       (refer-emits References us hs ys (cursor (p .at + 14 * k) (p .string) 0 0))

@@ -6,18 +6,18 @@ use Prim.Native.Nat.{ℕ, _≤_, _<_}
 use lib.Dec.{leb}
 use lib.ListN.{length, drop}
 use borrow.Author.Tests.{le-leb, lt-leb, leb-true, leb-false}
-use Rattle.kept.specs.Kept.{Arrays, said-from}
-use Rattle.kept.specs.Stores.{kept-in}
-use Rattle.file.specs.Contents.{file-of}
-use Rattle.file.specs.declared.Refusal.the-variants.{NoRoom}
-use Rattle.file.specs.Warning.{warnings}
-use Rattle.table.specs.Written.{table-of}
-use Rattle.load.specs.declared.Loaded.the-variants as loaded
-use Rattle.texts.specs.Listed.{indices}
-use Rattle.writer.specs.declared.Written.{Written}
-use Rattle.writer.specs.declared.Written.the-variants as written
-use Rattle.writer.specs.Table.{table-told, Wrote}
-use Rattle.writer.specs.laws.Whole.{table-is}
+use Rattle.load_tokens.specs.Arrays.{Arrays, tagged-from}
+use Rattle.load_tokens.specs.Stores.{arrays-of}
+use Rattle.spec_file.specs.Contents.{file-of}
+use Rattle.spec_file.specs.declared.Refusal.the-variants.{NoRoom}
+use Rattle.spec_file.specs.Warning.{warnings}
+use Rattle.spec_table.specs.Written.{table-of}
+use Rattle.spec_load.specs.declared.Loaded.the-variants as loaded
+use Rattle.load_spans.specs.Listed.{indices}
+use Rattle.load_write.specs.declared.Written.{Written}
+use Rattle.load_write.specs.declared.Written.the-variants as written
+use Rattle.load_write.specs.Table.{table-told, Wrote}
+use Rattle.load_write.specs.laws.Whole.{table-is}
 use Rattle.load_warnings.specs.Filled.{Filled, warnings-of}
 use Rattle.load_warnings.specs.laws.Kind.{warnings-kindless}
 use Rattle.load_store.specs.Stored.{Stored}
@@ -25,15 +25,15 @@ use Rattle.load_store.specs.Stored.{Stored}
 -- the tokens that define groups, as they were collected
 pub is-table-of :
     (s : List ℕ) (a : Arrays) (roles : List ℕ) (n : ℕ) {uags hags : List ℕ} → uags ≡ indices 1 roles 0 n → hags ≡ indices 3 roles 0 n
-    → table-told s (a .starts) (a .ends) roles n uags hags ≡ table-of (file-of (said-from s a roles 0 n))
+    → table-told s (a .starts) (a .ends) roles n uags hags ≡ table-of (file-of (tagged-from s a roles 0 n))
 unfolding table-told
 is-table-of s a roles n u h = rw (u, h) (table-is s a roles n)
 
 -- what is stored of n tokens: t, if there is room for it
-module _ (s : List ℕ) (a : Arrays) (roles : List ℕ) (n : ℕ) (lent : List ℕ) {t : List ℕ} (e : t ≡ table-of (file-of (said-from s a roles 0 n))) where
+module _ (s : List ℕ) (a : Arrays) (roles : List ℕ) (n : ℕ) (lent : List ℕ) {t : List ℕ} (e : t ≡ table-of (file-of (tagged-from s a roles 0 n))) where
   stored-all :
       {c : List ℕ} {size count : ℕ} → length t ≤ length lent → c ≡ t ++ drop (length t) lent → size ≡ length t
-      → count ≡ length (warnings (said-from s (kept-in [] (a .places) (a .starts) (a .ends)) roles 0 n))
+      → count ≡ length (warnings (tagged-from s (arrays-of [] (a .places) (a .starts) (a .ends)) roles 0 n))
       → Stored s a roles n lent c (loaded.Accepted size count)
   stored-all h g k w =
       rw (g, k, w, warnings-kindless s a roles n, ← e, le-leb (length t) (length lent) h)

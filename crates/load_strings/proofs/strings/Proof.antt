@@ -2,8 +2,8 @@ use Rattle.load_elements.specs.laws.Tokens.{Loops, loop-begins}
 use Rattle.load_elements.specs.laws.Stacks.{then, at, unless, unread}
 use Rattle.load_elements.specs.laws.Kinds.{some-remain}
 use Rattle.load_elements.specs.Reads.{remaining}
-use Rattle.kept.specs.Kept.{role-of-number}
-use Rattle.grammar.specs.Reader.{often, next-string}
+use Rattle.load_tokens.specs.Arrays.{role-of-number}
+use Rattle.spec_grammar.specs.Reader.{often, next-string}
 use native.Mathlib.Omega.{arith}
 use mathlib.Core.List.{[], _∷_}
 use mathlib.Core.Path.{refl}

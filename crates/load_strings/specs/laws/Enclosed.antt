@@ -2,7 +2,7 @@
 use mathlib.Core.Path.{_≡_, refl}
 use mathlib.Core.List.{List, _∷_, _++_}
 use Prim.Native.Nat.{ℕ}
-use Rattle.grammar.specs.Reader.{Stack, Part, perhaps, rules, braced}
+use Rattle.spec_grammar.specs.Reader.{Stack, Expected, perhaps, rules, braced}
 use Rattle.load_elements.specs.declared.Cursor.{Cursor}
 use Rattle.load_elements.specs.Parse.{Parsed}
 use Rattle.load_elements.specs.Reads.{kind-at, Leads}
@@ -10,7 +10,7 @@ use Rattle.load_elements.specs.laws.Stacks.{at, unless}
 use Rattle.load_strings.specs.Enclosed.{in-braces}
 
 -- the part p, "{" l "}", may come
-module _ (p : Part) (l : Stack → Stack) (e : rules p ≡ braced l) {kinds roles : List ℕ} {s : Cursor} {k : Stack} {z : Parsed} {x : ℕ} where
+module _ (p : Expected) (l : Stack → Stack) (e : rules p ≡ braced l) {kinds roles : List ℕ} {s : Cursor} {k : Stack} {z : Parsed} {x : ℕ} where
   pub braces-come : x ≡ kind-at kinds s → x ≡ 11 → Leads kinds roles s (in-braces l ++ k) z → Leads kinds roles s (perhaps p ∷ k) z
   braces-come c h v = at 11 c h v (rw e)
 

@@ -1,9 +1,8 @@
-use Rattle.load_syntax.specs.laws.Syntax.{capacity-same}
+use Rattle.load_syntax.specs.laws.Syntax.{capacity-same, bad-read, tokens-read}
 use mathlib.Core.Path.{refl}
 use native.Mathlib.Omega.{arith}
 use lib.ListN.{length}
-use Rattle.load_syntax.specs.laws.Syntax.{bad-read, tokens-read}
-use Rattle.scanner.specs.laws.Answers.{whole, bad-byte}
+use Rattle.load_scan.specs.laws.Answers.{whole, bad-byte}
 use borrow.Author.Needs.{needs}
 use Rattle.load_syntax.proofs.read.Statement.{statement}
 use Rattle.load_syntax.proofs.read.Tie as tie

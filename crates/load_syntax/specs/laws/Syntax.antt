@@ -7,20 +7,21 @@ use Prim.Native.Nat.{ℕ, _≤_}
 use native.Mathlib.Omega.{arith}
 use lib.Dec.{ltb}
 use lib.ListN.{length, getD}
-use Rattle.token.specs.Token.{bad, scanned}
-use Rattle.kept.specs.Kept.{Arrays, tokens-from}
-use Rattle.kept.specs.Stores.{Long, long-room}
-use Rattle.file.specs.Depth.{too-deep}
-use Rattle.file.specs.Load.{by-tokens}
-use Rattle.file.specs.declared.Refusal.the-variants.{BadByte, TooDeep, Ungrammatical}
-use Rattle.scanner.specs.Answer.{Whole}
-use Rattle.braces.specs.declared.Deep.{Deep}
-use Rattle.braces.specs.declared.Deep.the-variants.{No, At}
-use Rattle.braces.specs.Deep.{answer}
-use Rattle.reader.specs.declared.Outcome as reading
-use Rattle.reader.specs.declared.Outcome.the-variants as reader
-use Rattle.reader.specs.Reads.{Answers}
-use Rattle.reader.specs.laws.Theorem.{read-is}
+use Rattle.spec_token.specs.Token.{bad, scanned}
+use Rattle.load_tokens.specs.Arrays.{Arrays, tokens-from}
+use Rattle.load_tokens.specs.Stores.{Long}
+use Rattle.load_tokens.specs.laws.Stores.{long-room}
+use Rattle.spec_file.specs.Depth.{too-deep}
+use Rattle.spec_file.specs.Load.{by-tokens}
+use Rattle.spec_file.specs.declared.Refusal.the-variants.{BadByte, TooDeep, Ungrammatical}
+use Rattle.load_scan.specs.Answer.{Whole}
+use Rattle.load_depth.specs.declared.Deep.{Deep}
+use Rattle.load_depth.specs.declared.Deep.the-variants.{No, At}
+use Rattle.load_depth.specs.Deep.{answer}
+use Rattle.load_parse.specs.declared.Outcome as reading
+use Rattle.load_parse.specs.declared.Outcome.the-variants as reader
+use Rattle.load_parse.specs.Reads.{Answers}
+use Rattle.load_parse.specs.laws.Theorem.{read-is}
 use Rattle.load_syntax.specs.declared.Judgment.{Judgment}
 use Rattle.load_syntax.specs.declared.Judgment.the-variants.{Tokens, Refused}
 use Rattle.load_syntax.specs.Syntax.{Capacity, Parsed, Read}

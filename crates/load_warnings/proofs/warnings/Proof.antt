@@ -2,7 +2,7 @@ use native.Mathlib.Omega.{arith}
 use mathlib.Core.Path.{sym, _∙_}
 use lib.Seq.{length-take-le}
 use lib.ListN.{length}
-use Rattle.texts.specs.Listed.{indices-length, listed-names, listed-length}
+use Rattle.load_spans.specs.laws.Listed.{indices-length, listed-names, listed-length}
 use borrow.Author.Needs.{needs}
 use Rattle.load_warnings.proofs.warnings.Statement.{statement}
 use Rattle.load_warnings.proofs.warnings.Tie as tie

@@ -9,15 +9,16 @@ use lib.Dec.{leb}
 use lib.ListN.{length, getD, set, drop, length-set}
 use lib.Seq.{sets, set-out, drop-nil}
 use borrow.Author.Tests.{leb-true, leb-false, le-leb, lt-leb}
-use Rattle.grammar.specs.Reading.{Said}
-use Rattle.kept.specs.Kept.{said-at, said-from}
-use Rattle.kept.specs.Stores.{kept-in}
-use Rattle.file.specs.declared.Warning.{Warning}
-use Rattle.file.specs.declared.Warning.the-variants.{UnknownItem, UnknownPredicate, UndefinedGroup}
-use Rattle.file.specs.Contents.{place}
-use Rattle.file.specs.Warning.{Warned, warning-of, with-place, warnings-among}
-use Rattle.texts.specs.Rolls.{tokens, tokens-none, tokens-step}
-use Rattle.texts.specs.Listed.{indices}
+use Rattle.spec_grammar.specs.Sentence.{Tagged}
+use Rattle.load_tokens.specs.Arrays.{tagged-at, tagged-from}
+use Rattle.load_tokens.specs.Stores.{arrays-of}
+use Rattle.spec_file.specs.declared.Warning.{Warning}
+use Rattle.spec_file.specs.declared.Warning.the-variants.{UnknownItem, UnknownPredicate, UndefinedGroup}
+use Rattle.spec_file.specs.Contents.{place}
+use Rattle.spec_file.specs.Warning.{Warned, warning-of, with-place, warnings-among}
+use Rattle.load_spans.specs.Roles.{tokens}
+use Rattle.load_spans.specs.laws.Roles.{tokens-none, tokens-step}
+use Rattle.load_spans.specs.Listed.{indices}
 use Rattle.load_warnings.specs.laws.Code.{code-is}
 use Rattle.load_warnings.specs.Code.{code-of, code-at}
 use Rattle.load_warnings.specs.Filled.{warnings-of, numbers-of, places-of, wrote, Filled}
@@ -68,7 +69,7 @@ written-none skip k b = rw (drop-nil {A = ℕ} (skip - k))
 
 -- ---- one warning, or none
 
-module _ (x : Said) (ws : List Warned) where
+module _ (x : Tagged) (ws : List Warned) where
   more-numbers : (o : Option Warning) → (code-of o ≡ 0 → ⊥) → numbers-of (with-place o x ws) ≡ code-of o ∷ numbers-of ws
   more-numbers none h = absurd (h refl)
   more-numbers (some w) h = refl
@@ -90,11 +91,11 @@ module _ (x : Said) (ws : List Warned) where
 -- ---- the loop over the tokens
 
 module _ (s places starts ends roles : List ℕ) (n : ℕ) where
-  abbrev file : List Said
-  file = said-from s (kept-in [] places starts ends) roles 0 n
+  abbrev file : List Tagged
+  file = tagged-from s (arrays-of [] places starts ends) roles 0 n
 
-  abbrev here : ℕ → Said
-  here i = said-at s (kept-in [] places starts ends) roles i
+  abbrev here : ℕ → Tagged
+  here i = tagged-at s (arrays-of [] places starts ends) roles i
 
   -- the number of the i-th token's warning
   abbrev pub code-here : ℕ → ℕ
@@ -102,19 +103,19 @@ module _ (s places starts ends roles : List ℕ) (n : ℕ) where
 
   -- the warnings from the i-th token on
   abbrev pub rest : ℕ → List Warned
-  rest i = warnings-among file (tokens s (kept-in [] places starts ends) roles i n)
+  rest i = warnings-among file (tokens s (arrays-of [] places starts ends) roles i n)
 
   pub code-here-is : (uags hags : List ℕ) (w i : ℕ) → uags ≡ indices 1 roles 0 n → hags ≡ indices 3 roles 0 n → w ≡ code-at s starts ends roles uags hags i → w ≡ code-here i
-  code-here-is uags hags w i u h e = e ∙ rw (u, h) (sym (code-is s (kept-in [] places starts ends) roles n i))
+  code-here-is uags hags w i u h e = e ∙ rw (u, h) (sym (code-is s (arrays-of [] places starts ends) roles n i))
 
   rest-step : (i : ℕ) → i < n → rest i ≡ with-place (warning-of file (here i)) (here i) (rest (i + 1))
-  rest-step i h = ap (warnings-among file) (tokens-step s (kept-in [] places starts ends) roles i n h)
+  rest-step i h = ap (warnings-among file) (tokens-step s (arrays-of [] places starts ends) roles i n h)
 
   rest-first : rest 0 ≡ warnings-of s places starts ends roles n
-  rest-first = let z : n - 0 ≡ n = omega arith in ap (λ (m : ℕ). warnings-among file (said-from s (kept-in [] places starts ends) roles 0 m)) z
+  rest-first = let z : n - 0 ≡ n = omega arith in ap (λ (m : ℕ). warnings-among file (tagged-from s (arrays-of [] places starts ends) roles 0 m)) z
 
   rest-none : (i : ℕ) → n ≤ i → rest i ≡ []
-  rest-none i h = ap (warnings-among file) (tokens-none s (kept-in [] places starts ends) roles i n h)
+  rest-none i h = ap (warnings-among file) (tokens-none s (arrays-of [] places starts ends) roles i n h)
 
 -- with k warnings written before the i-th token, what is left to write comes to all
 module _ (s places starts ends roles : List ℕ) (n skip : ℕ) (numbers₀ at₀ : List ℕ) where

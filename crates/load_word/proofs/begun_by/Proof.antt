@@ -1,7 +1,7 @@
 use Rattle.load_word.specs.laws.Begun.{begun, is-begun}
 use Rattle.load_word.specs.laws.Leaf.{all, leaf, key, or-false}
 use Rattle.load_word.specs.declared.Start.the-variants.{Blank, Comment, Quote, Stop, Word, Wrong}
-use Rattle.token.specs.Word.{name-byte}
+use Rattle.spec_token.specs.Word.{name-byte}
 use mathlib.Core.Path.{sym, _∙_}
 use native.Mathlib.Omega.{arith}
 use mathlib.Core.Bool.{not, _||_}

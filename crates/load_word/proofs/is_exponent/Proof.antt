@@ -1,7 +1,7 @@
 use Rattle.load_word.specs.laws.Leaf.{all, leaf, key}
 use Rattle.load_word.specs.Number.{digits-only}
 use Rattle.load_word.specs.laws.Digits.{exponent-end, exponent-is, exponent-not}
-use Rattle.lists.specs.Text.{among}
+use Rattle.spec_lists.specs.Text.{among}
 use borrow.Author.Tests.{not-true}
 use lib.ListN.{getD}
 use native.Mathlib.Omega.{arith}

@@ -1,7 +1,7 @@
 use Rattle.load_word.specs.Number.{fraction}
-use Rattle.token.specs.Spans.{span-after}
-use Rattle.lists.specs.Select.{after}
-use Rattle.lists.specs.Text.{digit}
+use Rattle.spec_token.specs.laws.Spans.{span-after}
+use Rattle.spec_lists.specs.Select.{after}
+use Rattle.spec_lists.specs.Text.{digit}
 use mathlib.Core.Path.{sym, ap, _∙_}
 use borrow.Author.Needs.{needs}
 use Rattle.load_word.proofs.is_float.Statement.{statement}

@@ -1,5 +1,5 @@
 use Rattle.load_word.specs.laws.Digits.{some-digits, no-digits, fraction-end, fraction-is, fraction-not}
-use Rattle.token.specs.Spans.{span-after}
+use Rattle.spec_token.specs.laws.Spans.{span-after}
 use borrow.Author.Tests.{ne-eqb}
 use native.Mathlib.Omega.{arith}
 use mathlib.Core.Path.{sym, _∙_}

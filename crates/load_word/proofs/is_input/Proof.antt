@@ -1,6 +1,6 @@
 use lib.Seq.{length-take-le}
 use Rattle.load_word.specs.laws.Digits.{inp-long}
-use Rattle.lists.specs.Text.{bytes, same}
+use Rattle.spec_lists.specs.Text.{bytes, same}
 use borrow.Author.Tests.{eq-eqb, le-leb, lt-leb}
 use lib.ListN.{length, getD, take}
 use native.Mathlib.Omega.{arith}

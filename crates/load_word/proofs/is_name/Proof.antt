@@ -1,5 +1,5 @@
 use Rattle.load_word.specs.laws.Leaf.{all, leaf, key}
-use Rattle.token.specs.Word.{name-byte}
+use Rattle.spec_token.specs.Word.{name-byte}
 use borrow.Author.Tests.{not-true}
 use mathlib.Core.Path.{sym}
 use native.Mathlib.Omega.{arith}

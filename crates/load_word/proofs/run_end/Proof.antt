@@ -1,4 +1,4 @@
-use Rattle.token.specs.Spans.{Passing, start, turn, stopped, ended}
+use Rattle.spec_token.specs.laws.Spans.{Passing, start, turn, stopped, ended}
 use Rattle.load_word.specs.Class.{belongs}
 use lib.ListN.{length}
 use native.Mathlib.Omega.{arith}

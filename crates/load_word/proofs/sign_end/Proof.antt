@@ -1,6 +1,6 @@
 use Rattle.load_word.specs.laws.Leaf.{all, leaf, key}
 use Rattle.load_word.specs.laws.Digits.{unsigned-end, unsigned-sign, unsigned-none}
-use Rattle.lists.specs.Text.{among}
+use Rattle.spec_lists.specs.Text.{among}
 use borrow.Author.Tests.{not-true}
 use lib.ListN.{getD}
 use native.Mathlib.Omega.{arith}

@@ -6,14 +6,14 @@ use Prim.Native.Nat.{ℕ}
 use lib.Dec.{eqb}
 use lib.ListN.{getD}
 use borrow.Author.Tests.{eqb-true}
-use Rattle.token.specs.Token.{Begins, nothing, comment, quote, stop, word, wrong, begins}
+use Rattle.spec_token.specs.Token.{Lexeme, nothing, comment, quote, stop, word, wrong, lexeme-of}
 use Rattle.load_word.specs.declared.Start.{Start}
 use Rattle.load_word.specs.declared.Start.the-variants as start
 use Rattle.load_word.specs.Start.{start-of}
 
 -- ---- from the code's answer back
 
-abbrev begins-of : Start → Begins
+abbrev begins-of : Start → Lexeme
 begins-of start.Blank = nothing
 begins-of start.Comment = comment
 begins-of start.Quote = quote
@@ -21,7 +21,7 @@ begins-of start.Stop = stop
 begins-of start.Word = word
 begins-of start.Wrong = wrong
 
-begins-back : (k : Begins) → begins-of (start-of k) ≡ k
+begins-back : (k : Lexeme) → begins-of (start-of k) ≡ k
 begins-back nothing = refl
 begins-back comment = refl
 begins-back quote = refl
@@ -30,7 +30,7 @@ begins-back word = refl
 begins-back wrong = refl
 
 -- what the code says is so
-pub so : {r x : Start} {k : Begins} → r ≡ start-of k → r ≡ x → k ≡ begins-of x
+pub so : {r x : Start} {k : Lexeme} → r ≡ start-of k → r ≡ x → k ≡ begins-of x
 so {r} {x} {k} e h = sym (begins-back k) ∙ ap begins-of (sym e ∙ h)
 
 -- ---- by numbers
@@ -55,9 +55,9 @@ code-back start.Word = refl
 code-back start.Wrong = refl
 
 abbrev pub begun : Start → ℕ → Bool
-begun x b = eqb (code x) (code (start-of (begins b)))
+begun x b = eqb (code x) (code (start-of (lexeme-of b)))
 
-pub is-begun : (x : Start) (b : ℕ) → begun x b ≡ true → x ≡ start-of (begins b)
+pub is-begun : (x : Start) (b : ℕ) → begun x b ≡ true → x ≡ start-of (lexeme-of b)
 is-begun x b e =
-    let k = code (start-of (begins b)) in
-    sym (code-back x) ∙ ap start-at (eqb-true (code x) k e) ∙ code-back (start-of (begins b))
+    let k = code (start-of (lexeme-of b)) in
+    sym (code-back x) ∙ ap start-at (eqb-true (code x) k e) ∙ code-back (start-of (lexeme-of b))

@@ -8,10 +8,10 @@ use native.Mathlib.Numerals.{add-one}
 use lib.ListN.{length, getD, take, drop, drop-of-length-le, length-drop}
 use lib.Seq.{drop-cons}
 use borrow.Author.Tests.{ne-eqb}
-use Rattle.lists.specs.Text.{bytes, same, among, digit}
-use Rattle.lists.specs.Select.{nonempty, run, after}
-use Rattle.token.specs.Word.{unsigned, inp}
-use Rattle.token.specs.Spans.{Span, span-after}
+use Rattle.spec_lists.specs.Text.{bytes, same, among, digit}
+use Rattle.spec_lists.specs.Select.{nonempty, run, after}
+use Rattle.spec_token.specs.Word.{unsigned, inp}
+use Rattle.spec_token.specs.laws.Spans.{Span, span-after}
 use Rattle.load_word.specs.Number.{digits-only, exponent, fraction}
 
 some-more : (l : List ℕ) → 0 < length l → nonempty l ≡ true

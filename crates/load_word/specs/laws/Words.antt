@@ -3,9 +3,9 @@ use mathlib.Core.Path.{_≡_}
 use mathlib.Core.Bool.{true, false}
 use mathlib.Core.List.{List}
 use Prim.Native.Nat.{ℕ}
-use Rattle.lists.specs.Text.{bytes, same}
-use Rattle.token.specs.Word.{int, float, inp, word-kind}
-use Rattle.grammar.specs.Reader.{kind-number}
+use Rattle.spec_lists.specs.Text.{bytes, same}
+use Rattle.spec_token.specs.Word.{int, float, inp, word-kind}
+use Rattle.spec_grammar.specs.Codes.{kind-number}
 
 module _ (w : List ℕ) where
   pub is-uag : same w (bytes "UAG") ≡ true → 0 ≡ kind-number (word-kind w)

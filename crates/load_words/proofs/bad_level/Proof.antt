@@ -1,5 +1,5 @@
-use Rattle.texts.specs.laws.Search.{Searched, search-first, search-found, search-on, search-none}
-use Rattle.file.specs.Refusal.{bad-level}
+use Rattle.load_spans.specs.laws.Search.{Searched, search-first, search-found, search-on, search-none}
+use Rattle.spec_file.specs.Refusal.{bad-level}
 use Prim.Native.Nat.{_-_}
 use mathlib.Core.Path.{sym, _∙_}
 use borrow.Author.Needs.{needs}

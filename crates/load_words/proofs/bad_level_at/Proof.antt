@@ -1,8 +1,8 @@
 use native.Mathlib.Omega.{arith}
-use Rattle.texts.specs.laws.Codes.{asked, not-asked}
-use Rattle.texts.specs.Lies.{lies-at}
-use Rattle.file.specs.Contents.{level-of}
-use Rattle.lists.specs.Select.{missing}
+use Rattle.load_spans.specs.laws.Codes.{asked, not-asked}
+use Rattle.load_spans.specs.laws.Spans.{span-fits-at}
+use Rattle.spec_file.specs.Contents.{level-of}
+use Rattle.spec_lists.specs.Select.{missing}
 use Prim.Native.Nat.{ℕ}
 use mathlib.Core.Path.{_∙_, ap}
 use mathlib.Core.List.{List}
@@ -14,7 +14,7 @@ shared-slice-read-if1 : tie.Need-shared-slice-read-if1
 shared-slice-read-if1 c = search needs
 
 text-requires : tie.Need-text-requires
-text-requires c κs = lies-at (c .before .before .before .before .before .before .pre .1) (c .before .before .before .before .before .before .pre .0)
+text-requires c κs = span-fits-at (c .before .before .before .before .before .before .pre .1) (c .before .before .before .before .before .before .pre .0)
 
 no-level-requires : tie.Need-no-level-requires
 no-level-requires c κs = search needs

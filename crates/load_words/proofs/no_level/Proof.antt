@@ -1,5 +1,5 @@
 use Rattle.load_words.specs.laws.Word.{level-known}
-use Rattle.file.specs.Contents.{level-of}
+use Rattle.spec_file.specs.Contents.{level-of}
 use borrow.Author.Needs.{needs}
 use Rattle.load_words.proofs.no_level.Statement.{statement}
 use Rattle.load_words.proofs.no_level.Tie as tie

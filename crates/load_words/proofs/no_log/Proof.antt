@@ -1,5 +1,5 @@
 use Rattle.load_words.specs.laws.Word.{log-known}
-use Rattle.file.specs.Contents.{log-of}
+use Rattle.spec_file.specs.Contents.{log-of}
 use borrow.Author.Needs.{needs}
 use Rattle.load_words.proofs.no_log.Statement.{statement}
 use Rattle.load_words.proofs.no_log.Tie as tie

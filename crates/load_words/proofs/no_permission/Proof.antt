@@ -1,5 +1,5 @@
 use Rattle.load_words.specs.laws.Word.{permission-known}
-use Rattle.file.specs.Contents.{permission-of}
+use Rattle.spec_file.specs.Contents.{permission-of}
 use borrow.Author.Needs.{needs}
 use Rattle.load_words.proofs.no_permission.Statement.{statement}
 use Rattle.load_words.proofs.no_permission.Tie as tie

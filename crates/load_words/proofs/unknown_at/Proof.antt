@@ -1,7 +1,7 @@
 use Rattle.load_words.specs.laws.Word.{permission-here, log-here, no-word-here}
-use Rattle.texts.specs.Lies.{lies-at}
-use Rattle.file.specs.Contents.{permission-of, log-of}
-use Rattle.lists.specs.Select.{missing}
+use Rattle.load_spans.specs.laws.Spans.{span-fits-at}
+use Rattle.spec_file.specs.Contents.{permission-of, log-of}
+use Rattle.spec_lists.specs.Select.{missing}
 use Prim.Native.Nat.{ℕ}
 use mathlib.Core.Path.{_∙_, ap}
 use mathlib.Core.List.{List}
@@ -13,7 +13,7 @@ shared-slice-read-role : tie.Need-shared-slice-read-role
 shared-slice-read-role c = search needs
 
 text-requires : tie.Need-text-requires
-text-requires c κs = lies-at (c .before .before .before .before .before .before .pre .1) (c .before .before .before .before .before .before .pre .0)
+text-requires c κs = span-fits-at (c .before .before .before .before .before .before .pre .1) (c .before .before .before .before .before .before .pre .0)
 
 no-permission-requires : tie.Need-no-permission-requires
 no-permission-requires c κs = search needs
@@ -22,7 +22,7 @@ returns : tie.Need-returns
 returns c = c .no-permission .ensures ∙ ap (λ (t : List ℕ). missing (permission-of t)) (c .before .text .ensures) ∙ permission-here _ _ (c .before .before .if1 .taken)
 
 text-requires-2 : tie.Need-text-requires-2
-text-requires-2 c κs = lies-at (c .before .before .before .before .before .before .before .pre .1) (c .before .before .before .before .before .before .before .pre .0)
+text-requires-2 c κs = span-fits-at (c .before .before .before .before .before .before .before .pre .1) (c .before .before .before .before .before .before .before .pre .0)
 
 no-log-requires : tie.Need-no-log-requires
 no-log-requires c κs = search needs

@@ -4,20 +4,20 @@ use mathlib.Core.Bool.{Bool, true, false, _&&_, _||_}
 use mathlib.Core.Option.{Option, none, some}
 use Prim.Native.Nat.{ℕ}
 use native.Mathlib.Omega.{arith}
-use Rattle.lists.specs.Select.{missing}
-use Rattle.grammar.specs.declared.Role.the-variants as role
-use Rattle.grammar.specs.Role.{same-role}
-use Rattle.rule.specs.declared.Access.{Access}
-use Rattle.kept.specs.Kept.{role-of-number}
-use Rattle.words_known.specs.declared.Level.{Level}
-use Rattle.words_known.specs.declared.Level.the-variants as level
-use Rattle.words_known.specs.declared.Permission.{Permission}
-use Rattle.words_known.specs.declared.Permission.the-variants as permission
-use Rattle.words_known.specs.declared.Log.{Log}
-use Rattle.words_known.specs.declared.Log.the-variants as log
-use Rattle.words_known.specs.Known.{level-told, permission-told, log-told}
-use Rattle.texts.specs.Rolls.{Telling}
-use Rattle.texts.specs.laws.Codes.{role-same, role-other}
+use Rattle.spec_lists.specs.Select.{missing}
+use Rattle.spec_grammar.specs.declared.Role.the-variants as role
+use Rattle.spec_grammar.specs.Codes.{same-role}
+use Rattle.spec_rule.specs.declared.Access.{Access}
+use Rattle.load_tokens.specs.Arrays.{role-of-number}
+use Rattle.load_values.specs.declared.Level.{Level}
+use Rattle.load_values.specs.declared.Level.the-variants as level
+use Rattle.load_values.specs.declared.Permission.{Permission}
+use Rattle.load_values.specs.declared.Permission.the-variants as permission
+use Rattle.load_values.specs.declared.Log.{Log}
+use Rattle.load_values.specs.declared.Log.the-variants as log
+use Rattle.load_values.specs.Known.{level-told, permission-told, log-told}
+use Rattle.load_spans.specs.Roles.{Role-code}
+use Rattle.load_spans.specs.laws.Codes.{role-same, role-other}
 
 -- ---- the answers of words_known
 
@@ -60,10 +60,10 @@ or-false : (b : Bool) → b ≡ b || false
 or-false true = refl
 or-false false = refl
 
-telling-permission : Telling 10
+telling-permission : Role-code 10
 telling-permission = record { some = omega arith; known = omega arith }
 
-telling-log : Telling 11
+telling-log : Role-code 11
 telling-log = record { some = omega arith; known = omega arith }
 
 -- x: the permission is none; y: the log option is none

@@ -1,7 +1,7 @@
 use Rattle.prog_line.specs.Parts.{cut}
 use Prim.Native.Nat.{_-_}
 use Rattle.prog_line.specs.laws.Question.{no-group, a-group}
-use Rattle.lists.specs.Text.{bytes, same}
+use Rattle.spec_lists.specs.Text.{bytes, same}
 use mathlib.Core.Path.{ap, _∙_}
 use borrow.Author.Needs.{needs}
 use Rattle.prog_line.proofs.group.Statement.{statement}

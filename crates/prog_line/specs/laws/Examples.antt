@@ -2,9 +2,9 @@
 use mathlib.Core.Path.{_≡_, refl}
 use mathlib.Core.List.{[], _∷_}
 use lib.ListN.{replicate}
-use Rattle.lists.specs.Text.{bytes}
-use Rattle.calculation.specs.declared.Reading.the-variants.{NeverHeard, Value}
-use Rattle.calculation.specs.Symbol.{decimal}
+use Rattle.spec_lists.specs.Text.{bytes}
+use Rattle.spec_calc.specs.declared.Reading.the-variants.{NeverHeard, Value}
+use Rattle.spec_calc.specs.Symbol.{decimal}
 use Rattle.prog_reading.specs.Reading.{reading, named}
 use Rattle.prog_line.specs.Line.{split, all-named, distinct, readings, refused, question, of-parts, asks}
 

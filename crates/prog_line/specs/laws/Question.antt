@@ -9,9 +9,9 @@ use native.Mathlib.Omega.{arith}
 use lib.ListN.{length, drop, getD, length-drop}
 use lib.Seq.{drop-cons, drop-length, length-take-le}
 use borrow.Author.Tests.{le-leb, lt-leb}
-use Rattle.lists.specs.Text.{bytes, same, digit}
-use Rattle.lists.specs.Select.{nonempty}
-use Rattle.calculation.specs.declared.Reading.{Reading}
+use Rattle.spec_lists.specs.Text.{bytes, same, digit}
+use Rattle.spec_lists.specs.Select.{nonempty}
+use Rattle.spec_calc.specs.declared.Reading.{Reading}
 use Rattle.prog_line.specs.Line.{split, group-of, level-of, readings-named, Line, refused, of-readings, of-parts, asks}
 use Rattle.prog_line.specs.Parts.{cut, behind, Part}
 use Rattle.prog_line.specs.laws.Parts.{cut-empty, cut-cons}

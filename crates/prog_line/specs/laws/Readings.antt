@@ -9,9 +9,9 @@ use lib.Dec.{eqb}
 use lib.ListN.{length, drop, getD, set, replicate, length-set}
 use lib.Seq.{drop-length, getD-set-same, getD-set-other, set-comm}
 use borrow.Author.Tests.{eqb-true, eqb-false}
-use Rattle.lists.specs.Text.{one-of}
-use Rattle.calculation.specs.declared.Reading.{Reading}
-use Rattle.calculation.specs.declared.Reading.the-variants.{NeverHeard}
+use Rattle.spec_lists.specs.Text.{one-of}
+use Rattle.spec_calc.specs.declared.Reading.{Reading}
+use Rattle.spec_calc.specs.declared.Reading.the-variants.{NeverHeard}
 use Rattle.prog_reading.specs.declared.NamedReading.{NamedReading}
 use Rattle.prog_reading.specs.declared.NamedReading.the-variants.{Is, Nothing}
 use Rattle.prog_reading.specs.Reading.{Named, named}

@@ -4,7 +4,7 @@ use Prim.Native.Nat.{_-_}
 use borrow.Author.Needs.{needs}
 use Rattle.prog_output.proofs.put_warnings.Statement.{statement}
 use Rattle.prog_output.proofs.put_warnings.Tie as tie
-use Rattle.kept.proofs.wide.Reads as wide-reads′
+use Rattle.load_tokens.proofs.wide.Reads as wide-reads′
 
 abbrev Inv-loop : tie.InvT-loop
 Inv-loop n numbers at i₀ i = (length numbers ≡ 256) × (length at ≡ 256)

@@ -1,6 +1,5 @@
 use borrow.Author.Tests.{not-true, not-false}
-use Rattle.prog_reading.specs.laws.Numbers.{empty-none}
-use Rattle.prog_reading.specs.laws.Numbers.{begins-ill, goes-ill, ends-there, ends-before}
+use Rattle.prog_reading.specs.laws.Numbers.{empty-none, begins-ill, goes-ill, ends-there, ends-before}
 use native.Mathlib.Omega.{arith}
 use mathlib.Core.Path.{sym, _∙_}
 use borrow.Author.Needs.{needs}

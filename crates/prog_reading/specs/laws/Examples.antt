@@ -2,9 +2,9 @@
 use mathlib.Core.Path.{_≡_, refl}
 use mathlib.Core.Option.{none, some}
 use lib.Ieee.{neg}
-use Rattle.lists.specs.Text.{bytes}
-use Rattle.calculation.specs.declared.Reading.the-variants.{Value}
-use Rattle.calculation.specs.Symbol.{decimal}
+use Rattle.spec_lists.specs.Text.{bytes}
+use Rattle.spec_calc.specs.declared.Reading.the-variants.{Value}
+use Rattle.spec_calc.specs.Symbol.{decimal}
 use Rattle.prog_reading.specs.Reading.{reading}
 
 minus-zero : reading (bytes "-0") ≡ some (Value (neg (decimal 0 0)))

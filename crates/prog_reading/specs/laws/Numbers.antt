@@ -10,10 +10,10 @@ use lib.ListN.{length, drop, getD}
 use lib.Seq.{drop-length, drop-cons}
 use lib.Ieee.{Float}
 use borrow.Author.Tests.{le-leb, lt-leb, ne-eqb}
-use Rattle.lists.specs.Text.{among, within, digit}
-use Rattle.lists.specs.Select.{all, run, after, keep-if, skip-if}
-use Rattle.lists.specs.Both.{both}
-use Rattle.calculation.specs.Symbol.{numeral, numeral-byte, pointed, within-digits}
+use Rattle.spec_lists.specs.Text.{among, within, digit}
+use Rattle.spec_lists.specs.Select.{all, run, after, keep-if, skip-if}
+use Rattle.spec_lists.specs.laws.Both.{both}
+use Rattle.spec_calc.specs.Symbol.{numeral, numeral-byte, pointed, within-digits}
 use Rattle.calc_numeral.specs.declared.Figure.{Figure}
 use Rattle.calc_numeral.specs.declared.Figure.the-variants.{Is, Wrong}
 use Rattle.calc_numeral.specs.Numeral.{Ends, Numbered}

@@ -11,11 +11,11 @@ use lib.Seq.{take-all}
 use lib.Ieee as Ieee
 use lib.Ieee.{Float, nan, inf, neg, binary64, ofBits, div}
 use borrow.Author.Tests.{ne-eqb, leb-true}
-use Rattle.lists.specs.Text.{bytes, same, among, within}
-use Rattle.lists.specs.Both.{both}
-use Rattle.calculation.specs.declared.Reading.{Reading}
-use Rattle.calculation.specs.declared.Reading.the-variants.{Invalid, Value}
-use Rattle.calculation.specs.Value.{zero-value, one-value}
+use Rattle.spec_lists.specs.Text.{bytes, same, among, within}
+use Rattle.spec_lists.specs.laws.Both.{both}
+use Rattle.spec_calc.specs.declared.Reading.{Reading}
+use Rattle.spec_calc.specs.declared.Reading.the-variants.{Invalid, Value}
+use Rattle.spec_calc.specs.Value.{zero-value, one-value}
 use Rattle.prog_reading.specs.declared.Numeral.{Numeral}
 use Rattle.prog_reading.specs.declared.Numeral.the-variants as numbers
 use Rattle.prog_reading.specs.declared.Spelled.{Spelled}

@@ -1,6 +1,5 @@
-use Rattle.prog_replies.specs.Pieces.{Line-span}
-use Rattle.prog_replies.specs.laws.Steps.{line-span, at-start}
 use Rattle.prog_replies.specs.Pieces.{room, Begun, Answers}
+use Rattle.prog_replies.specs.laws.Steps.{line-span, at-start}
 use lib.Seq.{take-all}
 use lib.ListN.{length, take}
 use native.Mathlib.Omega.{arith}

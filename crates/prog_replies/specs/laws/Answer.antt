@@ -6,9 +6,9 @@ use mathlib.Core.Option.{Option, none, some}
 use Prim.Native.Nat.{ℕ, _+_, _-_}
 use native.Mathlib.Omega.{arith}
 use lib.ListN.{drop}
-use Rattle.calculation.specs.declared.Reading.{Reading}
-use Rattle.decision.specs.declared.Answer.{Answer}
-use Rattle.decision.specs.Decision.{decide}
+use Rattle.spec_calc.specs.declared.Reading.{Reading}
+use Rattle.spec_decision.specs.declared.Answer.{Answer}
+use Rattle.spec_decision.specs.Decision.{decide}
 use Rattle.prog_line.specs.declared.Line as code
 use Rattle.prog_line.specs.declared.Line.the-variants as code-line
 use Rattle.prog_line.specs.Line.{group-of, readings-named, asks}

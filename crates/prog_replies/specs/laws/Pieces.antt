@@ -3,7 +3,7 @@ use mathlib.Core.Path.{_≡_, refl, sym, ap, subst, _∙_}
 use mathlib.Core.Bool.{Bool, true, false, not, _&&_, false≢true}
 use mathlib.Core.List.{List, [], _∷_, _++_, append-nil, append-assoc}
 use Prim.Native.Nat.{ℕ}
-use Rattle.lists.specs.Select.{joined}
+use Rattle.spec_lists.specs.Select.{joined}
 use Rattle.prog_replies.specs.Input.{ends-line, Parted, in-first, parted, last-line, reply, replies, printed}
 use Rattle.prog_replies.specs.Pieces.{plain, printed-by}
 

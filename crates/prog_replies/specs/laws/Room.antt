@@ -5,11 +5,10 @@ use mathlib.Core.List.{List, [], _∷_, _++_}
 use Prim.Native.Nat.{ℕ, suc, _+_, _*_, _≤_}
 use native.Mathlib.Omega.{arith}
 use lib.ListN.{length, take, length-append}
-use Rattle.rule.specs.declared.Access.{Access}
-use Rattle.rule.specs.declared.Access.the-variants as access
-use Rattle.decision.specs.declared.Answer.{Answer}
-use Rattle.decision.specs.declared.Answer.the-variants.{Answered, NotTable, BadLevel}
-use Rattle.decision.specs.Decision.{decide}
+use Rattle.spec_rule.specs.declared.Access.the-variants as access
+use Rattle.spec_decision.specs.declared.Answer.{Answer}
+use Rattle.spec_decision.specs.declared.Answer.the-variants.{Answered, NotTable, BadLevel}
+use Rattle.spec_decision.specs.Decision.{decide}
 use Rattle.prog_line.specs.Line.{Line, refused, question, asks}
 use Rattle.prog_words.specs.Words.{answer-text}
 use Rattle.prog_words.specs.laws.Put.{put-whole}

@@ -11,9 +11,9 @@ use borrow.Author.Tests.{eqb-true}
 use Rattle.bytes.specs.Bytes.{slice, indexOf, indexAfter}
 use Rattle.prog_words.specs.Put.{Put}
 use Rattle.prog_words.specs.laws.Put.{reached-fits, put-put, put-as}
-use Rattle.prog_replies.specs.Input.{ends-line, Parted, parted, reply, replies}
+use Rattle.prog_replies.specs.Input.{Parted, parted, reply, replies}
 use Rattle.prog_replies.specs.Pieces.{plain, Begun, Answers, Line-span}
-use Rattle.prog_replies.specs.laws.Pieces.{plain-parted, plain-line, plain-append, rest-plain, then, parted-append, replies-append}
+use Rattle.prog_replies.specs.laws.Pieces.{plain-parted, plain-line, plain-append, rest-plain, parted-append, replies-append}
 use Rattle.prog_replies.specs.laws.Begun.{begun-none}
 
 -- ---- the next newline

@@ -1,11 +1,9 @@
-use lib.ListN.{getD, length-set}
-use mathlib.Core.Path.{ap}
+use lib.ListN.{getD, length-set, length, drop}
+use mathlib.Core.Path.{ap, _≡_, refl, _∙_}
 use Rattle.prog_words.specs.laws.Put.{sets-step, stops-full, stops-done}
 use lib.Seq.{sets}
-use lib.ListN.{length, drop}
 use native.Mathlib.Omega.{arith}
 use Prim.Native.Nat.{_+_, _≤_, _-_}
-use mathlib.Core.Path.{_≡_, refl, _∙_}
 use borrow.Author.Needs.{needs}
 use Rattle.prog_words.proofs.put.Statement.{statement}
 use Rattle.prog_words.proofs.put.Tie as tie

@@ -6,7 +6,7 @@ use Prim.Native.Nat.{ℕ, zero, suc, _+_, _-_, _*_, _/_, _%_, _≤_, _<_}
 use native.Mathlib.Omega.{arith}
 use lib.Dec.{ltb}
 use borrow.Author.Tests.{ltb-false, lt-ltb, le-ltb}
-use Rattle.lists.specs.Text.{whole}
+use Rattle.spec_lists.specs.Text.{whole}
 use Rattle.prog_words.specs.Words.{digits-in, decimal-digits}
 use Rattle.prog_words.specs.Put.{Put}
 use Rattle.prog_words.specs.laws.Put.{put-put}

@@ -1,9 +1,9 @@
 -- 01's examples of what is printed.
 use mathlib.Core.Path.{_≡_, refl}
 use mathlib.Core.Bool.{true, false}
-use Rattle.lists.specs.Text.{bytes}
-use Rattle.rule.specs.declared.Access.the-variants as access
-use Rattle.decision.specs.declared.Answer.the-variants.{Answered}
+use Rattle.spec_lists.specs.Text.{bytes}
+use Rattle.spec_rule.specs.declared.Access.the-variants as access
+use Rattle.spec_decision.specs.declared.Answer.the-variants.{Answered}
 use Rattle.prog_words.specs.Words.{answer-text, digits-in, decimal-digits, placed, warning-text}
 
 write-trap : answer-text (Answered access.Write true) ≡ bytes "WRITE TRAPWRITE"

@@ -1,7 +1,7 @@
 use Rattle.table_read.specs.laws.Search.{for-empty, for-named, for-default}
-use Rattle.table.specs.Policy.{name}
-use Rattle.table.specs.View.{view}
-use Rattle.file.specs.Limit.{access-groups}
+use Rattle.spec_table.specs.Policy.{name}
+use Rattle.spec_table.specs.View.{view}
+use Rattle.spec_file.specs.Limit.{access-groups}
 use borrow.Author.Needs.{needs}
 use Rattle.table_read.proofs.answering_group.Statement.{statement}
 use Rattle.table_read.proofs.answering_group.Tie as tie

@@ -1,10 +1,10 @@
 use Rattle.table_read.specs.laws.Search.{run-turn, run-hit, run-done}
-use Rattle.table.specs.Standing.{row, stands, inputs-within}
-use Rattle.table.specs.Check.{inputs-run, letter-field}
-use Rattle.table.specs.View.{view}
-use Rattle.file.specs.Limit.{access-groups, inputs}
-use Rattle.lists.specs.Runs.{part}
-use Rattle.lists.specs.Select.{first}
+use Rattle.spec_table.specs.laws.Standing.{row, stands, inputs-within}
+use Rattle.spec_table.specs.Check.{inputs-run, letter-field}
+use Rattle.spec_table.specs.View.{view}
+use Rattle.spec_file.specs.Limit.{access-groups, inputs}
+use Rattle.spec_lists.specs.Runs.{part}
+use Rattle.spec_lists.specs.Select.{first}
 use borrow.Author.Tests.{eq-eqb, ne-eqb}
 use lib.Dec.{eqb}
 use lib.ListN.{drop}

@@ -1,9 +1,9 @@
 use Rattle.table_read.specs.laws.Search.{section-turn, section-hit, section-done}
-use Rattle.table.specs.Policy.{name}
-use Rattle.table.specs.View.{view}
-use Rattle.file.specs.Limit.{access-groups}
-use Rattle.lists.specs.Select.{first}
-use Rattle.lists.specs.Text.{same}
+use Rattle.spec_table.specs.Policy.{name}
+use Rattle.spec_table.specs.View.{view}
+use Rattle.spec_file.specs.Limit.{access-groups}
+use Rattle.spec_lists.specs.Select.{first}
+use Rattle.spec_lists.specs.Text.{same}
 use lib.ListN.{drop}
 use native.Mathlib.Omega.{arith}
 use mathlib.Core.List.{List}

@@ -1,6 +1,5 @@
-use Rattle.table_read.specs.laws.Stored.{header-there, name-ends, name-read, name-first, name-count}
+use Rattle.table_read.specs.laws.Stored.{header-there, name-ends, name-read, name-first, name-count, name-small, name-low}
 use Rattle.table_read.specs.Stored.{section}
-use Rattle.table_read.specs.laws.Stored.{name-small, name-low}
 use native.Mathlib.Omega.{arith}
 use borrow.Author.Needs.{needs}
 use Rattle.table_read.proofs.name_of.Statement.{statement}

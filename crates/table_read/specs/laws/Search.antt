@@ -6,13 +6,12 @@ use mathlib.Core.Option.{Option, none, some}
 use Prim.Native.Nat.{ℕ, _+_, _≤_, _<_}
 use native.Mathlib.Omega.{arith}
 use lib.ListN.{length, drop, getD}
-use Rattle.lists.specs.Select.{first}
-use Rattle.lists.specs.Runs.{Run, part}
-use Rattle.rule.specs.laws.Walk.{list-on, list-end, part-on, part-end, first-off, first-on}
-use Rattle.rule.specs.Answering.{named, or-default, answering, default-name}
-use Rattle.file.specs.Limit.{access-groups}
-use Rattle.table.specs.View.{view}
-use Rattle.table.specs.Check.{is-table}
+use Rattle.spec_lists.specs.Select.{first}
+use Rattle.spec_lists.specs.Runs.{Run, part}
+use Rattle.spec_rule.specs.laws.Walk.{list-on, list-end, part-on, part-end, first-off, first-on}
+use Rattle.spec_rule.specs.Answering.{named, or-default, answering, default-name}
+use Rattle.spec_file.specs.Limit.{access-groups}
+use Rattle.spec_table.specs.Check.{is-table}
 use Rattle.table_read.specs.declared.Index.{Index}
 use Rattle.table_read.specs.declared.Index.the-variants.{At, Missing}
 use Rattle.table_read.specs.Stored.{Stored}

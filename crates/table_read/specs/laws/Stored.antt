@@ -5,16 +5,16 @@ use mathlib.Core.List.{List}
 use Prim.Native.Nat.{ℕ, _+_, _-_, _≤_, _<_}
 use native.Mathlib.Omega.{arith}
 use lib.ListN.{length, take, drop, getD}
-use Rattle.lists.specs.Runs.{Run}
-use Rattle.file.specs.Limit.{Section, order}
-use Rattle.table.specs.Layout.{width, header-bytes}
-use Rattle.table.specs.View.{view, strings-order, count-of, offset-of}
-use Rattle.table.specs.Check.{is-table, run-at, name-run}
-use Rattle.table.specs.Policy.{name}
-use Rattle.table.specs.Bytes.{each}
-use Rattle.table.specs.Fields.{has-header, view-count, strings-inside, strings-count, string-at}
-use Rattle.table.specs.Standing.{row, stands, name-within}
-use Rattle.fields.specs.Field.{Word, section-at, record-at, Has-field}
+use Rattle.spec_lists.specs.Runs.{Run}
+use Rattle.spec_file.specs.Limit.{Section, order}
+use Rattle.spec_table.specs.Layout.{width, header-bytes}
+use Rattle.spec_table.specs.View.{view, strings-order, count-of, offset-of}
+use Rattle.spec_table.specs.Check.{is-table, run-at, name-run}
+use Rattle.spec_table.specs.Policy.{name}
+use Rattle.spec_table.specs.laws.Bytes.{each}
+use Rattle.spec_table.specs.laws.Fields.{has-header, view-count, strings-inside, strings-count, string-at}
+use Rattle.spec_table.specs.laws.Standing.{row, stands, name-within}
+use Rattle.table_fields.specs.Field.{Word, section-at, record-at, Has-field}
 use Rattle.table_read.specs.declared.Section as coded
 use Rattle.table_read.specs.declared.Section.the-variants.{UserGroups, HostGroups, Members, AccessGroups, Inputs, Rules, References}
 use Rattle.table_read.specs.Stored.{section, Ordered, name-word, Stored, word-of}

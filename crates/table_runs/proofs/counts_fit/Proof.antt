@@ -1,10 +1,10 @@
 use Rattle.table_runs.specs.laws.Sections.{few, count-fits, count-over, counts-over, counts-left}
 use Rattle.table_runs.specs.laws.All.{all-on, all-off}
-use Rattle.table.specs.Fields.{has-header}
-use Rattle.table.specs.Check.{sections-stand}
-use Rattle.table.specs.Layout.{sections}
-use Rattle.file.specs.Limit.{references}
-use Rattle.lists.specs.Select.{all}
+use Rattle.spec_table.specs.laws.Fields.{has-header}
+use Rattle.spec_table.specs.Check.{sections-stand}
+use Rattle.spec_table.specs.Layout.{sections}
+use Rattle.spec_file.specs.Limit.{references}
+use Rattle.spec_lists.specs.Select.{all}
 use lib.ListN.{drop}
 use Prim.Native.Nat.{_-_, _≤_}
 use mathlib.Core.Bool.{true}

@@ -1,7 +1,7 @@
 use Rattle.table_runs.specs.laws.Used.{members-gap, members-reach}
 use Rattle.table_runs.specs.laws.Follow.{known-end, gap-then, follow-on}
 use Rattle.table_runs.specs.Follow.{all-runs}
-use Rattle.table.specs.Fields.{has-header}
+use Rattle.spec_table.specs.laws.Fields.{has-header}
 use mathlib.Core.Bool.{false}
 use mathlib.Core.Path.{sym}
 use native.Mathlib.Omega.{arith}

@@ -1,5 +1,5 @@
-use Rattle.fields.specs.laws.Fields.{listed}
-use Rattle.file.specs.Limit.{most}
+use Rattle.table_fields.specs.laws.Fields.{listed}
+use Rattle.spec_file.specs.Limit.{most}
 use borrow.Author.Needs.{needs}
 use Rattle.table_runs.proofs.most.Statement.{statement}
 use Rattle.table_runs.proofs.most.Tie as tie

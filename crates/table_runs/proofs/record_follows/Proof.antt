@@ -1,6 +1,6 @@
 use Rattle.table_runs.specs.laws.Follow.{known-end, record-gap, record-both, record-one}
-use Rattle.fields.specs.Field.{section-at, record-at}
-use Rattle.fields.specs.laws.Fields.{width-small}
+use Rattle.table_fields.specs.Field.{section-at, record-at}
+use Rattle.table_fields.specs.laws.Fields.{width-small}
 use Prim.Native.Nat.{_+_}
 use native.Mathlib.Omega.{arith}
 use borrow.Author.Needs.{needs}

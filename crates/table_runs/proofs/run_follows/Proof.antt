@@ -1,7 +1,7 @@
 use Rattle.table_runs.specs.laws.Follow.{starts-here, starts-elsewhere}
-use Rattle.fields.specs.Field.{section-at, record-at}
-use Rattle.fields.specs.laws.Fields.{width-small}
-use Rattle.table.specs.Check.{run-at}
+use Rattle.table_fields.specs.Field.{section-at, record-at}
+use Rattle.table_fields.specs.laws.Fields.{width-small}
+use Rattle.spec_table.specs.Check.{run-at}
 use mathlib.Core.Path.{sym, ap, _∙_}
 use Prim.Native.Nat.{ℕ, _+_}
 use native.Mathlib.Omega.{arith}

@@ -1,9 +1,9 @@
 use Rattle.table_runs.specs.laws.Follow.{Followed, known-end, followed-none, followed-next, followed-gap, followed-all}
 use Rattle.table_runs.specs.Follow.{runs-in, most-added}
-use Rattle.fields.specs.Field.{section-at}
-use Rattle.fields.specs.laws.Fields.{rows-count}
-use Rattle.table.specs.Fields.{has-header}
-use Rattle.table.specs.View.{view}
+use Rattle.table_fields.specs.Field.{section-at}
+use Rattle.table_fields.specs.laws.Fields.{rows-count}
+use Rattle.spec_table.specs.laws.Fields.{has-header}
+use Rattle.spec_table.specs.View.{view}
 use mathlib.Core.List.{[]}
 use Prim.Native.Nat.{_+_, _*_, _-_, _≤_}
 use native.Mathlib.Omega.{arith}

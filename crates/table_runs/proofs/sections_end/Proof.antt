@@ -1,12 +1,12 @@
 use Rattle.table_runs.specs.Follow.{sum-limit}
-use Rattle.fields.specs.Field.{section-at}
-use Rattle.fields.specs.laws.Fields.{width-small}
+use Rattle.table_fields.specs.Field.{section-at}
+use Rattle.table_fields.specs.laws.Fields.{width-small}
 use lib.ListN.{length}
 use Rattle.table_runs.specs.laws.Sections.{bytes-small, section-here, section-elsewhere}
 use Rattle.table_runs.specs.laws.Follow.{Followed, followed-none, followed-next, followed-gap, followed-all}
-use Rattle.table.specs.View.{extent}
-use Rattle.table.specs.Layout.{sections, header-bytes}
-use Rattle.file.specs.Limit.{references}
+use Rattle.spec_table.specs.View.{extent}
+use Rattle.spec_table.specs.Layout.{sections, header-bytes}
+use Rattle.spec_file.specs.Limit.{references}
 use mathlib.Core.List.{[], _∷_}
 use Prim.Native.Nat.{_+_, _*_, _-_, _≤_}
 use native.Mathlib.Omega.{arith}

@@ -1,4 +1,4 @@
-use Rattle.table.specs.View.{total-of, strings-order, count-of, offset-of}
+use Rattle.spec_table.specs.View.{total-of, strings-order, count-of, offset-of}
 use borrow.Author.Tests.{eq-eqb, ne-eqb}
 use Prim.Native.Nat.{ℕ, _+_}
 use lib.ListN.{length}

@@ -1,8 +1,8 @@
 use Rattle.table_runs.specs.laws.Used.{reaches}
 use Rattle.table_runs.specs.laws.Follow.{known-end, follow-gap}
-use Rattle.fields.specs.Field.{section-at}
-use Rattle.table.specs.Fields.{has-header}
-use Rattle.table.specs.View.{view}
+use Rattle.table_fields.specs.Field.{section-at}
+use Rattle.spec_table.specs.laws.Fields.{has-header}
+use Rattle.spec_table.specs.View.{view}
 use lib.ListN.{length}
 use mathlib.Core.Path.{sym}
 use native.Mathlib.Omega.{arith}

@@ -6,8 +6,8 @@ use Prim.Native.Nat.{ℕ, zero, suc, _+_, _≤_, _<_}
 use native.Mathlib.Nat.{zero-add, suc-add}
 use lib.ListN.{length, take, drop, getD, drop-of-length-le}
 use lib.Seq.{take-nil, drop-nil}
-use Rattle.lists.specs.Select.{all}
-use Rattle.rule.specs.laws.Walk.{list-on}
+use Rattle.spec_lists.specs.Select.{all}
+use Rattle.spec_rule.specs.laws.Walk.{list-on}
 
 module _ {A : Type 0} (p : A → Bool) (d : A) (xs : List A) (i : ℕ) where
   at : i < length xs → all p (drop i xs) ≡ p (getD xs i d) && all p (drop (i + 1) xs)

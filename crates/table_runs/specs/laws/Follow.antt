@@ -8,10 +8,10 @@ use lib.Dec.{eqb}
 use lib.ListN.{length, drop, getD}
 use lib.Seq.{drop-length}
 use borrow.Author.Tests.{eq-eqb, ne-eqb}
-use Rattle.lists.specs.Select.{joined}
-use Rattle.lists.specs.Runs.{Run}
-use Rattle.rule.specs.laws.Walk.{list-on}
-use Rattle.table.specs.Check.{run-at, in-turn}
+use Rattle.spec_lists.specs.Select.{joined}
+use Rattle.spec_lists.specs.Runs.{Run}
+use Rattle.spec_rule.specs.laws.Walk.{list-on}
+use Rattle.spec_table.specs.Check.{run-at, in-turn}
 use Rattle.table_runs.specs.declared.RunEnd.{RunEnd}
 use Rattle.table_runs.specs.declared.RunEnd.the-variants.{At, Gap}
 use Rattle.table_runs.specs.Follow.{reached, Follow, runs-in}

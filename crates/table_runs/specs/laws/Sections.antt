@@ -8,17 +8,16 @@ use native.Mathlib.Nat.{mul-le-mul-left}
 use lib.Dec.{eqb, leb}
 use lib.ListN.{length, drop}
 use borrow.Author.Tests.{eq-eqb, ne-eqb, le-leb, lt-leb}
-use Rattle.lists.specs.Select.{all}
-use Rattle.file.specs.Limit.{Section, references, most, most-bytes}
-use Rattle.table.specs.Layout.{sections, width, form, header-bytes}
-use Rattle.table.specs.View.{form-of, total-of, strings-order, count-of, offset-of, extent, strings-extent, extents, view}
-use Rattle.table.specs.Check.{in-turn, sections-stand, counts-fit}
-use Rattle.table.specs.Fields.{strings-count}
+use Rattle.spec_lists.specs.Select.{all}
+use Rattle.spec_file.specs.Limit.{Section, references, most, most-bytes}
+use Rattle.spec_table.specs.Layout.{sections, width, form, header-bytes}
+use Rattle.spec_table.specs.View.{form-of, total-of, strings-order, count-of, offset-of, extent, strings-extent, extents, view}
+use Rattle.spec_table.specs.Check.{in-turn, sections-stand, counts-fit}
+use Rattle.spec_table.specs.laws.Fields.{strings-count}
 use Rattle.table_runs.specs.declared.RunEnd.the-variants.{At, Gap}
-use Rattle.fields.specs.Field.{section-at}
-use Rattle.fields.specs.laws.Fields.{order-at, rows-count, width-small}
-use Rattle.table_runs.specs.Follow.{Follow}
-use Rattle.table_runs.specs.Follow.{ends-stand}
+use Rattle.table_fields.specs.Field.{section-at}
+use Rattle.table_fields.specs.laws.Fields.{order-at, rows-count, width-small}
+use Rattle.table_runs.specs.Follow.{Follow, ends-stand}
 use Rattle.table_runs.specs.laws.Follow.{starts-here, starts-elsewhere}
 use Rattle.table_runs.specs.laws.All.{all-end}
 

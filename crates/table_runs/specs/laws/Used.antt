@@ -5,16 +5,16 @@ use mathlib.Core.List.{List, [], _∷_, _++_, map}
 use Prim.Native.Nat.{ℕ, _<_}
 use lib.Dec.{eqb}
 use lib.ListN.{length}
-use Rattle.lists.specs.Select.{joined}
-use Rattle.lists.specs.Runs.{Run}
-use Rattle.lists.specs.Laws.{map-append}
-use Rattle.file.specs.Limit.{user-groups, host-groups, members, access-groups, rules}
-use Rattle.table.specs.View.{count-of, view}
-use Rattle.table.specs.Check.{run-at, members-run, users-run, hosts-run, in-turn, runs-stand}
+use Rattle.spec_lists.specs.Select.{joined}
+use Rattle.spec_lists.specs.Runs.{Run}
+use Rattle.spec_lists.specs.laws.Joined.{map-append}
+use Rattle.spec_file.specs.Limit.{user-groups, host-groups, members, access-groups, rules}
+use Rattle.spec_table.specs.View.{count-of, view}
+use Rattle.spec_table.specs.Check.{run-at, members-run, users-run, hosts-run, in-turn, runs-stand}
 use Rattle.table_runs.specs.declared.RunEnd.{RunEnd}
 use Rattle.table_runs.specs.declared.RunEnd.the-variants.{At, Gap}
-use Rattle.fields.specs.Field.{section-at}
-use Rattle.fields.specs.laws.Fields.{rows-count}
+use Rattle.table_fields.specs.Field.{section-at}
+use Rattle.table_fields.specs.laws.Fields.{rows-count}
 use Rattle.table_runs.specs.Follow.{Follow, runs-in, all-runs, members-follow}
 use Rattle.table_runs.specs.laws.Follow.{follow-gap, follow-end}
 

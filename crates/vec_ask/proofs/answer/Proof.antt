@@ -1,7 +1,7 @@
-use Rattle.demand.specs.Exact.{leaves-table}
-use Rattle.demand.specs.Calls.{is-accepted}
-use Rattle.load.specs.Load.{Outcome}
-use Rattle.table.specs.Check.{is-table}
+use Rattle.spec_demand.specs.laws.Exact.{leaves-table}
+use Rattle.spec_demand.specs.Calls.{is-accepted}
+use Rattle.spec_load.specs.Load.{Result}
+use Rattle.spec_table.specs.Check.{is-table}
 use mathlib.Core.Path.{sym, ap, _∙_}
 use borrow.Author.Needs.{needs}
 use Rattle.vec_ask.proofs.answer.Statement.{statement}
@@ -9,7 +9,7 @@ use Rattle.vec_ask.proofs.answer.Tie as tie
 use Rattle.vec_ask.proofs.answer.Reads as reads
 use Rattle.vec_ask.proofs.answer.Lts as lts
 use Rattle.vec_ask.proofs.serve.Reads as serve-reads
-use Rattle.loader.proofs.load.Reads as load-reads
+use Rattle.load.proofs.load.Reads as load-reads
 use Rattle.prog_output.proofs.put_refusal.Reads as put-refusal-reads
 
 slice-aggregate-load : tie.Need-slice-aggregate-load
@@ -31,7 +31,7 @@ slice-aggregate-serve : tie.Need-slice-aggregate-serve
 slice-aggregate-serve c = search needs
 
 serve-requires : tie.Need-serve-requires
-serve-requires c κs = ap (λ (o : Outcome). is-table (o .bytes)) (c .before .before .before .before .before .load .ensures) ∙ leaves-table _ _ (sym (ap (λ (o : Outcome). is-accepted (o .answer)) (c .before .before .before .before .before .load .ensures)) ∙ ap is-accepted (c .before .before .length .given .1))
+serve-requires c κs = ap (λ (o : Result). is-table (o .bytes)) (c .before .before .before .before .before .load .ensures) ∙ leaves-table _ _ (sym (ap (λ (o : Result). is-accepted (o .answer)) (c .before .before .before .before .before .load .ensures)) ∙ ap is-accepted (c .before .before .length .given .1))
 
 returns : tie.Need-returns
 returns c = search needs

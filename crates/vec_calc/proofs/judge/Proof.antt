@@ -10,7 +10,7 @@ use Rattle.vec_calc.proofs.judge.Lts as lts
 use Rattle.vec_calc.proofs.behind.Reads as behind-reads
 use Rattle.vec_calc.proofs.put.Reads as put-reads
 use Rattle.vec_calc.proofs.say.Reads as say-reads
-use Rattle.evaluate.proofs.allowed.Reads as allowed-reads
+use Rattle.calc.proofs.allowed.Reads as allowed-reads
 
 -- src/main.rt:172:26
 array-share-prefix-text : tie.Need-array-share-prefix-text

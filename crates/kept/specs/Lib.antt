@@ -1,3 +1,0 @@
-pub mod Kept
-pub mod Laws
-pub mod Stores

@@ -1,0 +1,7 @@
+pub mod Listed
+pub mod Seek
+pub mod Search
+pub mod Position
+pub mod Roles
+pub mod Spans
+pub mod laws

@@ -1,0 +1,6 @@
+pub mod Symbol
+pub mod Expression
+pub mod Value
+pub mod Readings
+pub mod Reader
+pub mod laws

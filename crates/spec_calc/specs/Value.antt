@@ -1,0 +1,97 @@
+-- The value of a calculation, and when it is true. 01, "The calculation".
+use mathlib.Core.Bool.{Bool, true, false, cond, not, _&&_, _||_}
+use mathlib.Core.List.{List, [], _∷_, _++_}
+use Prim.Native.Nat.{ℕ}
+use lib.ListN.{getD}
+use lib.Ieee as Ieee
+use lib.Ieee.{Float, nan, inf, fin, binary64, ofBits}
+use mathlib.Core.Path.{_≡_, refl}
+use Rattle.spec_lists.specs.Select.{all}
+use Rattle.spec_calc.specs.declared.Operator.{Operator}
+use Rattle.spec_calc.specs.declared.Operator.the-variants.{Or, And, Less, AtMost, More, AtLeast, Equal, Differs, Plus, Minus, Times, Over}
+use Rattle.spec_calc.specs.declared.Reading.{Reading}
+use Rattle.spec_calc.specs.declared.Reading.the-variants.{NeverHeard, Invalid, Value}
+use Rattle.spec_calc.specs.Expression.{Tree, number-tree, letter-tree, minus, negation, binary, choice}
+
+abbrev pub zero-value : Float
+zero-value = ofBits binary64 0
+
+abbrev pub one-value : Float
+one-value = ofBits binary64 0x3ff0_0000_0000_0000
+
+-- 01: "comparisons and logic give 1 or 0"
+abbrev pub truth : Bool → Float
+truth b = cond b one-value zero-value
+
+-- 01: "anything but 0 is true"
+abbrev pub is-true : Float → Bool
+is-true x = Ieee.ne x zero-value
+
+-- 01: "Arithmetic is binary64, each operation rounded once"
+abbrev pub apply : Operator → Float → Float → Float
+apply Or x y = truth (is-true x || is-true y)
+apply And x y = truth (is-true x && is-true y)
+apply Less x y = truth (Ieee.lt x y)
+apply AtMost x y = truth (Ieee.le x y)
+apply More x y = truth (Ieee.lt y x)
+apply AtLeast x y = truth (Ieee.le y x)
+apply Equal x y = truth (Ieee.eq x y)
+apply Differs x y = truth (Ieee.ne x y)
+apply Plus x y = Ieee.add binary64 x y
+apply Minus x y = Ieee.sub binary64 x y
+apply Times x y = Ieee.mul binary64 x y
+apply Over x y = Ieee.div binary64 x y
+
+-- the reading of a letter among the 21
+abbrev pub reading : List Reading → ℕ → Reading
+reading rs i = getD rs i NeverHeard
+
+-- a good reading's value; the others' is never asked for
+abbrev pub heard : Reading → Float
+heard NeverHeard = zero-value
+heard Invalid = zero-value
+heard (Value x) = x
+
+-- 01: "only the chosen branch counts"
+unfoldable pub value : List Reading → Tree → Float
+value rs (number-tree x) = x
+value rs (letter-tree i) = heard (reading rs i)
+value rs (minus t) = Ieee.neg (value rs t)
+value rs (negation t) = truth (not (is-true (value rs t)))
+value rs (binary o t u) = apply o (value rs t) (value rs u)
+value rs (choice c x y) = cond (is-true (value rs c)) (value rs x) (value rs y)
+
+abbrev pub finite : Float → Bool
+finite nan = false
+finite (inf s) = false
+finite (fin s m e) = true
+
+-- 01: "a value that is infinite or not a number is bad, as are the first two"
+abbrev pub good : Reading → Bool
+good NeverHeard = false
+good Invalid = false
+good (Value x) = finite x
+
+-- the letters of a calculation, in either branch
+abbrev pub letters : Tree → List ℕ
+letters (number-tree x) = []
+letters (letter-tree i) = i ∷ []
+letters (minus t) = letters t
+letters (negation t) = letters t
+letters (binary o t u) = letters t ++ letters u
+letters (choice c x y) = letters c ++ (letters x ++ letters y)
+
+-- 01: "0.99 < result < 1.01, both bounds being the nearest binary64"
+abbrev pub lower-bound : Float
+lower-bound = ofBits binary64 0x3fef_ae14_7ae1_47ae
+
+abbrev pub upper-bound : Float
+upper-bound = ofBits binary64 0x3ff0_28f5_c28f_5c29
+
+-- 001: "the actual test for TRUE is (0.99 < result < 1.01)"
+abbrev pub near-one : Float → Bool
+near-one x = Ieee.lt lower-bound x && Ieee.lt x upper-bound
+
+-- 01: "If any letter in the text, in either branch, has a bad reading, the calculation is false. Otherwise it is true exactly if 0.99 < result < 1.01"
+abbrev pub holds : List Reading → Tree → Bool
+holds rs t = all (λ i. good (reading rs i)) (letters t) && near-one (value rs t)

@@ -1,0 +1,6 @@
+pub mod Bounds
+pub mod Complete
+pub mod Readings
+pub mod Sound
+pub mod Symbols
+pub mod Theorem

@@ -1,0 +1,90 @@
+-- How a text's symbols go on from what the text begins with: the bound on the steps does not matter.
+use mathlib.Core.Path.{_≡_, refl, sym, ap, _∙_}
+use mathlib.Core.Bool.{Bool, true, false, cond}
+use mathlib.Core.List.{List, [], _∷_}
+use mathlib.Core.Option.{Option, none, some}
+use Prim.Native.Nat.{ℕ, zero, suc, _-_, _≤_}
+use native.Mathlib.Omega.{arith}
+use lib.ListN.{length, take, drop, length-drop}
+use Rattle.spec_lists.specs.Text.{same, among, within}
+use Rattle.spec_lists.specs.Select.{first, run, after, skip-if}
+use Rattle.spec_calc.specs.Symbol.{Symbol, letter, numeral, numeral-byte, Spelling, spellings, Start, blank, figure, wrong, sign, sign-of, start, then}
+use Rattle.spec_calc.specs.Symbol.{then-number, symbols-in, symbols}
+
+module _ {A : Type 0} (p : A → Bool) where
+  after-shorter : (s : List A) → length (after p s) ≤ length s
+  after-shorter [] = omega arith
+  after-shorter (x ∷ s) = go (p x) (after-shorter s)
+    where
+      go : (b : Bool) → length (after p s) ≤ length s → length (skip-if b (after p s) (x ∷ s)) ≤ length (x ∷ s)
+      go true h = omega arith
+      go false h = omega arith
+
+-- only a number begins with a figure
+pub figure-byte : (b : ℕ) (s : List ℕ) → start b s ≡ figure → numeral-byte b ≡ true
+figure-byte b s e =
+    go (among " \t" b) (numeral-byte b) (within 65 85 b) (within 97 117 b) (first (λ x. same (x .spelled) (take (length (x .spelled)) (b ∷ s))) spellings) (b - 65) (b - 97) e
+  where
+    go :
+        (p q u v : Bool) (o : Option Spelling) (i j : ℕ)
+        → cond p blank (cond q figure (cond u (sign (letter i) 0) (cond v (sign (letter j) 0) (sign-of o)))) ≡ figure → q ≡ true
+    go true q u v o i j e = cc
+    go false true u v o i j e = refl
+    go false false true v o i j e = cc
+    go false false false true o i j e = cc
+    go false false false false none i j e = cc
+    go false false false false (some x) i j e = cc
+
+-- a number takes its first byte
+number-shorter : (b : ℕ) (s : List ℕ) → start b s ≡ figure → length (after numeral-byte (b ∷ s)) ≤ length s
+number-shorter b s e = rw (figure-byte b s e) (after-shorter numeral-byte s)
+
+drop-shorter : (m : ℕ) (s : List ℕ) → length (drop m s) ≤ length s
+drop-shorter m s = omega (arith, length-drop m s)
+
+-- one step, if the bounds are enough for each shorter text
+enough-step :
+    (n m b : ℕ) (s : List ℕ)
+    → ((t : List ℕ) → length t ≤ length s → symbols-in n t ≡ symbols-in m t)
+    → (x : Start) → start b s ≡ x → symbols-in (suc n) (b ∷ s) ≡ symbols-in (suc m) (b ∷ s)
+unfolding symbols-in
+enough-step n m b s h blank e = rw (e, symbols-in) (h s (omega arith))
+enough-step n m b s h figure e = rw (e, symbols-in) (ap (then-number (numeral (run numeral-byte (b ∷ s)))) (h (after numeral-byte (b ∷ s)) (number-shorter b s e)))
+enough-step n m b s h wrong e = rw (e, symbols-in)
+enough-step n m b s h (sign x k) e = rw (e, symbols-in) (ap (then x) (h (drop k s) (drop-shorter k s)))
+
+enough : (n m : ℕ) (s : List ℕ) → length s ≤ n → length s ≤ m → symbols-in n s ≡ symbols-in m s
+unfolding symbols-in
+enough zero zero s h g = refl
+enough zero (suc m) [] h g = refl
+enough zero (suc m) (b ∷ s) h g = absurd (omega arith)
+enough (suc n) zero [] h g = refl
+enough (suc n) zero (b ∷ s) h g = absurd (omega arith)
+enough (suc n) (suc m) [] h g = refl
+enough (suc n) (suc m) (b ∷ s) h g = enough-step n m b s (λ t l. enough n m t (omega arith) (omega arith)) (start b s) refl
+
+-- ---- what a text goes on with, by what it begins with
+
+pub scan-end : symbols [] ≡ some []
+unfolding symbols-in
+scan-end = refl
+
+module _ (b : ℕ) (s : List ℕ) where
+  pub scan-blank : start b s ≡ blank → symbols (b ∷ s) ≡ symbols s
+  unfolding symbols-in
+  scan-blank e = rw (e, symbols-in)
+
+  pub scan-figure : start b s ≡ figure → symbols (b ∷ s) ≡ then-number (numeral (run numeral-byte (b ∷ s))) (symbols (after numeral-byte (b ∷ s)))
+  unfolding symbols-in
+  scan-figure e =
+      let l = number-shorter b s e in
+      rw (e, symbols-in)
+      (ap (then-number (numeral (run numeral-byte (b ∷ s)))) (enough (length s) (length (after numeral-byte (b ∷ s))) (after numeral-byte (b ∷ s)) (omega arith) (omega arith)))
+
+  pub scan-wrong : start b s ≡ wrong → symbols (b ∷ s) ≡ none
+  unfolding symbols-in
+  scan-wrong e = rw (e, symbols-in)
+
+  pub scan-sign : {x : Symbol} {m : ℕ} → start b s ≡ sign x m → symbols (b ∷ s) ≡ then x (symbols (drop m s))
+  unfolding symbols-in
+  scan-sign {x} {m} e = let l = drop-shorter m s in rw (e, symbols-in) (ap (then x) (enough (length s) (length (drop m s)) (drop m s) (omega arith) (omega arith)))

@@ -1,0 +1,5 @@
+pub mod Calls
+pub mod ByFile
+pub mod Cases
+pub mod Front
+pub mod laws

@@ -1,0 +1,5 @@
+pub mod Cases
+pub mod Exact
+pub mod Inputs
+pub mod Later
+pub mod Loaded

@@ -1,0 +1,40 @@
+-- The cases, proved by computation from the texts.
+use mathlib.Core.Path.{_≡_, refl}
+use mathlib.Core.Bool.{Bool, true, false}
+use mathlib.Core.List.{List, _∷_}
+use mathlib.Core.Option.{some}
+use Prim.Native.Nat.{ℕ, _+_}
+use Prim.Native.String.{String}
+use lib.ListN.{replicate}
+use lib.Ieee.{Float, nan, ne, lt, le, eq, add, sub, mul, div, neg, ofBits, ofInt}
+use Rattle.spec_token.specs.Token.{scan}
+use Rattle.spec_calc.specs.Symbol.{symbols-in}
+use Rattle.spec_calc.specs.Value.{value}
+use Rattle.spec_calc.specs.Reader.{tree-of, run, reduce}
+use Rattle.spec_rule.specs.declared.Access.the-variants as access
+use Rattle.spec_file.specs.Load.{verdict}
+use Rattle.spec_table.specs.Layout.{layout}
+use Rattle.spec_table.specs.View.{view}
+use Rattle.spec_table.specs.Check.{is-table}
+use Rattle.spec_table.specs.Written.{table-of}
+use Rattle.spec_load.specs.Load.{load}
+use Rattle.spec_decision.specs.Decision.{decide}
+use Rattle.spec_demand.specs.Cases.{Proved-cases}
+
+pub proved-cases : Proved-cases
+unfolding load verdict scan table-of layout is-table view decide tree-of run reduce symbols-in value ne lt le eq add sub mul div neg ofBits ofInt
+proved-cases =
+    record {
+      question-1 = refl;
+      question-2 = refl;
+      question-3 = refl;
+      question-4 = refl;
+      under-bound = refl;
+      over-bound = refl;
+      under-by-division = refl;
+      one = refl;
+      not-a-number = refl;
+      lower-level = refl;
+      higher-level = refl;
+      no-group = refl;
+    }

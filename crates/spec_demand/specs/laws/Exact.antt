@@ -1,0 +1,66 @@
+-- The parts of demands 1 and 2 that no crate below states by itself.
+use mathlib.Core.Path.{_≡_, refl, ap, _∙_}
+use mathlib.Core.Bool.{true, false}
+use mathlib.Core.List.{List, _++_}
+use mathlib.Core.Option.{some}
+use Prim.Native.Nat.{ℕ, _≤_, _<_}
+use native.Mathlib.Omega.{arith}
+use lib.ListN.{length, drop, replicate}
+use borrow.Author.Tests.{le-leb, lt-leb}
+use Rattle.spec_grammar.specs.Sentence.{Tagged}
+use Rattle.spec_rule.specs.declared.Access.the-variants as access
+use Rattle.spec_rule.specs.Question.{Question}
+use Rattle.spec_file.specs.Contents.{file-of}
+use Rattle.spec_file.specs.Acceptance.{Acceptable}
+use Rattle.spec_file.specs.laws.Theorem.{acceptable-is}
+use Rattle.spec_table.specs.Check.{is-table}
+use Rattle.spec_table.specs.Written.{table-of}
+use Rattle.spec_table.specs.Layout.{greatest-table}
+use Rattle.spec_table.specs.laws.Accepted.{fits}
+use Rattle.spec_table.specs.laws.Theorem.{is-a-table, table-length, zeros-no-table}
+use Rattle.spec_load.specs.Load.{written, without-room, load}
+use Rattle.spec_decision.specs.declared.Answer.{Answer}
+use Rattle.spec_decision.specs.declared.Answer.the-variants.{Answered, NotTable, BadLevel}
+use Rattle.spec_decision.specs.Decision.{number, access-in, trap-in, decide}
+use Rattle.spec_decision.specs.LookUp.{look-up}
+use Rattle.spec_demand.specs.ByFile.{answer-by-file, input-by-file, name-found}
+use Rattle.spec_demand.specs.laws.Inputs.{looked-up}
+use Rattle.spec_demand.specs.Calls.{is-accepted}
+use Rattle.spec_demand.specs.laws.Loaded.{stored, decided}
+
+pub refused-grants-nothing : (b : List ℕ) (q : Question) (n : ℕ) → number (decide b q) ≡ some n → (access-in (decide b q) ≡ access.None) × (trap-in (decide b q) ≡ false)
+refused-grants-nothing b q n e = by (decide b q) e
+  where
+    by : (a : Answer) → number a ≡ some n → (access-in a ≡ access.None) × (trap-in a ≡ false)
+    by (Answered x t) h = let z : _≡_ {A = ℕ} 0 1 = cc in absurd (omega arith)
+    by NotTable h = (refl, refl)
+    by BadLevel h = (refl, refl)
+
+pub zeros-grant-nothing : (n : ℕ) (q : Question) → (access-in (decide (replicate n 0) q) ≡ access.None) × (trap-in (decide (replicate n 0) q) ≡ false)
+unfolding decide
+zeros-grant-nothing n q = rw (zeros-no-table n) (refl, refl)
+
+pub laid-down : (lent s : List ℕ) (xs : List Tagged) → Acceptable s xs → length (table-of (file-of xs)) ≤ length lent → load lent s ≡ written lent xs
+unfolding load
+laid-down lent s xs a l = rw (acceptable-is s xs a, le-leb (length (table-of (file-of xs))) (length lent) l)
+
+pub not-laid-down : (lent s : List ℕ) (xs : List Tagged) → Acceptable s xs → length lent < length (table-of (file-of xs)) → load lent s ≡ without-room lent xs
+unfolding load
+not-laid-down lent s xs a l = rw (acceptable-is s xs a, lt-leb (length (table-of (file-of xs))) (length lent) l)
+
+pub stands : (s : List ℕ) (xs : List Tagged) → Acceptable s xs → (rest : List ℕ) → (is-table (table-of (file-of xs) ++ rest) ≡ true) × (length (table-of (file-of xs)) ≤ greatest-table)
+stands s xs a rest = let f = fits s xs (acceptable-is s xs a) in (is-a-table (file-of xs) f rest, table-length (file-of xs) f)
+
+-- what an accepted load leaves is a table
+pub leaves-table : (lent s : List ℕ) → is-accepted (load lent s .answer) ≡ true → is-table (load lent s .bytes) ≡ true
+leaves-table lent s e =
+    let k = stored lent s e in
+    ap is-table (k .bytes) ∙ is-a-table (file-of (k .said)) (fits s (k .said) (k .accepted)) (drop (length (table-of (file-of (k .said)))) lent)
+
+pub answers-by-file : (s : List ℕ) (xs : List Tagged) → Acceptable s xs → (rest : List ℕ) (q : Question) → decide (table-of (file-of xs) ++ rest) q ≡ answer-by-file (file-of xs) q
+answers-by-file s xs a rest q = decided (file-of xs) (fits s xs (acceptable-is s xs a)) rest q
+
+pub inputs-by-file :
+    (s : List ℕ) (xs : List Tagged) → Acceptable s xs → (rest g : List ℕ) (letter : ℕ)
+    → name-found (look-up (table-of (file-of xs) ++ rest) g letter) (table-of (file-of xs) ++ rest) ≡ input-by-file (file-of xs) g letter
+inputs-by-file s xs a rest g letter = looked-up (file-of xs) (fits s xs (acceptable-is s xs a)) rest g letter

@@ -1,0 +1,9 @@
+pub mod Contents
+pub mod Meaning
+pub mod Limit
+pub mod Depth
+pub mod Refusal
+pub mod Warning
+pub mod Load
+pub mod Acceptance
+pub mod laws

@@ -1,0 +1,133 @@
+-- The causes 5 to 10 for which a load refuses a file of the grammar. 01, "Load refusals, in their order".
+use mathlib.Core.Bool.{Bool, cond, not, _&&_, _||_}
+use mathlib.Core.List.{List, [], _∷_, _++_, map}
+use mathlib.Core.Option.{Option, none, some}
+use Prim.Native.Nat.{ℕ}
+use lib.Dec.{eqb, leb, ltb}
+use lib.ListN.{length}
+use Rattle.spec_lists.specs.Text.{same}
+use Rattle.spec_lists.specs.Select.{holds-of, missing, all, any, select, first}
+use Rattle.spec_token.specs.Word.{link-letter}
+use Rattle.spec_grammar.specs.declared.Role.{Role}
+use Rattle.spec_grammar.specs.declared.Role.the-variants.{UagName, HagName, AsgName, Input, RuleWord, Level, Permission, LogOption, CalcWord, Calculation}
+use Rattle.spec_grammar.specs.Sentence.{Tagged}
+use Rattle.spec_calc.specs.Expression.{Tree}
+use Rattle.spec_calc.specs.Value.{letters}
+use Rattle.spec_calc.specs.Reader.{tree-of}
+use Rattle.spec_file.specs.declared.Refusal.{Refusal}
+use Rattle.spec_file.specs.declared.Refusal.the-variants.{FileTooLong, BadByte, TooDeep, Ungrammatical, StringTooLong, TooMany, GivenAgain, BadLevel}
+use Rattle.spec_file.specs.declared.Refusal.the-variants.{UnknownWord, BadCalculation, NoRoom}
+use Rattle.spec_file.specs.Limit.{Section, order, most, item-of, longest}
+use Rattle.spec_file.specs.Contents.{has-role, text, place, until, level-of, permission-of, log-of}
+
+-- 01's numbers
+abbrev pub number : Refusal → ℕ
+number FileTooLong = 1
+number BadByte = 2
+number TooDeep = 3
+number Ungrammatical = 4
+number StringTooLong = 5
+number TooMany = 6
+number GivenAgain = 7
+number BadLevel = 8
+number UnknownWord = 9
+number BadCalculation = 10
+number NoRoom = 11
+
+-- a token among those before it, the nearest first, and those behind it
+pub record Context : Type 0 where
+  pub backwards : List Tagged
+  pub here : Tagged
+  pub onwards : List Tagged
+
+abbrev pub contexts-after : List Tagged → List Tagged → List Context
+contexts-after b [] = []
+contexts-after b (x ∷ xs) = record { backwards = b; here = x; onwards = xs } ∷ contexts-after (x ∷ b) xs
+
+-- every token of a file in its context, in file order
+abbrev pub contexts : List Tagged → List Context
+contexts = contexts-after []
+
+-- 5: "string too long", "counted without quotes"
+abbrev pub too-long : Context → Bool
+too-long c = holds-of (longest (c .here .role)) (λ n. ltb n (length (text (c .here))))
+
+-- a token is an item of a section
+abbrev pub item : Section → Tagged → Bool
+item s x = holds-of (item-of (x .role)) (λ t. eqb (order t) (order s))
+
+-- 6: "table limit passed", "first item too many"
+abbrev pub too-many : Context → Bool
+too-many c = holds-of (item-of (c .here .role)) (λ s. leb (most s) (length (select (item s) (c .backwards))))
+
+-- a token of the role q that some of the tokens xs repeat: they have its role and its text
+abbrev pub again : Role → List Tagged → Context → Bool
+again q xs c = has-role q (c .here) && any (λ x. has-role (x .role) (c .here) && same (text x) (text (c .here))) xs
+
+-- 7: "two UAG, two HAG or two ASG of one name (bytes compared)"
+abbrev pub name-again : Context → Bool
+name-again c = again UagName (c .backwards) c || (again HagName (c .backwards) c || again AsgName (c .backwards) c)
+
+-- 7: "one INP letter twice in an ASG": the INP word has its letter in it
+abbrev pub letter-again : Context → Bool
+letter-again c = again Input (until AsgName (c .backwards)) c
+
+-- 7: "a second CALC in a RULE"
+abbrev pub calc-again : Context → Bool
+calc-again c = again CalcWord (until RuleWord (c .backwards)) c
+
+-- 7: "name or letter given again"
+abbrev pub given-again : Context → Bool
+given-again c = name-again c || (letter-again c || calc-again c)
+
+-- 8: "level neither 0 nor 1"
+abbrev pub bad-level : Context → Bool
+bad-level c = has-role Level (c .here) && missing (level-of (text (c .here)))
+
+-- 9: "permission or log word unknown"
+abbrev pub unknown-word : Context → Bool
+unknown-word c =
+    has-role Permission (c .here) && missing (permission-of (text (c .here)))
+    || has-role LogOption (c .here) && missing (log-of (text (c .here)))
+
+-- the letters that have an INP in the ASG, before or after
+abbrev pub letters-given : Context → List ℕ
+letters-given c =
+    map (λ x. link-letter (text x)) (select (has-role Input) (until AsgName (c .backwards) ++ until AsgName (c .onwards)))
+
+-- 01: "Every letter used must have an INP in the ASG, before or after the rule"
+abbrev pub letters-among : List ℕ → Tree → Bool
+letters-among given t = all (λ i. any (eqb i) given) (letters t)
+
+-- 10: "calculation not allowed"
+abbrev pub bad-calculation : Context → Bool
+bad-calculation c = has-role Calculation (c .here) && not (holds-of (tree-of (text (c .here))) (letters-among (letters-given c)))
+
+-- the causes in their order
+pub record Cause : Type 0 where
+  pub refusal : Refusal
+  pub applies : Context → Bool
+
+abbrev pub causes : List Cause
+causes =
+    record { refusal = StringTooLong; applies = too-long }
+    ∷ record { refusal = TooMany; applies = too-many }
+    ∷ record { refusal = GivenAgain; applies = given-again }
+    ∷ record { refusal = BadLevel; applies = bad-level }
+    ∷ record { refusal = UnknownWord; applies = unknown-word }
+    ∷ record { refusal = BadCalculation; applies = bad-calculation }
+    ∷ []
+
+-- a refusal and its place
+pub record Refusal-at : Type 0 where
+  pub refusal : Refusal
+  pub place : ℕ
+
+abbrev pub or-else : Refusal → Option Context → Option Refusal-at → Option Refusal-at
+or-else n none o = o
+or-else n (some c) o = some (record { refusal = n; place = place (c .here) })
+
+-- 01: "The lowest number that applies is answered. Within it, the earliest place"
+abbrev pub refused-by : List Cause → List Context → Option Refusal-at
+refused-by [] cs = none
+refused-by (k ∷ ks) cs = or-else (k .refusal) (first (k .applies) cs) (refused-by ks cs)

@@ -1,0 +1,5 @@
+pub mod Items
+pub mod Clauses
+pub mod Counted
+pub mod ItemClauses
+pub mod Theorem

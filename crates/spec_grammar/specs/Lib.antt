@@ -1,0 +1,5 @@
+pub mod Production
+pub mod Reader
+pub mod Codes
+pub mod Sentence
+pub mod laws

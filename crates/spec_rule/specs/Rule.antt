@@ -1,0 +1,83 @@
+-- What a rule asks of a question, and what the rules of a group give. 01, "The question"; 001, the access rule in steps 1 to 3.
+use mathlib.Core.Bool.{Bool, true, false, cond, not, _&&_}
+use mathlib.Core.List.{List, [], _∷_, map}
+use mathlib.Core.Option.{Option, none, some}
+use Prim.Native.Nat.{ℕ}
+use lib.Dec.{leb, eqb}
+use Rattle.spec_lists.specs.Text.{same, lowered}
+use Rattle.spec_lists.specs.Select.{any, select, first}
+use Rattle.spec_calc.specs.declared.Reading.{Reading}
+use Rattle.spec_calc.specs.Expression.{Tree}
+use Rattle.spec_calc.specs.Value.{holds}
+use Rattle.spec_calc.specs.Reader.{tree-of}
+use Rattle.spec_rule.specs.declared.Access.{Access}
+use Rattle.spec_rule.specs.declared.Access.the-variants as access
+use Rattle.spec_rule.specs.Question.{Question}
+
+-- a rule and what it asks, of a file or of a table
+pub record Rule : Type 0 where
+  pub level : ℕ
+  pub permission : Access
+  pub trap : Bool
+  pub switched-off : Bool
+  -- for each UAG and each HAG that it names, the members as they stand there; a file's hosts are lowered first
+  pub uags : List (List (List ℕ))
+  pub hags : List (List (List ℕ))
+  pub calculation : Option (List ℕ)
+
+-- 01: "permission (0, 1, 2)"; 001: "WRITE permission implies READ permission."
+abbrev pub rank : Access → ℕ
+rank access.None = 0
+rank access.Read = 1
+rank access.Write = 2
+
+-- 01: "the user is a member of one of its UAGs (or it names none)"; "Several UAG lists in one rule count as one."
+-- A predicate says which members match, one for users and one for hosts.
+abbrev pub belongs : (List ℕ → Bool) → List (List (List ℕ)) → Bool
+belongs matches [] = true
+belongs matches (g ∷ gs) = any (λ members. any matches members) (g ∷ gs)
+
+-- the tree that a text says, if it says one, is true of the readings
+abbrev pub true-tree : List Reading → Option Tree → Bool
+true-tree rs none = false
+true-tree rs (some t) = holds rs t
+
+-- 01: "its calculation, if any, is true"
+abbrev pub calculation-holds : List Reading → Option (List ℕ) → Bool
+calculation-holds rs none = true
+calculation-holds rs (some s) = true-tree rs (tree-of s)
+
+-- what a rule asks of level, user, host and calculation. 01: "the host likewise (its ASCII letters lowered first, stored bytes as they are)"
+abbrev pub asks : Rule → Question → Bool
+asks r q =
+    leb (q .level) (r .level)
+    && (belongs (same (q .user)) (r .uags)
+    && (belongs (same (lowered (q .host))) (r .hags) && calculation-holds (q .readings) (r .calculation)))
+
+-- 01: "A rule passes if it isn't switched off, the field's level is at most the rule's, [..]"
+abbrev pub passes : Question → Rule → Bool
+passes q r = not (r .switched-off) && asks r q
+
+abbrev pub greater : Access → Access → Access
+greater a b = cond (leb (rank a) (rank b)) b a
+
+-- 01: "the greatest of the passing rules' permissions, NONE if none pass"
+abbrev pub greatest : List Access → Access
+greatest [] = access.None
+greatest (a ∷ others) = greater a (greatest others)
+
+-- 001: "The maximum access allowed by step 2 is the access chosen."
+abbrev pub access-by : Question → List Rule → Access
+access-by q rs = greatest (map (λ r. r .permission) (select (passes q) rs))
+
+-- 001: "the first WRITE rule that passes the rule checks"
+abbrev pub gives-write : Rule → Bool
+gives-write r = eqb (rank (r .permission)) (rank access.Write)
+
+abbrev pub trap-of : Option Rule → Bool
+trap-of none = false
+trap-of (some r) = r .trap
+
+-- 01: "Trap is that of the first passing WRITE rule, and off if there is none."
+abbrev pub trap-by : Question → List Rule → Bool
+trap-by q rs = trap-of (first gives-write (select (passes q) rs))

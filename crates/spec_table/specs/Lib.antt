@@ -1,0 +1,7 @@
+pub mod Layout
+pub mod View
+pub mod Check
+pub mod Policy
+pub mod Written
+pub mod Fields
+pub mod laws

@@ -1,0 +1,4 @@
+pub mod Kinds
+pub mod Quotes
+pub mod Spans
+pub mod Steps
