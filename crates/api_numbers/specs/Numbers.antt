@@ -33,7 +33,7 @@ listed-number (listed.Refused k p) = packed p 0 (refusal.number k)
 
 -- a question: access in bits 0 and 1, trap in bit 2, a refusal's number from bit 8
 abbrev pub answer-number : Answer → ℕ
-answer-number (answer.Answered a t) = rank a + cond t 4 0
+answer-number (answer.Answered d) = rank (d .access) + cond (d .trap) 4 0
 answer-number answer.NotTable = not-table-number * 256
 answer-number answer.BadLevel = 21 * 256
 

@@ -82,9 +82,10 @@ pub fn answer_number(a: Answer) -> u32
     ensures { λ r. ⌜ r ≡ answer-number a ⌝ }
 {
     match a {
-        Answer::Answered { access, trap } => {
+        Answer::Answered(d) => {
+            let access = d.access;
             let low = access_number(access);
-            if trap { low + 4 } else { low }
+            if d.trap { low + 4 } else { low }
         }
         Answer::NotTable => NOT_TABLE,
         Answer::BadLevel => BAD_LEVEL,

@@ -3,6 +3,7 @@ use mathlib.Core.List.{List, [], _∷_}
 use Prim.Native.Nat.{ℕ, zero, suc, _+_, _*_, _/_, _%_}
 use lib.ListN.{length, getD}
 use lib.Ieee.{Float}
+use Rattle.spec_rule.specs.Question.{question-of}
 use Rattle.spec_calc.specs.declared.Reading.{Reading}
 use Rattle.api_readings.specs.Readings.{readings}
 use Rattle.load_tokens.specs.Arrays.{between}
@@ -27,7 +28,7 @@ script-of ws p ss vs = record { words = ws; pool = p; states = ss; values = vs }
 abbrev pub call-of : ℕ → List ℕ → List ℕ → List ℕ → ℕ → List Reading → Call
 call-of what a b c n rs =
     getD
-    (load-text a ∷ list-warnings a ∷ calculate a rs ∷ check-table ∷ ask (record { group = a; user = b; host = c; level = n; readings = rs }) ∷ [])
+    (load-text a ∷ list-warnings a ∷ calculate a rs ∷ check-table ∷ ask (question-of a b c n rs) ∷ [])
     what
     (look-up-input a n)
 

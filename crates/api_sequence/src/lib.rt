@@ -5,6 +5,7 @@ use spec_calc::Reading;
 ghost use mathlib.Core.Path.{_≡_};
 ghost use Prim.Native.Nat.{_+_, _*_, _≤_, _<_};
 ghost use lib.ListN.{length};
+ghost use Rattle.spec_rule.specs.Question.{question-of};
 ghost use Rattle.spec_demand.specs.Calls.{after-calls};
 ghost use Rattle.api_script.specs.Script.{script-of, call-of, call-at, calls};
 ghost use Rattle.api_script.specs.Replies.{answer-to, Made};
@@ -100,7 +101,7 @@ pub fn load_then_ask(
     ensures { λ r. ⌜
         Never-more (now (lent .entry)) (now (text .entry))
         (calls (script-of (now (script .entry)) (now (pool .entry)) (now (states .entry)) (now (values .entry))))
-        (record { group = now (group .entry); user = now (user .entry); host = now (host .entry); level = level; readings = rs })
+        (question-of (now (group .entry)) (now (user .entry)) (now (host .entry)) level rs)
         (now (lent .exit)) r
         ⌝ }
 {

@@ -15,7 +15,7 @@ use Rattle.spec_table.specs.laws.Standing.{row}
 use Rattle.spec_decision.specs.LookUp.{input-of}
 use Rattle.table_read.specs.declared.Index.{Index}
 use Rattle.table_read.specs.Search.{Finds, group-for}
-use Rattle.ask_rule.specs.Rules.{question, Heard-as}
+use Rattle.ask_rule.specs.Rules.{question, Inputs-are}
 
 -- the rules of the i-th access group
 abbrev pub group-rules : List ℕ → ℕ → List Rule
@@ -24,7 +24,7 @@ group-rules b i = rules-of (view b) (row (view b) access-groups i)
 -- what they give every question whose readings have these values
 abbrev pub By-group : List ℕ → ℕ → List ℕ → List ℕ → ℕ → List Float → List Bool → Decision → Type 0
 By-group b i user host level values goods r =
-    (rs : List Reading) → Heard-as values goods rs → r ≡ decision-by (question user host level rs) (group-rules b i)
+    (rs : List Reading) → Inputs-are values goods rs → r ≡ decision-by (question user host level rs) (group-rules b i)
 
 -- the number of the input that has the letter, in the group that answers
 abbrev pub Finds-letter : List ℕ → List ℕ → ℕ → Index → Type 0

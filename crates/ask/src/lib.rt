@@ -9,6 +9,7 @@ use table_read::Section;
 ghost use mathlib.Core.Path.{_≡_};
 ghost use mathlib.Core.Bool.{true};
 ghost use lib.ListN.{length};
+ghost use Rattle.spec_rule.specs.Question.{question-of};
 ghost use Rattle.spec_file.specs.Limit.{access-groups};
 ghost use Rattle.spec_table.specs.Check.{is-table};
 ghost use Rattle.spec_decision.specs.Decision.{decide};
@@ -56,16 +57,16 @@ pub fn decide_checked(
     rs: [Reading; 21],
 ) -> Answer
     requires { ⌜ is-table (now table) ≡ true ⌝ }
-    ensures { λ r. ⌜ r ≡ decide (now (table .entry)) (record { group = now (group .entry); user = now (user .entry); host = now (host .entry); level = level; readings = rs }) ⌝ }
+    ensures { λ r. ⌜ r ≡ decide (now (table .entry)) (question-of (now (group .entry)) (now (user .entry)) (now (host .entry)) level rs) ⌝ }
 {
     if 1 < level {
         return Answer::BadLevel;
     }
     match table_read::answering_group(table, group) {
-        Index::Missing => Answer::Answered {
+        Index::Missing => Answer::Answered(Decision {
             access: Access::None,
             trap: false,
-        },
+        }),
         Index::At(i) => {
             let h = calc::inputs_of(rs);
             let values = h.values;
@@ -79,11 +80,7 @@ pub fn decide_checked(
                 &values,
                 &goods,
             );
-            let access = d.access;
-            Answer::Answered {
-                access,
-                trap: d.trap,
-            }
+            Answer::Answered(d)
         }
     }
 }
@@ -97,7 +94,7 @@ pub fn decide(
     level: u8,
     rs: [Reading; 21],
 ) -> Answer
-    ensures { λ r. ⌜ r ≡ decide (now (table .entry)) (record { group = now (group .entry); user = now (user .entry); host = now (host .entry); level = level; readings = rs }) ⌝ }
+    ensures { λ r. ⌜ r ≡ decide (now (table .entry)) (question-of (now (group .entry)) (now (user .entry)) (now (host .entry)) level rs) ⌝ }
 {
     if table_check::is_table(table) {
         decide_checked(table, group, user, host, level, rs)

@@ -7,7 +7,7 @@ use lib.Ieee.{Float}
 use Rattle.spec_calc.specs.declared.Reading.{Reading}
 use Rattle.spec_calc.specs.Value.{heard, good}
 use Rattle.spec_rule.specs.declared.Decision.{Decision}
-use Rattle.spec_rule.specs.Question.{Question}
+use Rattle.spec_rule.specs.Question.{question-of, Question}
 use Rattle.spec_rule.specs.Rule.{Rule, calculation-holds, passes}
 use Rattle.spec_rule.specs.Decision.{grant, decision-by}
 use Rattle.spec_file.specs.Limit.{rules}
@@ -22,11 +22,11 @@ rule-at b i = rule-of (view b) (row (view b) rules i)
 
 -- a question as its rules see it: none of them asks for the group's name
 abbrev pub question : List ℕ → List ℕ → ℕ → List Reading → Question
-question u h l rs = record { group = []; user = u; host = h; level = l; readings = rs }
+question u h l rs = question-of [] u h l rs
 
 -- the values of some readings, and which of them are good
-abbrev pub Heard-as : List Float → List Bool → List Reading → Type 0
-Heard-as values goods rs = (values ≡ map heard rs) × (goods ≡ map good rs)
+abbrev pub Inputs-are : List Float → List Bool → List Reading → Type 0
+Inputs-are values goods rs = (values ≡ map heard rs) × (goods ≡ map good rs)
 
 -- ---- what a rule's flags give
 
@@ -38,15 +38,15 @@ flagged f = grant (permission (permission-bits f)) (set-bit (trap-bit f))
 -- whether the calculation of the i-th rule is true
 abbrev pub Calculates : List ℕ → ℕ → List Float → List Bool → Bool → Type 0
 Calculates b i values goods r =
-    (rs : List Reading) → Heard-as values goods rs → r ≡ calculation-holds rs (rule-at b i .calculation)
+    (rs : List Reading) → Inputs-are values goods rs → r ≡ calculation-holds rs (rule-at b i .calculation)
 
 -- whether the i-th rule passes
 abbrev pub Passes : List ℕ → ℕ → List ℕ → List ℕ → ℕ → List Float → List Bool → Bool → Type 0
 Passes b i user host level values goods r =
-    (rs : List Reading) → Heard-as values goods rs → r ≡ passes (question user host level rs) (rule-at b i)
+    (rs : List Reading) → Inputs-are values goods rs → r ≡ passes (question user host level rs) (rule-at b i)
 
 -- what the i-th rule gives behind others that give the decision d
 abbrev pub With-rule : List ℕ → ℕ → List ℕ → List ℕ → ℕ → List Float → List Bool → Decision → Decision → Type 0
 With-rule b i user host level values goods d r =
-    (rs : List Reading) → Heard-as values goods rs → (others : List Rule) → d ≡ decision-by (question user host level rs) others
+    (rs : List Reading) → Inputs-are values goods rs → (others : List Rule) → d ≡ decision-by (question user host level rs) others
     → r ≡ decision-by (question user host level rs) (others ++ (rule-at b i ∷ []))

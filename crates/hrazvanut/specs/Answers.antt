@@ -3,6 +3,7 @@ use mathlib.Core.Path.{_≡_}
 use mathlib.Core.List.{List}
 use Prim.Native.Nat.{ℕ}
 use lib.Ieee.{Float}
+use Rattle.spec_rule.specs.Question.{question-of}
 use Rattle.spec_load.specs.Load.{Result}
 use Rattle.spec_load.specs.Listing.{Listing}
 use Rattle.spec_decision.specs.Decision.{decide}
@@ -23,4 +24,4 @@ pub record Lists (l : Listing) (numbers places : List ℕ) (r : ℕ) : Type 0 wh
 -- what a question answers, of a table, a group, a user, a host, a level, and the states and values of the readings
 abbrev pub Answers : List ℕ → List ℕ → List ℕ → List ℕ → ℕ → List ℕ → List Float → ℕ → Type 0
 Answers table group user host level states values r =
-    r ≡ answer-number (decide table (record { group = group; user = user; host = host; level = level; readings = readings states values 0 }))
+    r ≡ answer-number (decide table (question-of group user host level (readings states values 0)))

@@ -9,7 +9,7 @@ use Rattle.spec_lists.specs.Text.{bytes, same, one-of, among, digit}
 use Rattle.spec_lists.specs.Select.{nonempty}
 use Rattle.spec_calc.specs.declared.Reading.{Reading}
 use Rattle.spec_calc.specs.declared.Reading.the-variants.{NeverHeard}
-use Rattle.spec_rule.specs.Question.{Question}
+use Rattle.spec_rule.specs.Question.{question-of, Question}
 use Rattle.prog_reading.specs.Reading.{Named, named}
 
 -- 01: "lines of standard input up to 255 bytes, newline aside"
@@ -75,7 +75,7 @@ pub data Line : Type 0 where
 
 abbrev pub of-readings : List ℕ → List ℕ → List ℕ → ℕ → Option (List Reading) → Line
 of-readings g u h l none = refused
-of-readings g u h l (some rs) = question (record { group = group-of g; user = u; host = h; level = l; readings = rs })
+of-readings g u h l (some rs) = question (question-of (group-of g) u h l rs)
 
 abbrev pub of-level : List ℕ → List ℕ → List ℕ → Option ℕ → List (List ℕ) → Line
 of-level g u h none ps = refused

@@ -5,6 +5,7 @@ use mathlib.Core.List.{List, [], _∷_}
 use mathlib.Core.Option.{Option, none, some}
 use Prim.Native.Nat.{ℕ, _+_, _-_, _≤_, _<_}
 use lib.ListN.{length, drop}
+use Rattle.spec_rule.specs.Question.{question-of}
 use Rattle.spec_lists.specs.Select.{nonempty}
 use Rattle.spec_calc.specs.declared.Reading.{Reading}
 use Rattle.prog_line.specs.declared.Place.{Place}
@@ -73,14 +74,7 @@ pub record Ordered (l : List ℕ) (user host level-at : ℕ) : Type 0 where
 -- the question that a line asks, whose names and level stand at these offsets
 abbrev pub question-at : List ℕ → ℕ → ℕ → ℕ → ℕ → List Reading → Line
 question-at l user host level-at level rs =
-    question
-    (record {
-      group = group-of (cut 0 (user - 1) l);
-      user = cut user (host - 1) l;
-      host = cut host (level-at - 1) l;
-      level = level;
-      readings = rs;
-    })
+    question (question-of (group-of (cut 0 (user - 1) l)) (cut user (host - 1) l) (cut host (level-at - 1) l) level rs)
 
 -- a line asks it, with the readings that the parts behind the level name
 pub record Asked (l : List ℕ) (user host level-at level : ℕ) : Type 0 where

@@ -20,7 +20,7 @@ log-word false = bytes "NOTRAPWRITE"
 
 -- 01: "A line is answered by access and log word, or `refused 21`."
 unfoldable pub answer-text : Answer → List ℕ
-answer-text (Answered a t) = access-word a ++ (bytes " " ++ log-word t)
+answer-text (Answered d) = access-word (d .access) ++ (bytes " " ++ log-word (d .trap))
 answer-text NotTable = bytes "refused 20"
 answer-text BadLevel = bytes "refused 21"
 

@@ -68,9 +68,10 @@ pub fn answer_text(a: Answer, out: &mut [u8], at: usize) -> usize
     ensures { λ r. ⌜ Put (answer-text a) (now (out .entry)) at (now (out .exit)) r ⌝ }
 {
     match a {
-        Answer::Answered { access, trap } => {
+        Answer::Answered(d) => {
+            let access = d.access;
             let next = put_access(access, out, at);
-            put_trap(trap, out, next)
+            put_trap(d.trap, out, next)
         }
         Answer::NotTable => put(b"refused 20", out, at),
         Answer::BadLevel => put(b"refused 21", out, at),

@@ -6,7 +6,8 @@ use Prim.Native.Nat.{ℕ}
 use Rattle.spec_rule.specs.declared.Access.{Access}
 use Rattle.spec_rule.specs.declared.Access.the-variants as access
 use Rattle.spec_rule.specs.Question.{Question}
-use Rattle.spec_rule.specs.Rule.{Rule, access-by, trap-by}
+use Rattle.spec_rule.specs.Rule.{Rule}
+use Rattle.spec_rule.specs.Decision.{decision-by}
 use Rattle.spec_rule.specs.Answering.{a-level, answering}
 use Rattle.spec_file.specs.Limit.{access-groups}
 use Rattle.spec_table.specs.Layout.{Content}
@@ -22,18 +23,18 @@ not-table-number = 20
 
 -- 01's number of a refusal
 abbrev pub number : Answer → Option ℕ
-number (Answered a t) = none
+number (Answered d) = none
 number NotTable = some not-table-number
 number BadLevel = some 21
 
 -- the access of an answer. 20, 21: "NONE, no trap"
 abbrev pub access-in : Answer → Access
-access-in (Answered a t) = a
+access-in (Answered d) = d .access
 access-in NotTable = access.None
 access-in BadLevel = access.None
 
 abbrev pub trap-in : Answer → Bool
-trap-in (Answered a t) = t
+trap-in (Answered d) = d .trap
 trap-in NotTable = false
 trap-in BadLevel = false
 
@@ -47,7 +48,7 @@ abbrev pub rules-for : Content → List ℕ → List Rule
 rules-for c g = rules-in c (answering (name c access-groups) g (c .records access-groups))
 
 abbrev pub answered : Question → List Rule → Answer
-answered q rs = Answered (access-by q rs) (trap-by q rs)
+answered q rs = Answered (decision-by q rs)
 
 -- "20 comes before 21 and 22."
 unfoldable pub decide : List ℕ → Question → Answer

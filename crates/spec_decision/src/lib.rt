@@ -1,9 +1,6 @@
-// What a question is answered: the access and whether writes are trapped, or a refusal.
+// What a question is answered: the decision of the rules, or a refusal.
 pub enum Answer {
-    Answered {
-        access: spec_rule::Access,
-        trap: bool,
-    },
+    Answered(spec_rule::Decision),
     NotTable,
     BadLevel,
 }

@@ -14,7 +14,8 @@ use Rattle.spec_calc.specs.declared.Reading.the-variants.{NeverHeard, Value}
 use Rattle.spec_calc.specs.Symbol.{decimal}
 use Rattle.spec_calc.specs.Reader.{run}
 use Rattle.spec_rule.specs.declared.Access.the-variants as access
-use Rattle.spec_rule.specs.Question.{Question}
+use Rattle.spec_rule.specs.Decision.{with-trap}
+use Rattle.spec_rule.specs.Question.{question-of, Question}
 use Rattle.spec_rule.specs.Rule.{calculation-holds}
 use Rattle.spec_load.specs.Load.{load}
 use Rattle.spec_decision.specs.declared.Answer.{Answer}
@@ -30,7 +31,7 @@ heard-a x = Value x ∷ replicate greatest-letter NeverHeard
 
 -- a question of ann at pc1
 abbrev pub ann : String → ℕ → List Reading → Question
-ann g n rs = record { group = bytes g; user = bytes "ann"; host = bytes "pc1"; level = n; readings = rs }
+ann g n rs = question-of (bytes g) (bytes "ann") (bytes "pc1") n rs
 
 -- a buffer that has room for each of these files' tables
 abbrev pub buffer : List ℕ
@@ -51,9 +52,9 @@ site = "ASG(DEFAULT) {INPA(B1:PGA) RULE(1,READ) RULE(1,WRITE,TRAPWRITE) {CALC(\"
 -- the list
 pub record Proved-cases : Type 0 where
   -- "the four questions above"
-  pub question-1 : asked site (ann "" 1 (heard-a (decimal 25 2))) ≡ Answered access.Write true
-  pub question-2 : asked site (ann "" 1 (heard-a nan)) ≡ Answered access.Read false
-  pub question-3 : asked site (ann "" 1 silent) ≡ Answered access.Read false
+  pub question-1 : asked site (ann "" 1 (heard-a (decimal 25 2))) ≡ Answered (with-trap access.Write true)
+  pub question-2 : asked site (ann "" 1 (heard-a nan)) ≡ Answered (with-trap access.Read false)
+  pub question-3 : asked site (ann "" 1 silent) ≡ Answered (with-trap access.Read false)
   pub question-4 : asked site (ann "" 2 (heard-a (decimal 25 2))) ≡ BadLevel
   -- "`0.99`, `1.01` and `99/100` false, `1` true; `0/0>1?0:1` true"
   pub under-bound : true-of "0.99" ≡ false
@@ -62,7 +63,7 @@ pub record Proved-cases : Type 0 where
   pub one : true-of "1" ≡ true
   pub not-a-number : true-of "0/0>1?0:1" ≡ true
   -- "level 0 against RULE(1,WRITE) passes, level 1 against RULE(0,WRITE) doesn't"
-  pub lower-level : asked "ASG(DEFAULT) {RULE(1,WRITE)}" (ann "" 0 silent) ≡ Answered access.Write false
-  pub higher-level : asked "ASG(DEFAULT) {RULE(0,WRITE)}" (ann "" 1 silent) ≡ Answered access.None false
+  pub lower-level : asked "ASG(DEFAULT) {RULE(1,WRITE)}" (ann "" 0 silent) ≡ Answered (with-trap access.Write false)
+  pub higher-level : asked "ASG(DEFAULT) {RULE(0,WRITE)}" (ann "" 1 silent) ≡ Answered (with-trap access.None false)
   -- "a group never defined, without DEFAULT, gives NONE"
-  pub no-group : asked "ASG(lift) {RULE(1,WRITE)}" (ann "door" 0 silent) ≡ Answered access.None false
+  pub no-group : asked "ASG(lift) {RULE(1,WRITE)}" (ann "door" 0 silent) ≡ Answered (with-trap access.None false)

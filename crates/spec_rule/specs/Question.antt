@@ -11,6 +11,10 @@ pub record Question : Type 0 where
   pub level : ℕ
   pub readings : List Reading
 
+-- the question of a group, a user, a host, a level and readings
+abbrev pub question-of : List ℕ → List ℕ → List ℕ → ℕ → List Reading → Question
+question-of g u h l rs = record { group = g; user = u; host = h; level = l; readings = rs }
+
 -- the question with other readings
 abbrev pub reading-instead : Question → List Reading → Question
-reading-instead q rs = record { group = q .group; user = q .user; host = q .host; level = q .level; readings = rs }
+reading-instead q rs = question-of (q .group) (q .user) (q .host) (q .level) rs

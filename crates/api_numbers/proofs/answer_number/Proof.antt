@@ -13,7 +13,7 @@ access-number-requires : tie.Need-access-number-requires
 access-number-requires c κs = search needs
 
 add-result : tie.Need-add-result
-add-result c = omega (arith, c .before .access-number .ensures, rank-small (c .before .before .before .a .given .0 .0))
+add-result c = omega (arith, c .before .access-number .ensures, rank-small (c .before .before .before .a .given .0 .0 .access))
 
 enum-told : tie.Need-enum-told
 enum-told c = search needs

@@ -3,6 +3,7 @@ use mathlib.Core.Path.{_≡_, sym, ap}
 use mathlib.Core.Bool.{Bool, true, false}
 use Prim.Native.Nat.{ℕ, _+_, _≤_, _<_}
 use native.Mathlib.Omega.{arith}
+use Rattle.spec_rule.specs.declared.Decision.{Decision}
 use Rattle.spec_rule.specs.declared.Access.{Access}
 use Rattle.spec_rule.specs.declared.Access.the-variants as access
 use Rattle.spec_rule.specs.Rule.{rank}
@@ -49,11 +50,11 @@ listed-is e = sym (ap listed-number e)
 pub listed-refused : {l : Listed} {k : Refusal} {p : ℕ} → l ≡ listed.Refused k p → packed p 0 (refusal.number k) ≡ listed-number l
 listed-refused e = sym (ap listed-number e)
 
-module _ {x : Answer} {a : Access} {t : Bool} where
-  pub trap-is : t ≡ true → x ≡ answer.Answered a t → rank a + 4 ≡ answer-number x
+module _ {x : Answer} {d : Decision} where
+  pub trap-is : d .trap ≡ true → x ≡ answer.Answered d → rank (d .access) + 4 ≡ answer-number x
   trap-is b e = rw (e, b)
 
-  pub no-trap-is : t ≡ false → x ≡ answer.Answered a t → rank a ≡ answer-number x
+  pub no-trap-is : d .trap ≡ false → x ≡ answer.Answered d → rank (d .access) ≡ answer-number x
   no-trap-is b e = rw (e, b) (omega arith)
 
 pub found-is : {x : Found} {at n : ℕ} → x ≡ found.Part at n → packed at n 0 ≡ found-number x

@@ -1,4 +1,5 @@
-use Rattle.ask.specs.laws.Decide.{question-of, decide-not}
+use Rattle.spec_rule.specs.Question.{question-of}
+use Rattle.ask.specs.laws.Decide.{decide-not}
 use mathlib.Core.Path.{sym, _∙_}
 use borrow.Author.Needs.{needs}
 use Rattle.ask.proofs.decide.Statement.{statement}

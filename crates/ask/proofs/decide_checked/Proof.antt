@@ -1,6 +1,7 @@
 use mathlib.Core.Path.{refl, sym}
 use native.Mathlib.Omega.{arith}
-use Rattle.ask.specs.laws.Decide.{question-of, decide-bad, decide-none, decide-by}
+use Rattle.spec_rule.specs.Question.{question-of}
+use Rattle.ask.specs.laws.Decide.{decide-bad, decide-none, decide-by}
 use Rattle.table_read.specs.laws.Search.{answering-stored}
 use borrow.Author.Needs.{needs}
 use Rattle.ask.proofs.decide_checked.Statement.{statement}

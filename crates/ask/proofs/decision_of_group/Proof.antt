@@ -1,6 +1,6 @@
 use Rattle.spec_calc.specs.declared.Reading.{Reading}
 use Rattle.spec_rule.specs.Decision.{decision-by}
-use Rattle.ask_rule.specs.Rules.{question, Heard-as}
+use Rattle.ask_rule.specs.Rules.{question, Inputs-are}
 use Rattle.ask.specs.Group.{group-rules}
 use Rattle.ask.specs.laws.Decide.{rule-stored, first-rules, one-more, all-rules}
 use lib.ListN.{take}
@@ -13,7 +13,7 @@ use Rattle.ask.proofs.decision_of_group.Statement.{statement}
 use Rattle.ask.proofs.decision_of_group.Tie as tie
 
 abbrev Inv-loop : tie.InvT-loop
-Inv-loop table group user host level values goods start n so_far₀ i₀ so_far i = (i ≤ n) × ((rs : List Reading) → Heard-as values goods rs → so_far ≡ decision-by (question user host level rs) (take i (group-rules table group)))
+Inv-loop table group user host level values goods start n so_far₀ i₀ so_far i = (i ≤ n) × ((rs : List Reading) → Inputs-are values goods rs → so_far ≡ decision-by (question user host level rs) (take i (group-rules table group)))
 
 abbrev μ-loop : tie.MeasureT-loop
 μ-loop table group user host level values goods start n so_far₀ i₀ so_far i = n - i

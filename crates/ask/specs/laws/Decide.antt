@@ -10,7 +10,7 @@ use borrow.Author.Tests.{le-leb, lt-leb}
 use Rattle.spec_calc.specs.declared.Reading.{Reading}
 use Rattle.spec_rule.specs.declared.Access.the-variants as access
 use Rattle.spec_rule.specs.declared.Decision.{Decision}
-use Rattle.spec_rule.specs.Question.{Question}
+use Rattle.spec_rule.specs.Question.{question-of, Question}
 use Rattle.spec_rule.specs.Decision.{no-access, decision-by}
 use Rattle.spec_rule.specs.laws.Walk.{taken-on, taken-all}
 use Rattle.spec_file.specs.Limit.{access-groups, rules}
@@ -59,10 +59,7 @@ module _ (b : List ℕ) (i : ℕ) (h : Stored b access-groups i) where
 -- ---- the answer
 
 abbrev answer-of : Decision → Answer
-answer-of d = answer.Answered (d .access) (d .trap)
-
-abbrev pub question-of : List ℕ → List ℕ → List ℕ → ℕ → List Reading → Question
-question-of g u h l rs = record { group = g; user = u; host = h; level = l; readings = rs }
+answer-of d = answer.Answered d
 
 module _ (b : List ℕ) (q : Question) where
   pub decide-not : is-table b ≡ false → decide b q ≡ answer.NotTable
@@ -74,7 +71,7 @@ module _ (b : List ℕ) (q : Question) where
     unfolding decide
     decide-bad l = rw (h, lt-leb (q .level) 1 l)
 
-    pub decide-none : {r : Index} → q .level ≤ 1 → Finds-answering b (q .group) r → r ≡ Missing → decide b q ≡ answer.Answered access.None false
+    pub decide-none : {r : Index} → q .level ≤ 1 → Finds-answering b (q .group) r → r ≡ Missing → decide b q ≡ answer.Answered no-access
     unfolding decide
     decide-none l f e =
         let z : group-for b (q .group) ≡ none = finds-none f e in
@@ -83,7 +80,7 @@ module _ (b : List ℕ) (q : Question) where
     pub decide-by :
         {r : Index} {d : Decision} {l : ℕ} (i : ℕ) → l ≡ q .level → q .level ≤ 1 → Finds-answering b (q .group) r → r ≡ At i
         → d ≡ decision-by (question (q .user) (q .host) l (q .readings)) (group-rules b i)
-        → decide b q ≡ answer.Answered (d .access) (d .trap)
+        → decide b q ≡ answer.Answered d
     unfolding decide
     decide-by i x l f e w =
         let z : group-for b (q .group) ≡ some (row (view b) access-groups i) = finds-at i f e .0 in

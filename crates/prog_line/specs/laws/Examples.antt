@@ -2,6 +2,7 @@
 use mathlib.Core.Path.{_≡_, refl}
 use mathlib.Core.List.{[], _∷_}
 use lib.ListN.{replicate}
+use Rattle.spec_rule.specs.Question.{question-of}
 use Rattle.spec_lists.specs.Text.{bytes}
 use Rattle.spec_calc.specs.declared.Reading.the-variants.{NeverHeard, Value}
 use Rattle.spec_calc.specs.Symbol.{decimal}
@@ -10,11 +11,11 @@ use Rattle.prog_line.specs.Line.{split, all-named, distinct, readings, r
 
 one-reading :
     asks (bytes "- ann pc1 1 A:0.25")
-    ≡ question (record { group = []; user = bytes "ann"; host = bytes "pc1"; level = 1; readings = Value (decimal 25 2) ∷ replicate 20 NeverHeard })
+    ≡ question (question-of [] (bytes "ann") (bytes "pc1") 1 (Value (decimal 25 2) ∷ replicate 20 NeverHeard))
 unfolding asks split of-parts all-named named reading distinct readings
 one-reading = refl
 
-no-reading : asks (bytes "g - h 2") ≡ question (record { group = bytes "g"; user = bytes "-"; host = bytes "h"; level = 2; readings = replicate 21 NeverHeard })
+no-reading : asks (bytes "g - h 2") ≡ question (question-of (bytes "g") (bytes "-") (bytes "h") 2 (replicate 21 NeverHeard))
 unfolding asks split of-parts all-named named reading distinct readings
 no-reading = refl
 

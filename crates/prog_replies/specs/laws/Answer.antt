@@ -6,6 +6,7 @@ use mathlib.Core.Option.{Option, none, some}
 use Prim.Native.Nat.{ℕ, _+_, _-_}
 use native.Mathlib.Omega.{arith}
 use lib.ListN.{drop}
+use Rattle.spec_rule.specs.Question.{question-of}
 use Rattle.spec_calc.specs.declared.Reading.{Reading}
 use Rattle.spec_decision.specs.declared.Answer.{Answer}
 use Rattle.spec_decision.specs.Decision.{decide}
@@ -35,7 +36,7 @@ module _ (l : List ℕ) (r : code.Line) (w : Asks-as l r) where
         (table g u h : List ℕ) (t : Bool) (rs : List Reading) (a : Answer)
         → g ≡ group-of (cut 0 (user - 1) l) → u ≡ cut user (host - 1) l → h ≡ cut host (level-at - 1) l
         → as-readings t rs ≡ readings-named (behind (drop (level-at + 1) l))
-        → a ≡ decide table (record { group = g; user = u; host = h; level = level; readings = rs })
+        → a ≡ decide table (question-of g u h level rs)
         → answered table (asks l) ≡ answer-text a
     question-answer table g u h t rs a eg eu eh er ea =
         ap (answered table) (asked .asked)

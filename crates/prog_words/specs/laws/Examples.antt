@@ -3,14 +3,15 @@ use mathlib.Core.Path.{_≡_, refl}
 use mathlib.Core.Bool.{true, false}
 use Rattle.spec_lists.specs.Text.{bytes}
 use Rattle.spec_rule.specs.declared.Access.the-variants as access
+use Rattle.spec_rule.specs.Decision.{with-trap}
 use Rattle.spec_decision.specs.declared.Answer.the-variants.{Answered}
 use Rattle.prog_words.specs.Words.{answer-text, digits-in, decimal-digits, placed, warning-text}
 
-write-trap : answer-text (Answered access.Write true) ≡ bytes "WRITE TRAPWRITE"
+write-trap : answer-text (Answered (with-trap access.Write true)) ≡ bytes "WRITE TRAPWRITE"
 unfolding answer-text
 write-trap = refl
 
-read : answer-text (Answered access.Read false) ≡ bytes "READ NOTRAPWRITE"
+read : answer-text (Answered (with-trap access.Read false)) ≡ bytes "READ NOTRAPWRITE"
 unfolding answer-text
 read = refl
 

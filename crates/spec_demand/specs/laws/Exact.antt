@@ -32,7 +32,7 @@ pub refused-grants-nothing : (b : List ℕ) (q : Question) (n : ℕ) → number 
 refused-grants-nothing b q n e = by (decide b q) e
   where
     by : (a : Answer) → number a ≡ some n → (access-in a ≡ access.None) × (trap-in a ≡ false)
-    by (Answered x t) h = let z : _≡_ {A = ℕ} 0 1 = cc in absurd (omega arith)
+    by (Answered d) h = let z : _≡_ {A = ℕ} 0 1 = cc in absurd (omega arith)
     by NotTable h = (refl, refl)
     by BadLevel h = (refl, refl)
 

@@ -220,7 +220,7 @@ module _ {B : Type 0} (r : Role) (ts : List Role) (f : Clause → B) (looks : Lo
       record {
         name = o .name;
         named = rw here (o .named);
-        clauses = rw here (o .parts ∙ ap (λ (b : B). b ∷ []) (looks (o .name) xs (x ∷ xs) (rw passed refl)));
+        clauses = rw here (o .clauses ∙ ap (λ (b : B). b ∷ []) (looks (o .name) xs (x ∷ xs) (rw passed refl)));
       }
   own-clause {rs} (x ∷ xs) w v (head e d) =
       let m = both (not (one-of ts NoRole)) (not (one-of ts r) && true) v in

@@ -72,9 +72,9 @@ pub record File-by-items (xs : List Tagged) : Type 0 where
 asg-item-says : (i : List Tagged) → grammar.Asg-item i → Asg-item-says i
 asg-item-says i (grammar.input d h) =
     let o = own-clause Input (Pvname ∷ []) link link-looks i refl refl h in
-    input d (o .name) (o .named) (o .parts) (ap (map rule-of) (other-parts RuleWord i refl h))
+    input d (o .name) (o .named) (o .clauses) (ap (map rule-of) (other-parts RuleWord i refl h))
 asg-item-says i (grammar.rule d h) =
-    rule d (ap (map link) (other-parts Input i refl h)) (own-clause RuleWord rule-roles rule-of rule-looks i refl refl h .parts)
+    rule d (ap (map link) (other-parts Input i refl h)) (own-clause RuleWord rule-roles rule-of rule-looks i refl refl h .clauses)
 
 pub asg-by-items : (xs : List Tagged) → Is asg-def xs → Asg-by-items xs
 asg-by-items xs d =
@@ -106,13 +106,13 @@ no-asgs i w h = ap (map asg) (other-parts AsgName i w h)
 item-says : (i : List Tagged) → grammar.Item i → Item-says i
 item-says i (grammar.user-group d h) =
     let o = own-clause UagName (User ∷ []) (group User) (group-looks User refl) i refl refl h in
-    user-group d (o .name) (o .named) (same-file (o .parts) (no-groups HagName Host i refl h) (no-asgs i refl h))
+    user-group d (o .name) (o .named) (same-file (o .clauses) (no-groups HagName Host i refl h) (no-asgs i refl h))
 item-says i (grammar.host-group d h) =
     let o = own-clause HagName (Host ∷ []) (group Host) (group-looks Host refl) i refl refl h in
-    host-group d (o .name) (o .named) (same-file (no-groups UagName User i refl h) (o .parts) (no-asgs i refl h))
+    host-group d (o .name) (o .named) (same-file (no-groups UagName User i refl h) (o .clauses) (no-asgs i refl h))
 item-says i (grammar.access-group d h) =
     let o = own-clause AsgName asg-roles asg asg-looks i refl refl h in
-    access-group d (o .name) (o .named) (asg-by-items i d) (same-file (no-groups UagName User i refl h) (no-groups HagName Host i refl h) (o .parts))
+    access-group d (o .name) (o .named) (asg-by-items i d) (same-file (no-groups UagName User i refl h) (no-groups HagName Host i refl h) (o .clauses))
 item-says i (grammar.unknown d h) =
     unknown d (same-file (no-groups UagName User i refl h) (no-groups HagName Host i refl h) (no-asgs i refl h))
 
