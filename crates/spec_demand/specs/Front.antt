@@ -7,36 +7,14 @@ use mathlib.Core.Logic.{_↔_}
 use mathlib.Core.Option.{some}
 use Prim.Native.Nat.{ℕ, _≤_, _<_}
 use lib.ListN.{length, replicate}
-use Rattle.spec_token.specs.Token.{Token}
-use Rattle.spec_grammar.specs.Sentence.{Tagged, Reads}
-use Rattle.spec_grammar.specs.laws.Theorem.{one-reading}
-use Rattle.spec_calc.specs.declared.Reading.{Reading}
-use Rattle.spec_calc.specs.Expression.{Tree, Parses}
-use Rattle.spec_calc.specs.Readings.{Gone-bad}
-use Rattle.spec_calc.specs.Reader.{tree-of}
-use Rattle.spec_calc.specs.laws.Theorem.{says-sound, says-complete}
 use Rattle.spec_rule.specs.declared.Access.the-variants as access
-use Rattle.spec_rule.specs.Question.{Question, reading-instead}
-use Rattle.spec_rule.specs.Rule.{rank}
-use Rattle.spec_file.specs.declared.Refusal.{Refusal}
-use Rattle.spec_file.specs.Contents.{file-of}
-use Rattle.spec_file.specs.Acceptance.{Text-reads, Acceptable, Refusable}
-use Rattle.spec_file.specs.Load.{refuse, accept, verdict}
-use Rattle.spec_file.specs.laws.Theorem.{accepted-is, acceptable-is, refused-is, refusable-is}
-use Rattle.spec_table.specs.Check.{is-table}
-use Rattle.spec_table.specs.Written.{table-of}
-use Rattle.spec_table.specs.Layout.{greatest-table}
-use Rattle.spec_load.specs.Load.{written, without-room, load}
-use Rattle.spec_decision.specs.LookUp.{look-up}
-use Rattle.spec_decision.specs.Decision.{number, access-in, trap-in, decide}
-use Rattle.spec_edition.specs.Edition.{Edition, access-later, Says-no}
-use Rattle.spec_demand.specs.ByFile.{answer-by-file, input-by-file, name-found}
-use Rattle.spec_demand.specs.Calls.{Call, after-calls, is-accepted, No-accepted-load}
-use Rattle.spec_demand.specs.laws.Loaded.{refused-leaves}
-use Rattle.spec_demand.specs.laws.Later.{never-above, exactly-equal}
-use Rattle.spec_demand.specs.laws.Exact.{refused-grants-nothing, zeros-grant-nothing, laid-down, not-laid-down, stands, answers-by-file, inputs-by-file}
-use Rattle.spec_demand.specs.Cases.{Proved-cases}
-use Rattle.spec_demand.specs.laws.Cases.{proved-cases}
+use Rattle.spec_demand.specs.Vocabulary.{Token, Tagged, Reads, Reading, Tree, Parses, Gone-bad, tree-of, Question, reading-instead, rank, Refusal}
+use Rattle.spec_demand.specs.Vocabulary.{file-of, Text-reads, Acceptable, Refusable, refuse, accept, verdict, is-table, table-of, greatest-table}
+use Rattle.spec_demand.specs.Vocabulary.{written, without-room, load, look-up, number, access-in, trap-in, decide, Edition, access-later, Says-no}
+use Rattle.spec_demand.specs.Vocabulary.{answer-by-file, input-by-file, name-found, Call, after-calls, is-accepted, No-accepted-load, Proved-cases}
+use Rattle.spec_demand.specs.laws.Cited.{one-reading, says-sound, says-complete, accepted-is, acceptable-is, refused-is, refusable-is, refused-leaves}
+use Rattle.spec_demand.specs.laws.Cited.{never-above, exactly-equal, refused-grants-nothing, zeros-grant-nothing, laid-down, not-laid-down, stands}
+use Rattle.spec_demand.specs.laws.Cited.{answers-by-file, inputs-by-file, proved-cases}
 
 -- DEMAND 1. Total: no file, table, name, level or reading makes it index outside, trap or run on. A refusal carries a number, a load's
 -- also a place. A refused load leaves the table byte for byte, a refused question answers NONE without trap, a buffer of zeros grants nothing.

@@ -1,3 +1,4 @@
+pub mod Vocabulary
 pub mod Calls
 pub mod ByFile
 pub mod Cases

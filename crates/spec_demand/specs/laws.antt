@@ -3,3 +3,4 @@ pub mod Exact
 pub mod Inputs
 pub mod Later
 pub mod Loaded
+pub mod Cited

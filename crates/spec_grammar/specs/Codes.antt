@@ -1,4 +1,4 @@
--- The roles, numbered, so that two can be compared.
+-- Codes of the kinds and the roles, so that two can be compared and arrays can keep them.
 use mathlib.Core.Bool.{Bool, true, false, cond}
 use Prim.Native.Nat.{ℕ}
 use lib.Dec.{eqb}
@@ -48,3 +48,6 @@ kind-number kind.CloseParen = 10
 kind-number kind.OpenBrace = 11
 kind-number kind.CloseBrace = 12
 kind-number kind.Comma = 13
+
+abbrev pub same-kind : Kind → Kind → Bool
+same-kind a b = eqb (kind-number a) (kind-number b)

@@ -1,0 +1,23 @@
+-- The words of the front page, each from the file that defines it.
+pub use Rattle.spec_token.specs.Token.{Token}
+pub use Rattle.spec_grammar.specs.Sentence.{Tagged, Reads}
+pub use Rattle.spec_calc.specs.declared.Reading.{Reading}
+pub use Rattle.spec_calc.specs.Expression.{Tree, Parses}
+pub use Rattle.spec_calc.specs.Readings.{Gone-bad}
+pub use Rattle.spec_calc.specs.Reader.{tree-of}
+pub use Rattle.spec_rule.specs.Question.{Question, reading-instead}
+pub use Rattle.spec_rule.specs.Rule.{rank}
+pub use Rattle.spec_file.specs.declared.Refusal.{Refusal}
+pub use Rattle.spec_file.specs.Contents.{file-of}
+pub use Rattle.spec_file.specs.Acceptance.{Text-reads, Acceptable, Refusable}
+pub use Rattle.spec_file.specs.Load.{refuse, accept, verdict}
+pub use Rattle.spec_table.specs.Check.{is-table}
+pub use Rattle.spec_table.specs.Written.{table-of}
+pub use Rattle.spec_table.specs.Layout.{greatest-table}
+pub use Rattle.spec_load.specs.Load.{written, without-room, load}
+pub use Rattle.spec_decision.specs.LookUp.{look-up}
+pub use Rattle.spec_decision.specs.Decision.{number, access-in, trap-in, decide}
+pub use Rattle.spec_edition.specs.Edition.{Edition, access-later, Says-no}
+pub use Rattle.spec_demand.specs.ByFile.{answer-by-file, input-by-file, name-found}
+pub use Rattle.spec_demand.specs.Calls.{Call, after-calls, is-accepted, No-accepted-load}
+pub use Rattle.spec_demand.specs.Cases.{Proved-cases}
