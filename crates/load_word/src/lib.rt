@@ -9,7 +9,8 @@ ghost use Rattle.spec_token.specs.laws.Spans.{Span};
 ghost use Rattle.spec_grammar.specs.Codes.{kind-number};
 ghost use Rattle.load_word.specs.Class.{belongs};
 ghost use Rattle.load_word.specs.Start.{start-of};
-ghost use Rattle.load_word.specs.Number.{Unsigned, digits-only, exponent, fraction};
+ghost use Rattle.spec_token.specs.Word.{digits, exponent, fraction};
+ghost use Rattle.load_word.specs.Number.{Unsigned};
 
 // What a byte between tokens begins.
 pub enum Start {
@@ -120,7 +121,7 @@ fn sign_end(w: &[u8], at: usize) -> usize
 // Digits to the end, and at least one.
 fn all_digits(w: &[u8], at: usize) -> bool
     requires { ⌜ at ≤ length (now w) ⌝ }
-    ensures { λ r. ⌜ r ≡ digits-only (drop at (now (w .entry))) ⌝ }
+    ensures { λ r. ⌜ r ≡ digits (drop at (now (w .entry))) ⌝ }
 {
     let e = run_end(Class::Digit, w, at);
     if e <= at {

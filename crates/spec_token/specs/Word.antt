@@ -27,7 +27,7 @@ unsigned [] = []
 unsigned (b ∷ s) = cond (among "+-" b) s (b ∷ s)
 
 -- 001's DIGIT+ and no more
-abbrev digits : List ℕ → Bool
+abbrev pub digits : List ℕ → Bool
 digits s = nonempty (run digit s) && not (nonempty (after digit s))
 
 -- 001: INT ::= [ "+" | "-" ]? DIGIT+
@@ -35,12 +35,12 @@ abbrev pub int : List ℕ → Bool
 int s = digits (unsigned s)
 
 -- 001: [ ( "e" | "E" ) [ "+" | "-" ] DIGIT+ ]?, the sign optional too
-abbrev exponent : List ℕ → Bool
+abbrev pub exponent : List ℕ → Bool
 exponent [] = true
 exponent (b ∷ s) = among "eE" b && digits (unsigned s)
 
 -- 001: "." DIGIT+ and then an exponent
-abbrev fraction : List ℕ → Bool
+abbrev pub fraction : List ℕ → Bool
 fraction [] = false
 fraction (b ∷ s) = among "." b && (nonempty (run digit s) && exponent (after digit s))
 

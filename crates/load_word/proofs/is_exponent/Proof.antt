@@ -1,5 +1,5 @@
 use Rattle.load_word.specs.laws.Leaf.{all, leaf, key}
-use Rattle.load_word.specs.Number.{digits-only}
+use Rattle.spec_token.specs.Word.{digits}
 use Rattle.load_word.specs.laws.Digits.{exponent-end, exponent-is, exponent-not}
 use Rattle.spec_lists.specs.Text.{among}
 use borrow.Author.Tests.{not-true}
@@ -35,7 +35,7 @@ returns-2 c =
     let at-start = at-if1 .before .before in
     let w = at-start .args .w .now in
     let at = at-start .args .at in
-    c .all-digits .ensures ∙ ap digits-only (at-sign-end .sign-end .ensures .rest) ∙ sym (exponent-is w at (at-if1 .if1 .left) (key (69 ∷ 101 ∷ []) (among "eE") (getD w at 0) (at-match .match .keys1) tt))
+    c .all-digits .ensures ∙ ap digits (at-sign-end .sign-end .ensures .rest) ∙ sym (exponent-is w at (at-if1 .if1 .left) (key (69 ∷ 101 ∷ []) (among "eE") (getD w at 0) (at-match .match .keys1) tt))
 
 returns-3 : tie.Need-returns-3
 unfolding all

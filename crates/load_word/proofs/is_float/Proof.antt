@@ -1,4 +1,4 @@
-use Rattle.load_word.specs.Number.{fraction}
+use Rattle.spec_token.specs.Word.{fraction}
 use Rattle.spec_token.specs.laws.Spans.{span-after}
 use Rattle.spec_lists.specs.Select.{after}
 use Rattle.spec_lists.specs.Text.{digit}

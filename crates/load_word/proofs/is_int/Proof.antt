@@ -1,4 +1,4 @@
-use Rattle.load_word.specs.Number.{digits-only}
+use Rattle.spec_token.specs.Word.{digits}
 use mathlib.Core.Path.{ap, _∙_}
 use borrow.Author.Needs.{needs}
 use Rattle.load_word.proofs.is_int.Statement.{statement}
@@ -11,7 +11,7 @@ all-digits-requires : tie.Need-all-digits-requires
 all-digits-requires c κs = c .sign-end .ensures .within
 
 returns : tie.Need-returns
-returns c = c .all-digits .ensures ∙ ap digits-only (c .before .sign-end .ensures .rest)
+returns c = c .all-digits .ensures ∙ ap digits (c .before .sign-end .ensures .rest)
 
 pub is-int-spec : {M : Type 1} → statement M
 is-int-spec = tie.close (tie.spec sign-end-requires all-digits-requires returns)

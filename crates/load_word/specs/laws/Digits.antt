@@ -12,7 +12,7 @@ use Rattle.spec_lists.specs.Text.{bytes, same, among, digit}
 use Rattle.spec_lists.specs.Select.{nonempty, run, after}
 use Rattle.spec_token.specs.Word.{unsigned, inp}
 use Rattle.spec_token.specs.laws.Spans.{Span, span-after}
-use Rattle.load_word.specs.Number.{digits-only, exponent, fraction}
+use Rattle.spec_token.specs.Word.{digits, exponent, fraction}
 
 some-more : (l : List ℕ) → 0 < length l → nonempty l ≡ true
 some-more [] h = absurd (omega arith)
@@ -29,13 +29,13 @@ module _ {w : List ℕ} {at e : ℕ} (d : Span digit w at e) where
   pub no-digits : e ≤ at → nonempty (run digit (drop at w)) ≡ false
   no-digits h = some-none (run digit (drop at w)) (omega (arith, d .ends))
 
-  pub not-digits : e ≤ at → digits-only (drop at w) ≡ false
+  pub not-digits : e ≤ at → digits (drop at w) ≡ false
   not-digits h = rw (no-digits h)
 
-  pub more-behind : at < e → e < length w → digits-only (drop at w) ≡ false
+  pub more-behind : at < e → e < length w → digits (drop at w) ≡ false
   more-behind h l = rw (some-digits h, span-after d, some-more (drop e w) (rw length-drop (omega arith)))
 
-  pub all-digits : at < e → length w ≤ e → digits-only (drop at w) ≡ true
+  pub all-digits : at < e → length w ≤ e → digits (drop at w) ≡ true
   all-digits h l = rw (some-digits h, span-after d, some-none (drop e w) (rw length-drop (omega arith)))
 
 -- ---- at a byte
@@ -60,7 +60,7 @@ module _ (w : List ℕ) (at : ℕ) where
     pub unsigned-none : among "+-" (getD w at 0) ≡ false → drop at w ≡ unsigned (drop at w)
     unsigned-none e = rw (here, e)
 
-    pub exponent-is : among "eE" (getD w at 0) ≡ true → exponent (drop at w) ≡ digits-only (unsigned (drop (at + 1) w))
+    pub exponent-is : among "eE" (getD w at 0) ≡ true → exponent (drop at w) ≡ digits (unsigned (drop (at + 1) w))
     exponent-is e = rw (here, e)
 
     pub exponent-not : among "eE" (getD w at 0) ≡ false → exponent (drop at w) ≡ false
