@@ -1,6 +1,6 @@
 ghost use mathlib.Core.Path.{_≡_};
 ghost use mathlib.Core.List.{[], _∷_, map};
-ghost use Prim.Native.Nat.{_+_, _<_};
+ghost use Prim.Native.Nat.{_+_, _*_, _<_};
 ghost use lib.ListN.{length};
 ghost use Rattle.spec_lists.specs.Words.{word-bytes, spelled-out};
 ghost use Rattle.byte_write.specs.Put.{Put, cased, usize-limit};
@@ -41,6 +41,20 @@ pub fn put_three(lent: &mut [u8], at: usize, a: usize, b: usize, c: usize) -> us
 {
     let next = put_word(lent, at, a);
     put_two(lent, next, b, c)
+}
+
+// As many words as there are.
+pub fn put_words(lent: &mut [u8], at: usize, words: &[usize]) -> usize
+    requires { ⌜ at + 2 * length (now words) < usize-limit ⌝ }
+    ensures { λ r. ⌜ Put (now (lent .entry)) (now (lent .exit)) at (spelled-out (now (words .entry))) r ⌝ }
+{
+    let mut next = at;
+    let mut i = 0;
+    while i < words.len() {
+        next = put_word(lent, next, words[i]);
+        i += 1;
+    }
+    next
 }
 
 fn in_case(b: u8, low: bool) -> u8

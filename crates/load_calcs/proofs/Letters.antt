@@ -16,27 +16,27 @@ use Rattle.spec_file.specs.Refusal.{letters-among}
 use Rattle.calc_symbol.specs.Scan.{syms}
 use Rattle.calc.specs.Answer.{symbols-given}
 use Rattle.calc.specs.laws.Letters.{letters-same}
-use Rattle.load_calcs.specs.laws.Letter.{small, text-small}
+use Rattle.load_calcs.specs.laws.Letter.{in-range, text-in-range}
 
-small-below : (i : ℕ) → small i ≡ true → i < 21
-small-below i e = go (ltb i 21) refl
+in-range-below : (i : ℕ) → in-range i ≡ true → i < 21
+in-range-below i e = go (ltb i 21) refl
   where
     go : (b : Bool) → ltb i 21 ≡ b → i < 21
     go true f = ltb-true i 21 f
     go false f = absurd (false≢true (sym (List·getD-eq-default (replicate 21 true) false {n = i} (ltb-false i 21 f)) ∙ e))
 
-tree-small : (s : List ℕ) (t : Tree) → tree-of s ≡ some t → all small (letters t) ≡ true
+tree-in-range : (s : List ℕ) (t : Tree) → tree-of s ≡ some t → all in-range (letters t) ≡ true
 unfolding syms
-tree-small s t e =
+tree-in-range s t e =
     let y = says-sound s t e in
-    sym (letters-same s t e (replicate 21 true)) ∙ ap (symbols-given (replicate 21 true)) (y .spelling) ∙ rw (y .spelling) at (text-small s)
+    sym (letters-same s t e (replicate 21 true)) ∙ ap (symbols-given (replicate 21 true)) (y .spelling) ∙ rw (y .spelling) at (text-in-range s)
 
-all-agree : (p q : ℕ → Bool) → ((i : ℕ) → i < 21 → p i ≡ q i) → (ls : List ℕ) → all small ls ≡ true → all p ls ≡ all q ls
+all-agree : (p q : ℕ → Bool) → ((i : ℕ) → i < 21 → p i ≡ q i) → (ls : List ℕ) → all in-range ls ≡ true → all p ls ≡ all q ls
 all-agree p q a [] e = refl
-all-agree p q a (l ∷ ls) e = go (small l) refl (all-agree p q a ls) e
+all-agree p q a (l ∷ ls) e = go (in-range l) refl (all-agree p q a ls) e
   where
-    go : (b : Bool) → small l ≡ b → (all small ls ≡ true → all p ls ≡ all q ls) → (b && all small ls) ≡ true → (p l && all p ls) ≡ (q l && all q ls)
-    go true f ih g = rw (a l (small-below l f), ih g)
+    go : (b : Bool) → in-range l ≡ b → (all in-range ls ≡ true → all p ls ≡ all q ls) → (b && all in-range ls) ≡ true → (p l && all p ls) ≡ (q l && all q ls)
+    go true f ih g = rw (a l (in-range-below l f), ih g)
     go false f ih g = absurd (false≢true g)
 
 pub allowed-is : (s : List ℕ) (given : List Bool) (ls : List ℕ) → ((l : ℕ) → l < 21 → getD given l false ≡ any (eqb l) ls) → holds-of (tree-of s) (λ t. all (λ i. getD given i false) (letters t)) ≡ holds-of (tree-of s) (letters-among ls)
@@ -44,4 +44,4 @@ allowed-is s given ls a = go (tree-of s) refl
   where
     go : (o : Option Tree) → tree-of s ≡ o → holds-of o (λ t. all (λ i. getD given i false) (letters t)) ≡ holds-of o (letters-among ls)
     go none e = refl
-    go (some t) e = all-agree (λ i. getD given i false) (λ i. any (eqb i) ls) a (letters t) (tree-small s t e)
+    go (some t) e = all-agree (λ i. getD given i false) (λ i. any (eqb i) ls) a (letters t) (tree-in-range s t e)

@@ -15,12 +15,12 @@ use Rattle.load_spans.specs.Roles.{tokens}
 use Rattle.load_spans.specs.Seek.{earlier}
 
 -- a token is the INP of a letter
-abbrev pub tells : ℕ → Tagged → Bool
-tells l x = has-role Input x && eqb l (link-letter (text x))
+abbrev pub is-input : ℕ → Tagged → Bool
+is-input l x = has-role Input x && eqb l (link-letter (text x))
 
 -- which of the 21 letters have an INP among some tokens
 pub record Gives (given : List Bool) (xs : List Tagged) : Type 0 where
-  pub each : (l : ℕ) → l < 21 → getD given l false ≡ any (tells l) xs
+  pub each : (l : ℕ) → l < 21 → getD given l false ≡ any (is-input l) xs
 
 module _ (s : List ℕ) (a : Arrays) (roles : List ℕ) (n : ℕ) where
   -- the tokens from the i-th on up to the next group's name

@@ -35,7 +35,9 @@ fn repeated(
     seen: &mut [u16],
 ) -> usize
     requires { ⌜ Spans-fit (now s) (now starts) (now ends) (now roles) n × Role-code q × Role-code stop × (n ≤ length (now seen)) ⌝ }
-    ensures { λ r. ⌜ r ≡ first-of (repeated (role-of-number q) (role-of-number stop)) (now (s .entry)) (now (starts .entry)) (now (ends .entry)) (now (roles .entry)) n ⌝ }
+    ensures { λ r. ⌜
+        r ≡ first-of (repeated (role-of-number q) (role-of-number stop)) (now (s .entry)) (now (starts .entry)) (now (ends .entry)) (now (roles .entry)) n
+        ⌝ }
 {
     let mut k = 0;
     let mut i = 0;

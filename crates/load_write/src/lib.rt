@@ -68,15 +68,27 @@ fn put_header(
     let p = groups.cursor;
     let q = access.cursor;
     let r = rules.cursor;
-    let length = byte_write::put_two(lent, 0, 1, end);
-    let one = byte_write::put_two(lent, length, c.uags, 36);
-    let two = byte_write::put_two(lent, one, c.hags, groups.two);
-    let three = byte_write::put_two(lent, two, c.members, groups.three);
-    let four = byte_write::put_two(lent, three, c.asgs, p.at);
-    let five = byte_write::put_two(lent, four, c.inputs, access.five);
-    let six = byte_write::put_two(lent, five, c.rules, q.at);
-    let seven = byte_write::put_two(lent, six, rules.references, rules.seven);
-    byte_write::put_two(lent, seven, end - r.at, r.at)
+    let words = [
+        1,
+        end,
+        c.uags,
+        36,
+        c.hags,
+        groups.two,
+        c.members,
+        groups.three,
+        c.asgs,
+        p.at,
+        c.inputs,
+        access.five,
+        c.rules,
+        q.at,
+        rules.references,
+        rules.seven,
+        end - r.at,
+        r.at,
+    ];
+    byte_write::put_words(lent, 0, &words)
 }
 
 // The table of a file at the start of the lent bytes, as far as there is room. Its length is returned.

@@ -8,6 +8,7 @@ use native.Mathlib.Omega.{arith}
 use lib.ListN.{length, set, take, getD, length-append}
 use lib.Seq.{sets, length-sets, set-out, take-suc}
 use Rattle.spec_lists.specs.laws.Joined.{map-append}
+use Rattle.spec_lists.specs.Words.{word-bytes, spelled-out}
 use Rattle.byte_write.specs.Put.{Put}
 
 module _ {A : Type 0} where
@@ -74,3 +75,15 @@ pub text-turn :
     → Put b c at (map f (take i t)) next → Put c d next (f (getD t i 0) ∷ []) r → Put b d at (map f (take (i + 1) t)) r
 text-turn f t at i l p q =
     rw (add-one i, take-suc t i 0 l, map-append f (take i t) (getD t i 0 ∷ [])) (put-put p q)
+
+-- ---- and words one by one
+
+pub spelled-append : (ws vs : List ℕ) → spelled-out (ws ++ vs) ≡ spelled-out ws ++ spelled-out vs
+spelled-append [] vs = refl
+spelled-append (w ∷ ws) vs = ap (λ (l : List ℕ). word-bytes w ++ l) (spelled-append ws vs)
+
+pub words-turn :
+    {b c d : List ℕ} (ws : List ℕ) (at i : ℕ) {next r : ℕ} → i < length ws
+    → Put b c at (spelled-out (take i ws)) next → Put c d next (word-bytes (getD ws i 0)) r → Put b d at (spelled-out (take (i + 1) ws)) r
+words-turn ws at i l p q =
+    rw (add-one i, take-suc ws i 0 l, spelled-append (take i ws) (getD ws i 0 ∷ [])) (put-put p q)

@@ -27,14 +27,17 @@ module _ {s places starts ends roles : List ℕ} {r : Judgment} (f : Judged s pl
   pub table-fits : {n : ℕ} → r ≡ judgment.Tokens n → Fits s starts ends roles n
   table-fits {n} e =
       let xs = tagged-from s (arrays-of f) roles 0 n in
-      subst (λ (t : List ℕ). length t ≤ greatest-table) (sym (is-table-of s (arrays-of f) roles n refl refl)) (table-length (file-of xs) (fits s xs (accepted-as f e)))
+      subst (λ (t : List ℕ). length t ≤ greatest-table) (sym (is-table-of s (arrays-of f) roles n refl refl))
+      (table-length (file-of xs) (fits s xs (accepted-as f e)))
 
   module _ (lent : List ℕ) where
     pub load-refused : {k : Refusal} {p : ℕ} → r ≡ judgment.Refused k p → record { answer = Refused k p; bytes = lent } ≡ load lent s
     unfolding load
     load-refused e = rw (refused-as f e)
 
-    pub load-stored : {n : ℕ} {c : List ℕ} {o : Loaded} → r ≡ judgment.Tokens n → Stored s (arrays-of f) roles n lent c o → record { answer = o; bytes = c } ≡ load lent s
+    pub load-stored :
+        {n : ℕ} {c : List ℕ} {o : Loaded} → r ≡ judgment.Tokens n → Stored s (arrays-of f) roles n lent c o
+        → record { answer = o; bytes = c } ≡ load lent s
     unfolding load
     load-stored e g = g ∙ sym (ap (by-verdict lent) (accepted-as f e))
 

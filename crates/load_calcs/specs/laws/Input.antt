@@ -19,17 +19,17 @@ use Rattle.load_spans.specs.laws.Roles.{tokens-none, tokens-step}
 use Rattle.load_spans.specs.Seek.{earlier, context-at}
 use Rattle.load_spans.specs.laws.Seek.{earlier-none, earlier-step}
 use Rattle.load_spans.specs.laws.Codes.{role-same, role-other}
-use Rattle.load_calcs.specs.Input.{tells, Gives, ahead, around}
+use Rattle.load_calcs.specs.Input.{is-input, Gives, ahead, around}
 
 -- ---- laws of lists
 
-letters-told : (l : ℕ) (xs : List Tagged) → any (tells l) xs ≡ any (eqb l) (map (λ x. link-letter (text x)) (select (has-role Input) xs))
-letters-told l [] = refl
-letters-told l (x ∷ xs) = go (has-role Input x) (letters-told l xs)
+letters-match : (l : ℕ) (xs : List Tagged) → any (is-input l) xs ≡ any (eqb l) (map (λ x. link-letter (text x)) (select (has-role Input) xs))
+letters-match l [] = refl
+letters-match l (x ∷ xs) = go (has-role Input x) (letters-match l xs)
   where
     go :
-        (b : Bool) → any (tells l) xs ≡ any (eqb l) (map (λ y. link-letter (text y)) (select (has-role Input) xs))
-        → b && eqb l (link-letter (text x)) || any (tells l) xs ≡ any (eqb l) (map (λ y. link-letter (text y)) (prepend-if b x (select (has-role Input) xs)))
+        (b : Bool) → any (is-input l) xs ≡ any (eqb l) (map (λ y. link-letter (text y)) (select (has-role Input) xs))
+        → b && eqb l (link-letter (text x)) || any (is-input l) xs ≡ any (eqb l) (map (λ y. link-letter (text y)) (prepend-if b x (select (has-role Input) xs)))
     go true e = ap (λ (t : Bool). eqb l (link-letter (text x)) || t) e
     go false e = e
 
@@ -47,8 +47,8 @@ any-middle p [] y ys = refl
 any-middle p (x ∷ xs) y ys = ap (λ (t : Bool). p x || t) (any-middle p xs y ys) ∙ or-swap (p x) (p y) (any p (xs ++ ys))
 
 -- a letter more
-set-told : (given : List Bool) (k l : ℕ) → length given ≡ 21 → l < 21 → getD (set given k true) l false ≡ eqb l k || getD given l false
-set-told given k l e h = go (eqb l k) refl
+set-given : (given : List Bool) (k l : ℕ) → length given ≡ 21 → l < 21 → getD (set given k true) l false ≡ eqb l k || getD given l false
+set-given given k l e h = go (eqb l k) refl
   where
     go : (b : Bool) → eqb l k ≡ b → getD (set given k true) l false ≡ b || getD given l false
     go true f = let z : l ≡ k = eqb-true l k f in rw z (getD-set-same given k true false (omega arith))
@@ -59,7 +59,7 @@ set-told given k l e h = go (eqb l k) refl
 module _ (s : List ℕ) (a : Arrays) (roles : List ℕ) (n : ℕ) where
   -- some of the 21 letters that have an INP ahead of a token are in given, the others ahead of the i-th
   pub record Gathers (from : ℕ) (given : List Bool) (i : ℕ) : Type 0 where
-    pub each : (l : ℕ) → l < 21 → getD given l false || any (tells l) (ahead s a roles n i) ≡ any (tells l) (ahead s a roles n from)
+    pub each : (l : ℕ) → l < 21 → getD given l false || any (is-input l) (ahead s a roles n i) ≡ any (is-input l) (ahead s a roles n from)
     pub long : length given ≡ 21
 
   pub gathers-first : (from : ℕ) → Gathers from (replicate 21 false) from
@@ -99,10 +99,16 @@ module _ (s : List ℕ) (a : Arrays) (roles : List ℕ) (n : ℕ) where
     gathers-stop h e g =
         record { each = λ l b. sym (or-false (getD given l false)) ∙ rw (ahead-stop i h e) at (g .each l b) }
 
-    pub gathers-input : {k : ℕ} → i < n → getD roles i 0 ≡ 6 → k ≡ link-letter (text (tagged-at s a roles i)) → Gathers from given i → Gathers from (set given k true) (i + 1)
+    pub gathers-input :
+        {k : ℕ} → i < n → getD roles i 0 ≡ 6 → k ≡ link-letter (text (tagged-at s a roles i)) → Gathers from given i
+        → Gathers from (set given k true) (i + 1)
     gathers-input {k} h e f g =
         record {
-          each = λ l b. rw (set-told given k l (g .long) b) (or-in (getD given l false) (eqb l k) (any (tells l) (ahead s a roles n (i + 1))) ∙ ap (λ (t : Bool). getD given l false || (t || any (tells l) (ahead s a roles n (i + 1)))) (here l) ∙ rw (ahead-on i h (λ z. omega arith)) at (g .each l b));
+          each = λ l b.
+              rw (set-given given k l (g .long) b)
+              (or-in (getD given l false) (eqb l k) (any (is-input l) (ahead s a roles n (i + 1)))
+              ∙ ap (λ (t : Bool). getD given l false || (t || any (is-input l) (ahead s a roles n (i + 1)))) (here l)
+              ∙ rw (ahead-on i h (λ z. omega arith)) at (g .each l b));
           long = length-set given k true ∙ g .long;
         }
       where
@@ -115,7 +121,7 @@ module _ (s : List ℕ) (a : Arrays) (roles : List ℕ) (n : ℕ) where
             or-next true z = refl
             or-next false z = refl
 
-        here : (l : ℕ) → eqb l k ≡ tells l (tagged-at s a roles i)
+        here : (l : ℕ) → eqb l k ≡ is-input l (tagged-at s a roles i)
         here l = rw (f, input-here i e)
 
     pub gathers-on : i < n → (getD roles i 0 ≡ 5 → ⊥) → (getD roles i 0 ≡ 6 → ⊥) → Gathers from given i → Gathers from given (i + 1)
@@ -131,11 +137,18 @@ module _ (s : List ℕ) (a : Arrays) (roles : List ℕ) (n : ℕ) where
 
     pub gives-on : i < n → (getD roles i 0 ≡ 5 → ⊥) → Gives given (around s a roles n i) → Gives given (around s a roles n (i + 1))
     gives-on h e g =
-        record { each = λ l b. rw (behind-on i e) (rw (ahead-on i h e) at (g .each l b) ∙ any-middle (tells l) (until AsgName (earlier s a roles i)) (tagged-at s a roles i) (ahead s a roles n (i + 1))) }
+        record {
+          each = λ l b.
+              rw (behind-on i e)
+              (rw (ahead-on i h e) at (g .each l b)
+              ∙ any-middle (is-input l) (until AsgName (earlier s a roles i)) (tagged-at s a roles i) (ahead s a roles n (i + 1)));
+        }
 
     -- what stands at the token is no INP
-    pub gives-here : i < n → (getD roles i 0 ≡ 5 → ⊥) → (getD roles i 0 ≡ 6 → ⊥) → Gives given (around s a roles n i) → (l : ℕ) → l < 21 → getD given l false ≡ any (eqb l) (letters-given (context-at s a roles n i))
+    pub gives-here :
+        i < n → (getD roles i 0 ≡ 5 → ⊥) → (getD roles i 0 ≡ 6 → ⊥) → Gives given (around s a roles n i) → (l : ℕ) → l < 21
+        → getD given l false ≡ any (eqb l) (letters-given (context-at s a roles n i))
     gives-here h e f g l b =
         rw (ahead-on i h e) at (g .each l b)
-        ∙ any-middle (tells l) (until AsgName (earlier s a roles i)) (tagged-at s a roles i) (ahead s a roles n (i + 1))
-        ∙ rw (no-input-here i f) (letters-told l (until AsgName (earlier s a roles i) ++ ahead s a roles n (i + 1)))
+        ∙ any-middle (is-input l) (until AsgName (earlier s a roles i)) (tagged-at s a roles i) (ahead s a roles n (i + 1))
+        ∙ rw (no-input-here i f) (letters-match l (until AsgName (earlier s a roles i) ++ ahead s a roles n (i + 1)))

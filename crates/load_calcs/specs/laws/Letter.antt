@@ -16,11 +16,11 @@ use Rattle.spec_calc.specs.Symbol.{then, then-number, symbols-in, symbols}
 use Rattle.calc.specs.Answer.{given-letter, letter-of, letters-in}
 
 -- a letter of the 21
-abbrev pub small : ℕ → Bool
-small = given-letter (replicate 21 true)
+abbrev pub in-range : ℕ → Bool
+in-range = given-letter (replicate 21 true)
 
-small-is : (i : ℕ) → i < 21 → small i ≡ true
-small-is i h = getD-replicate 21 i true false h
+in-range-is : (i : ℕ) → i < 21 → in-range i ≡ true
+in-range-is i h = getD-replicate 21 i true false h
 
 all-append : (p : ℕ → Bool) (xs ys : List ℕ) → all p xs ≡ true → all p ys ≡ true → all p (xs ++ ys) ≡ true
 all-append p [] ys e f = f
@@ -32,71 +32,80 @@ all-append p (x ∷ xs) ys e f = go (p x) (λ g. all-append p xs ys g f) e
 
 -- ---- what a text begins with
 
-abbrev small-start : Start → Bool
-small-start blank = true
-small-start figure = true
-small-start wrong = true
-small-start (sign x n) = all small (letter-of x)
+abbrev start-in-range : Start → Bool
+start-in-range blank = true
+start-in-range figure = true
+start-in-range wrong = true
+start-in-range (sign x n) = all in-range (letter-of x)
 
-one-small : (i : ℕ) → i < 21 → (small i && true) ≡ true
-one-small i h = rw (small-is i h)
+one-in-range : (i : ℕ) → i < 21 → (in-range i && true) ≡ true
+one-in-range i h = rw (in-range-is i h)
 
 -- no other symbol is a letter
-first-small : (p : Spelling → Bool) (l : List Spelling) → all (λ x. all small (letter-of (x .symbol))) l ≡ true → small-start (sign-of (first p l)) ≡ true
-first-small p [] e = refl
-first-small p (x ∷ l) e = go (p x) (all small (letter-of (x .symbol))) (first-small p l) refl e
+first-in-range :
+    (p : Spelling → Bool) (l : List Spelling) → all (λ x. all in-range (letter-of (x .symbol))) l ≡ true
+    → start-in-range (sign-of (first p l)) ≡ true
+first-in-range p [] e = refl
+first-in-range p (x ∷ l) e = go (p x) (all in-range (letter-of (x .symbol))) (first-in-range p l) refl e
   where
-    go : (b c : Bool) → (all (λ y. all small (letter-of (y .symbol))) l ≡ true → small-start (sign-of (first p l)) ≡ true) → all small (letter-of (x .symbol)) ≡ c → (c && all (λ y. all small (letter-of (y .symbol))) l) ≡ true → small-start (sign-of (first-if b x (first p l))) ≡ true
+    go :
+        (b c : Bool) → (all (λ y. all in-range (letter-of (y .symbol))) l ≡ true → start-in-range (sign-of (first p l)) ≡ true)
+        → all in-range (letter-of (x .symbol)) ≡ c → (c && all (λ y. all in-range (letter-of (y .symbol))) l) ≡ true
+        → start-in-range (sign-of (first-if b x (first p l))) ≡ true
     go true true ih f g = f
     go false true ih f g = ih g
     go true false ih f g = f ∙ g
     go false false ih f g = absurd (false≢true g)
 
-letter-small : (a e b : ℕ) → e < a + 21 → (leb a b && leb b e) ≡ true → b - a < 21
-letter-small a e b h g = go (leb a b) refl g
+letter-below : (a e b : ℕ) → e < a + 21 → (leb a b && leb b e) ≡ true → b - a < 21
+letter-below a e b h g = go (leb a b) refl g
   where
     go : (t : Bool) → leb a b ≡ t → (t && leb b e) ≡ true → b - a < 21
     go true f k = omega (arith, leb-true a b f, leb-true b e k)
     go false f k = absurd (false≢true k)
 
-start-small : (b : ℕ) (s : List ℕ) → small-start (start b s) ≡ true
-start-small b s = go (among " \t" b) (numeral-byte b) (within 65 85 b) (within 97 117 b) refl refl
+range-of-start : (b : ℕ) (s : List ℕ) → start-in-range (start b s) ≡ true
+range-of-start b s = go (among " \t" b) (numeral-byte b) (within 65 85 b) (within 97 117 b) refl refl
   where
     go :
         (t u v w : Bool) → within 65 85 b ≡ v → within 97 117 b ≡ w
-        → small-start (cond t blank (cond u figure (cond v (sign (letter (b - 65)) 0) (cond w (sign (letter (b - 97)) 0) (sign-of (first (λ x. same (x .spelled) (take (length (x .spelled)) (b ∷ s))) spellings))))))
+        → start-in-range
+        (cond t blank
+        (cond u figure
+        (cond v (sign (letter (b - 65)) 0)
+        (cond w (sign (letter (b - 97)) 0) (sign-of (first (λ x. same (x .spelled) (take (length (x .spelled)) (b ∷ s))) spellings))))))
         ≡ true
     go true u v w e f = refl
     go false true v w e f = refl
-    go false false true w e f = one-small (b - 65) (letter-small 65 85 b (omega arith) e)
-    go false false false true e f = one-small (b - 97) (letter-small 97 117 b (omega arith) f)
-    go false false false false e f = first-small (λ x. same (x .spelled) (take (length (x .spelled)) (b ∷ s))) spellings refl
+    go false false true w e f = one-in-range (b - 65) (letter-below 65 85 b (omega arith) e)
+    go false false false true e f = one-in-range (b - 97) (letter-below 97 117 b (omega arith) f)
+    go false false false false e f = first-in-range (λ x. same (x .spelled) (take (length (x .spelled)) (b ∷ s))) spellings refl
 
 -- ---- the symbols of a text
 
-abbrev pub all-small : Option (List Symbol) → Bool
-all-small none = true
-all-small (some ss) = all small (letters-in ss)
+abbrev pub all-in-range : Option (List Symbol) → Bool
+all-in-range none = true
+all-in-range (some ss) = all in-range (letters-in ss)
 
-then-small : (x : Symbol) (o : Option (List Symbol)) → all small (letter-of x) ≡ true → all-small o ≡ true → all-small (then x o) ≡ true
+then-in-range : (x : Symbol) (o : Option (List Symbol)) → all in-range (letter-of x) ≡ true → all-in-range o ≡ true → all-in-range (then x o) ≡ true
 unfolding letters-in
-then-small x none e f = refl
-then-small x (some ss) e f = all-append small (letter-of x) (letters-in ss) e f
+then-in-range x none e f = refl
+then-in-range x (some ss) e f = all-append in-range (letter-of x) (letters-in ss) e f
 
-number-small : (v : Option Float) (o : Option (List Symbol)) → all-small o ≡ true → all-small (then-number v o) ≡ true
-number-small none o e = refl
-number-small (some v) o e = then-small (number v) o refl e
+number-in-range : (v : Option Float) (o : Option (List Symbol)) → all-in-range o ≡ true → all-in-range (then-number v o) ≡ true
+number-in-range none o e = refl
+number-in-range (some v) o e = then-in-range (number v) o refl e
 
-symbols-small : (n : ℕ) (s : List ℕ) → all-small (symbols-in n s) ≡ true
+symbols-in-range : (n : ℕ) (s : List ℕ) → all-in-range (symbols-in n s) ≡ true
 unfolding symbols-in letters-in
-symbols-small zero [] = refl
-symbols-small zero (b ∷ s) = refl
-symbols-small (suc n) [] = refl
-symbols-small (suc n) (b ∷ s) = go (λ r. symbols-small n r) (start b s) (start-small b s)
+symbols-in-range zero [] = refl
+symbols-in-range zero (b ∷ s) = refl
+symbols-in-range (suc n) [] = refl
+symbols-in-range (suc n) (b ∷ s) = go (λ r. symbols-in-range n r) (start b s) (range-of-start b s)
   where
     go :
-        ((r : List ℕ) → all-small (symbols-in n r) ≡ true) → (x : Start) → small-start x ≡ true
-        → all-small
+        ((r : List ℕ) → all-in-range (symbols-in n r) ≡ true) → (x : Start) → start-in-range x ≡ true
+        → all-in-range
         (elim x [
           | blank ↦ symbols-in n s
           | figure ↦ then-number (numeral (run numeral-byte (b ∷ s))) (symbols-in n (after numeral-byte (b ∷ s)))
@@ -105,9 +114,9 @@ symbols-small (suc n) (b ∷ s) = go (λ r. symbols-small n r) (start b s) (star
         ])
         ≡ true
     go ih blank e = ih s
-    go ih figure e = number-small (numeral (run numeral-byte (b ∷ s))) (symbols-in n (after numeral-byte (b ∷ s))) (ih (after numeral-byte (b ∷ s)))
+    go ih figure e = number-in-range (numeral (run numeral-byte (b ∷ s))) (symbols-in n (after numeral-byte (b ∷ s))) (ih (after numeral-byte (b ∷ s)))
     go ih wrong e = refl
-    go ih (sign x more) e = then-small x (symbols-in n (drop more s)) e (ih (drop more s))
+    go ih (sign x more) e = then-in-range x (symbols-in n (drop more s)) e (ih (drop more s))
 
-pub text-small : (s : List ℕ) → all-small (symbols s) ≡ true
-text-small s = symbols-small (length s) s
+pub text-in-range : (s : List ℕ) → all-in-range (symbols s) ≡ true
+text-in-range s = symbols-in-range (length s) s

@@ -117,7 +117,8 @@ module _ (s places starts ends roles : List ℕ) (n : ℕ) where
         let z : 0 + i ≡ i = omega arith in
         j .same kinds
         ∙ ap (λ (ks : List Cause). refused-by ks (contexts (file kinds))) (from-cause k l)
-        ∙ refused-at s (arrays-of kinds places starts ends) roles (cause-at k) (applies (cause-at k)) (refused-by (drop (suc k) causes) (contexts (file kinds))) [] 0 n
+        ∙ refused-at s (arrays-of kinds places starts ends) roles (cause-at k) (applies (cause-at k))
+        (refused-by (drop (suc k) causes) (contexts (file kinds))) [] 0 n
         ∙ rw (g, z)
 
     -- it applies to the i-th token; it applies to none

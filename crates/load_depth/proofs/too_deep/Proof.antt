@@ -8,7 +8,7 @@ use Rattle.spec_file.specs.Depth.{too-deep}
 use native.Mathlib.Omega.{arith}
 use Prim.Native.Nat.{ℕ, _≤_, _-_}
 use mathlib.Core.List.{List}
-use mathlib.Core.Path.{_≡_, refl, sym, ap, _∙_}
+use mathlib.Core.Path.{_≡_, sym, ap, _∙_}
 use borrow.Author.Needs.{needs}
 use Rattle.load_depth.proofs.too_deep.Statement.{statement}
 use Rattle.load_depth.proofs.too_deep.Tie as tie

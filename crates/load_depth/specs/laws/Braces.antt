@@ -1,8 +1,8 @@
 -- Braces counted token by token.
 use mathlib.Core.Path.{_≡_, refl, ap, _∙_}
-use mathlib.Core.Bool.{Bool, true, false, cond}
-use mathlib.Core.List.{List, [], _∷_}
-use mathlib.Core.Option.{Option, none, some}
+use mathlib.Core.Bool.{cond}
+use mathlib.Core.List.{List}
+use mathlib.Core.Option.{none, some}
 use Prim.Native.Nat.{ℕ, zero, suc, _+_, _-_, _≤_, _<_}
 use native.Mathlib.Omega.{arith}
 use lib.Dec.{leb}
@@ -35,7 +35,9 @@ module _ (s : List ℕ) (a : Arrays) (n i count : ℕ) (h : i < n) where
   abbrev next : ℕ
   next = opened (kind-of-number (getD (a .kinds) i 0)) count
 
-  step : too-deep count (tokens-from s a i (n - i)) ≡ cond (leb next most-braces) (too-deep next (tokens-from s a (i + 1) (n - (i + 1)))) (some (getD (a .places) i 0))
+  step :
+      too-deep count (tokens-from s a i (n - i))
+      ≡ cond (leb next most-braces) (too-deep next (tokens-from s a (i + 1) (n - (i + 1)))) (some (getD (a .places) i 0))
   step = ap (too-deep count) (tokens-step s a i n h)
 
   pub goes-on : next ≤ most-braces → too-deep count (tokens-from s a i (n - i)) ≡ too-deep next (tokens-from s a (i + 1) (n - (i + 1)))

@@ -1,3 +1,4 @@
+-- The first text of a role in a part, from where the code finds it.
 use mathlib.Core.List.{List, []}
 use mathlib.Core.Option.{Option, some, Option·getD}
 use mathlib.Core.Path.{_≡_, sym, ap, _∙_}

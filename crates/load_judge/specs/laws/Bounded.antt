@@ -28,14 +28,26 @@ module _ (s : List ℕ) (a : Arrays) (roles : List ℕ) (n : ℕ) (e : verdict s
   few-users =
       let xs = tagged-from s a roles 0 n in
       let c = clear (contexts xs) (unanswered (contexts xs) (accepted-is s xs e .uncaused)) .few in
-      omega (arith, tally-is s a roles 1 0 n (record { some = omega arith; known = omega arith }), length-sum (texts UagName xs), sum-texts UagName (λ t. 1) xs, counted-roles user-groups (UagName ∷ []) (λ x. once x .user-group) xs c)
+      omega (
+        arith,
+        tally-is s a roles 1 0 n (record { some = omega arith; known = omega arith }),
+        length-sum (texts UagName xs),
+        sum-texts UagName (λ t. 1) xs,
+        counted-roles user-groups (UagName ∷ []) (λ x. once x .user-group) xs c,
+      )
 
   few-hosts : tally 3 roles 0 n ≤ 64
   unfolding sum
   few-hosts =
       let xs = tagged-from s a roles 0 n in
       let c = clear (contexts xs) (unanswered (contexts xs) (accepted-is s xs e .uncaused)) .few in
-      omega (arith, tally-is s a roles 3 0 n (record { some = omega arith; known = omega arith }), length-sum (texts HagName xs), sum-texts HagName (λ t. 1) xs, counted-roles host-groups (HagName ∷ []) (λ x. once x .host-group) xs c)
+      omega (
+        arith,
+        tally-is s a roles 3 0 n (record { some = omega arith; known = omega arith }),
+        length-sum (texts HagName xs),
+        sum-texts HagName (λ t. 1) xs,
+        counted-roles host-groups (HagName ∷ []) (λ x. once x .host-group) xs c,
+      )
 
 module _ {s places starts ends roles : List ℕ} {r : Judgment} (f : Judged s places starts ends roles r) where
   -- the arrays with the kinds that the verdict speaks of

@@ -91,11 +91,15 @@ unfolding counted
 counted-is t [] = refl
 counted-is t (x ∷ xs) = rw (same-item t (item-of (x .role))) (go (eqb (section (x .role)) (number-of (some t))) (counted-is t xs))
   where
-    go : (b : Bool) → length (select (item t) xs) ≡ counted (number-of (some t)) xs → length (prepend-if b x (select (item t) xs)) ≡ cond b 1 0 + counted (number-of (some t)) xs
+    go :
+        (b : Bool) → length (select (item t) xs) ≡ counted (number-of (some t)) xs
+        → length (prepend-if b x (select (item t) xs)) ≡ cond b 1 0 + counted (number-of (some t)) xs
     go true e = omega (arith, e)
     go false e = omega (arith, e)
 
-passed : (o : Option Section) (xs : List Tagged) → length xs < most-bytes → leb (most-of o) (counted (number-of o) xs) ≡ holds-of o (λ t. leb (most t) (length (select (item t) xs)))
+passed :
+    (o : Option Section) (xs : List Tagged) → length xs < most-bytes
+    → leb (most-of o) (counted (number-of o) xs) ≡ holds-of o (λ t. leb (most t) (length (select (item t) xs)))
 passed none xs h = lt-leb most-bytes (counted 0 xs) (omega (arith, counted-bound 0 xs))
 passed (some t) xs h = ap (leb (most t)) (sym (counted-is t xs))
 
@@ -136,18 +140,25 @@ module _ (s starts ends roles : List ℕ) where
     pub many-here : {k : ℕ} → n ≤ most-bytes → i < n → k ≡ section-at i → getD limits k 0 ≤ getD counts k 0 → i ≡ first-of too-many s starts ends roles n
     many-here {k} f h z g = search-found (c .searched) h (sym (many-is f h) ∙ rw z at (le-leb (getD limits k 0) (getD counts k 0) g))
 
-    counted-on : (j : ℕ) → j < 8 → getD (set counts (section-at i) (getD counts (section-at i) 0 + 1)) j 0 ≡ counted j (tagged-at s (arrays starts ends) roles i ∷ earlier s (arrays starts ends) roles i)
+    counted-on :
+        (j : ℕ) → j < 8
+        → getD (set counts (section-at i) (getD counts (section-at i) 0 + 1)) j 0
+        ≡ counted j (tagged-at s (arrays starts ends) roles i ∷ earlier s (arrays starts ends) roles i)
     unfolding counted
     counted-on j h = go (eqb (section-at i) j) refl
       where
-        go : (b : Bool) → eqb (section-at i) j ≡ b → getD (set counts (section-at i) (getD counts (section-at i) 0 + 1)) j 0 ≡ cond b 1 0 + counted j (earlier s (arrays starts ends) roles i)
+        go :
+            (b : Bool) → eqb (section-at i) j ≡ b
+            → getD (set counts (section-at i) (getD counts (section-at i) 0 + 1)) j 0 ≡ cond b 1 0 + counted j (earlier s (arrays starts ends) roles i)
         go true f =
             let z : section-at i ≡ j = eqb-true (section-at i) j f in
             rw z (omega (arith, getD-set-same counts j (getD counts j 0 + 1) 0 (omega (arith, c .long)), c .all j h))
         go false f =
             omega (arith, getD-set-other counts (section-at i) j (getD counts (section-at i) 0 + 1) 0 (λ z. eqb-false (section-at i) j f (sym z)), c .all j h)
 
-    pub count-on : {k : ℕ} → n ≤ most-bytes → i < n → k ≡ section-at i → getD counts k 0 < getD limits k 0 → Counting n (set counts k (getD counts k 0 + 1)) (i + 1)
+    pub count-on :
+        {k : ℕ} → n ≤ most-bytes → i < n → k ≡ section-at i → getD counts k 0 < getD limits k 0
+        → Counting n (set counts k (getD counts k 0 + 1)) (i + 1)
     count-on {k} f h z g =
         record {
           searched = search-on (c .searched) h (sym (many-is f h) ∙ rw z at (lt-leb (getD limits k 0) (getD counts k 0) g));

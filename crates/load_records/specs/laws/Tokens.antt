@@ -1,5 +1,4 @@
 -- The tokens that belong to one, how many they are, and how long their texts.
--- Cursors stay far from the greatest number.
 use mathlib.Core.Bool.{Bool, true, false, not}
 use mathlib.Core.List.{List, [], _∷_, map}
 use mathlib.Core.Option.{Option·getD, some, none}

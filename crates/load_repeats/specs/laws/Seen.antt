@@ -77,7 +77,10 @@ module _ (q stop : Role) (t : List ℕ) (x : Tagged) (xs : List Tagged) where
   more-end e d = rw (e, d)
 
   more-other : has-role q x ≡ false → has-role stop x ≡ false → with-text q t (since q stop (x ∷ xs)) ≡ with-text q t (since q stop xs)
-  more-other e d = ap (λ (b : Bool). with-text q t (keep-if (not (not b && has-role stop x)) x (since q stop xs))) e ∙ ap (λ (b : Bool). with-text q t (keep-if (not b) x (since q stop xs))) d ∙ rw e
+  more-other e d =
+      ap (λ (b : Bool). with-text q t (keep-if (not (not b && has-role stop x)) x (since q stop xs))) e
+      ∙ ap (λ (b : Bool). with-text q t (keep-if (not b) x (since q stop xs))) d
+      ∙ rw e
 
 -- the first k of seen are the tokens of the role q in scope before the i-th
 module _ (s starts ends roles : List ℕ) (q stop n long : ℕ) where
@@ -103,8 +106,19 @@ module _ (s starts ends roles : List ℕ) (q stop n long : ℕ) where
       let b : j < k = omega (arith, length-take-le k seen h) in
       rw (getD-take k seen j 0 b) (span-fits-at (v .below j b) l)
 
-  one-more : (i : ℕ) (t : List ℕ) → with-text (role-of-number q) t (in-scope s starts ends roles q stop (i + 1)) ≡ with-text (role-of-number q) t (since (role-of-number q) (role-of-number stop) (tagged-at s (arrays starts ends) roles i ∷ earlier s (arrays starts ends) roles i))
-  one-more i t = ap (λ (l : List Tagged). with-text (role-of-number q) t (since (role-of-number q) (role-of-number stop) l)) (earlier-step s (arrays starts ends) roles i)
+  -- the tokens before the i-th
+  abbrev before : ℕ → List Tagged
+  before i = earlier s (arrays starts ends) roles i
+
+  abbrev here : ℕ → Tagged
+  here i = tagged-at s (arrays starts ends) roles i
+
+  one-more :
+      (i : ℕ) (t : List ℕ)
+      → with-text (role-of-number q) t (in-scope s starts ends roles q stop (i + 1))
+      ≡ with-text (role-of-number q) t (since (role-of-number q) (role-of-number stop) (here i ∷ before i))
+  one-more i t =
+      ap (λ (l : List Tagged). with-text (role-of-number q) t (since (role-of-number q) (role-of-number stop) l)) (earlier-step s (arrays starts ends) roles i)
 
   module _ (tq : Role-code q) (ts : Role-code stop) where
     says-q : (i : ℕ) → getD roles i 0 ≡ q → has-role (role-of-number q) (tagged-at s (arrays starts ends) roles i) ≡ true
@@ -152,13 +166,15 @@ module _ (s starts ends roles : List ℕ) (q stop n long : ℕ) where
             go true d = omega (arith, eqb-true j k d, getD-set-same seen k i 0 l, ap (λ (x : ℕ). getD (set seen k i) x 0) (eqb-true j k d))
             go false d = rw (getD-set-other seen k j i 0 (eqb-false j k d)) (v .below j (omega (arith, eqb-false j k d)))
 
-        texts : (t : List ℕ) → spelt t (map (text-at s starts ends) (take (k + 1) (set seen k i))) ≡ with-text (role-of-number q) t (in-scope s starts ends roles q stop (i + 1))
+        texts :
+            (t : List ℕ)
+            → spelt t (map (text-at s starts ends) (take (k + 1) (set seen k i))) ≡ with-text (role-of-number q) t (in-scope s starts ends roles q stop (i + 1))
         texts t =
             rw (add-one k, take-suc-set seen k i l, map-append (text-at s starts ends) (take k seen) (i ∷ []))
             (any-append (λ u. same u t) (map (text-at s starts ends) (take k seen)) (text-at s starts ends i ∷ [])
             ∙ ap (λ (b : Bool). b || (same (text-at s starts ends i) t || false)) (v .texts t)
             ∙ or-last (with-text (role-of-number q) t (in-scope s starts ends roles q stop i)) (same (text-at s starts ends i) t)
-            ∙ sym (one-more i t ∙ more-hit (role-of-number q) (role-of-number stop) t (tagged-at s (arrays starts ends) roles i) (earlier s (arrays starts ends) roles i) (says-q i e)))
+            ∙ sym (one-more i t ∙ more-hit (role-of-number q) (role-of-number stop) t (here i) (before i) (says-q i e)))
 
     -- a token that ends the scope; another token
     not-here : (i : ℕ) → (getD roles i 0 ≡ q → ⊥) → applies-at (wanted q stop) s starts ends roles n i ≡ false
@@ -170,7 +186,8 @@ module _ (s starts ends roles : List ℕ) (q stop n long : ℕ) where
           few = omega arith;
           room = v .room;
           below = λ j m. absurd (omega arith);
-          texts = λ t. sym (one-more i t ∙ more-end (role-of-number q) (role-of-number stop) t (tagged-at s (arrays starts ends) roles i) (earlier s (arrays starts ends) roles i) (says-other i e) (role-same stop ts d));
+          texts = λ t.
+              sym (one-more i t ∙ more-end (role-of-number q) (role-of-number stop) t (here i) (before i) (says-other i e) (role-same stop ts d));
           searched = search-on (v .searched) h (not-here i e);
         }
 
@@ -180,7 +197,9 @@ module _ (s starts ends roles : List ℕ) (q stop n long : ℕ) where
           few = omega (arith, v .few);
           room = v .room;
           below = v .below;
-          texts = λ t. v .texts t ∙ sym (one-more i t ∙ more-other (role-of-number q) (role-of-number stop) t (tagged-at s (arrays starts ends) roles i) (earlier s (arrays starts ends) roles i) (says-other i e) (role-other stop ts d));
+          texts = λ t.
+              v .texts t
+              ∙ sym (one-more i t ∙ more-other (role-of-number q) (role-of-number stop) t (here i) (before i) (says-other i e) (role-other stop ts d));
           searched = search-on (v .searched) h (not-here i e);
         }
 

@@ -71,11 +71,15 @@ module _ {t lent c : List ℕ} {r : Written} (w : Wrote t lent c r) where
           let l : c ≡ lent = w .leaves ∙ rw h in
           (leb-false (length t) (length lent) h, l, cc)
 
-module _ (s : List ℕ) (a : Arrays) (roles : List ℕ) (n : ℕ) (lent : List ℕ) {uags hags : List ℕ} (u : uags ≡ indices 1 roles 0 n) (h : hags ≡ indices 3 roles 0 n) {c : List ℕ} {r : Written} (w : Wrote (table-told s (a .starts) (a .ends) roles n uags hags) lent c r) where
-  pub stored-done :
-      {size count : ℕ} {b d e f : List ℕ} {skip : ℕ} → r ≡ written.Done size → Filled (warnings-of s (a .places) (a .starts) (a .ends) roles n) skip b d e f count
-      → Stored s a roles n lent c (loaded.Accepted size count)
-  stored-done e t = let d = done w e in stored-all s a roles n lent (is-table-of s a roles n u h) (d .0) (d .1) (d .2) (t .count)
+module _
+    (s : List ℕ) (a : Arrays) (roles : List ℕ) (n : ℕ) (lent : List ℕ) {uags hags : List ℕ} (u : uags ≡ indices 1 roles 0 n) (h : hags ≡ indices 3 roles 0 n)
+    {c : List ℕ} {r : Written} (w : Wrote (table-told s (a .starts) (a .ends) roles n uags hags) lent c r)
+  where
+    pub stored-done :
+        {size count : ℕ} {b d e f : List ℕ} {skip : ℕ} → r ≡ written.Done size
+        → Filled (warnings-of s (a .places) (a .starts) (a .ends) roles n) skip b d e f count
+        → Stored s a roles n lent c (loaded.Accepted size count)
+    stored-done e t = let d = done w e in stored-all s a roles n lent (is-table-of s a roles n u h) (d .0) (d .1) (d .2) (t .count)
 
-  pub stored-undone : {size : ℕ} → r ≡ written.NoRoom size → Stored s a roles n lent c (loaded.Refused NoRoom size)
-  stored-undone e = let d = undone w e in stored-none s a roles n lent (is-table-of s a roles n u h) (d .0) (d .1) (d .2)
+    pub stored-undone : {size : ℕ} → r ≡ written.NoRoom size → Stored s a roles n lent c (loaded.Refused NoRoom size)
+    stored-undone e = let d = undone w e in stored-none s a roles n lent (is-table-of s a roles n u h) (d .0) (d .1) (d .2)

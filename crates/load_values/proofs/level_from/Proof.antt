@@ -2,7 +2,7 @@ use Rattle.load_values.specs.laws.Levels.{level-great}
 use Rattle.spec_lists.specs.Text.{whole}
 use lib.ListN.{drop}
 use native.Mathlib.Omega.{arith}
-use mathlib.Core.Path.{_≡_, _∙_, sym}
+use mathlib.Core.Path.{_≡_}
 use borrow.Author.Needs.{needs}
 use Rattle.load_values.proofs.level_from.Statement.{statement}
 use Rattle.load_values.proofs.level_from.Tie as tie

@@ -25,8 +25,12 @@ use Rattle.load_warnings.specs.Code.{code-of, named-code, code-at}
 -- ---- a name among others, by its place
 
 module _ (s starts ends names : List ℕ) (i : ℕ) where
-  named : any (λ u. same u (text-at s starts ends i)) (map (text-at s starts ends) names) ≡ ltb (position (text-at s starts ends i) (map (text-at s starts ends) names)) (length names)
-  named = spot-any (text-at s starts ends i) (map (text-at s starts ends) names) ∙ ap (ltb (position (text-at s starts ends i) (map (text-at s starts ends) names))) (length-map names (text-at s starts ends))
+  named :
+      any (λ u. same u (text-at s starts ends i)) (map (text-at s starts ends) names)
+      ≡ ltb (position (text-at s starts ends i) (map (text-at s starts ends) names)) (length names)
+  named =
+      spot-any (text-at s starts ends i) (map (text-at s starts ends) names)
+      ∙ ap (ltb (position (text-at s starts ends i) (map (text-at s starts ends) names))) (length-map names (text-at s starts ends))
 
   pub named-found : position (text-at s starts ends i) (map (text-at s starts ends) names) < length names → named-code s starts ends names i ≡ 0
   named-found h = ap (λ (b : Bool). cond b 0 3) (named ∙ lt-ltb _ (length names) h)
@@ -49,7 +53,9 @@ module _ (s starts ends roles uags hags : List ℕ) (i : ℕ) where
   pub code-hag : getD roles i 0 ≡ 13 → code-at s starts ends roles uags hags i ≡ named-code s starts ends hags i
   code-hag e = rw e
 
-  pub code-none : (getD roles i 0 ≡ 16 → ⊥) → (getD roles i 0 ≡ 17 → ⊥) → (getD roles i 0 ≡ 12 → ⊥) → (getD roles i 0 ≡ 13 → ⊥) → code-at s starts ends roles uags hags i ≡ 0
+  pub code-none :
+      (getD roles i 0 ≡ 16 → ⊥) → (getD roles i 0 ≡ 17 → ⊥) → (getD roles i 0 ≡ 12 → ⊥) → (getD roles i 0 ≡ 13 → ⊥)
+      → code-at s starts ends roles uags hags i ≡ 0
   code-none a b c d = rw (ne-eqb (getD roles i 0) 16 a, ne-eqb (getD roles i 0) 17 b, ne-eqb (getD roles i 0) 12 c, ne-eqb (getD roles i 0) 13 d)
 
 -- ---- it is the warning's
@@ -57,20 +63,29 @@ module _ (s starts ends roles uags hags : List ℕ) (i : ℕ) where
 -- the tokens of a role among which a text is looked for
 named-among :
     (s : List ℕ) (a : Arrays) (roles : List ℕ) (q : ℕ) (t : List ℕ) (i k : ℕ) → Role-code q
-    → any (λ y. has-role (role-of-number q) y && same (text y) t) (tagged-from s a roles i k) ≡ any (λ u. same u t) (map (text-at s (a .starts) (a .ends)) (indices q roles i k))
+    → any (λ y. has-role (role-of-number q) y && same (text y) t) (tagged-from s a roles i k)
+    ≡ any (λ u. same u t) (map (text-at s (a .starts) (a .ends)) (indices q roles i k))
 unfolding indices tagged-from
 named-among s a roles q t i zero h = refl
 named-among s a roles q t i (suc k) h = rw (same-number (getD roles i 0) q h) (go (eqb (getD roles i 0) q) (named-among s a roles q t (suc i) k h))
   where
     go :
         (b : Bool)
-        → any (λ y. has-role (role-of-number q) y && same (text y) t) (tagged-from s a roles (suc i) k) ≡ any (λ u. same u t) (map (text-at s (a .starts) (a .ends)) (indices q roles (suc i) k))
+        → any (λ y. has-role (role-of-number q) y && same (text y) t) (tagged-from s a roles (suc i) k)
+        ≡ any (λ u. same u t) (map (text-at s (a .starts) (a .ends)) (indices q roles (suc i) k))
         → (b && same (text (tagged-at s a roles i)) t) || any (λ y. has-role (role-of-number q) y && same (text y) t) (tagged-from s a roles (suc i) k)
         ≡ any (λ u. same u t) (map (text-at s (a .starts) (a .ends)) (cond b (i ∷ indices q roles (suc i) k) (indices q roles (suc i) k)))
     go true e = ap (λ (b : Bool). same (text (tagged-at s a roles i)) t || b) e
     go false e = e
 
-by-tests : (a b c d u v : Bool) → (c ≡ true → d ≡ false) → code-of (cond a (some UnknownItem) (cond b (some UnknownPredicate) (cond (c && not u) (some UndefinedGroup) (cond (d && not v) (some UndefinedGroup) none)))) ≡ cond a 1 (cond b 2 (cond c (cond u 0 3) (cond d (cond v 0 3) 0)))
+by-tests :
+    (a b c d u v : Bool) → (c ≡ true → d ≡ false)
+    → code-of
+    (cond a (some UnknownItem)
+    (cond b (some UnknownPredicate)
+    (cond (c && not u) (some UndefinedGroup)
+    (cond (d && not v) (some UndefinedGroup) none))))
+    ≡ cond a 1 (cond b 2 (cond c (cond u 0 3) (cond d (cond v 0 3) 0)))
 by-tests true b c d u v h = refl
 by-tests false true c d u v h = refl
 by-tests false false true d true v h = rw (h refl)

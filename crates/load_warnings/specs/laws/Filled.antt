@@ -105,7 +105,9 @@ module _ (s places starts ends roles : List ℕ) (n : ℕ) where
   abbrev pub rest : ℕ → List Warned
   rest i = warnings-among file (tokens s (arrays-of [] places starts ends) roles i n)
 
-  pub code-here-is : (uags hags : List ℕ) (w i : ℕ) → uags ≡ indices 1 roles 0 n → hags ≡ indices 3 roles 0 n → w ≡ code-at s starts ends roles uags hags i → w ≡ code-here i
+  pub code-here-is :
+      (uags hags : List ℕ) (w i : ℕ) → uags ≡ indices 1 roles 0 n → hags ≡ indices 3 roles 0 n → w ≡ code-at s starts ends roles uags hags i
+      → w ≡ code-here i
   code-here-is uags hags w i u h e = e ∙ rw (u, h) (sym (code-is s (arrays-of [] places starts ends) roles n i))
 
   rest-step : (i : ℕ) → i < n → rest i ≡ with-place (warning-of file (here i)) (here i) (rest (i + 1))
@@ -122,8 +124,11 @@ module _ (s places starts ends roles : List ℕ) (n skip : ℕ) (numbers₀ at�
   pub record Filling (b a : List ℕ) (k i : ℕ) : Type 0 where
     pub few : k ≤ i
     pub count : k + length (rest s places starts ends roles n i) ≡ length (warnings-of s places starts ends roles n)
-    pub numbers-left : written skip k b (numbers-of (rest s places starts ends roles n i)) ≡ sets numbers₀ 0 (drop skip (numbers-of (warnings-of s places starts ends roles n)))
-    pub places-left : written skip k a (places-of (rest s places starts ends roles n i)) ≡ sets at₀ 0 (drop skip (places-of (warnings-of s places starts ends roles n)))
+    pub numbers-left :
+        written skip k b (numbers-of (rest s places starts ends roles n i))
+        ≡ sets numbers₀ 0 (drop skip (numbers-of (warnings-of s places starts ends roles n)))
+    pub places-left :
+        written skip k a (places-of (rest s places starts ends roles n i)) ≡ sets at₀ 0 (drop skip (places-of (warnings-of s places starts ends roles n)))
     pub long-numbers : length b ≡ length numbers₀
     pub long-at : length a ≡ length at₀
 
@@ -153,15 +158,23 @@ module _ (s places starts ends roles : List ℕ) (n skip : ℕ) (numbers₀ at�
       record {
         few = omega (arith, l .few);
         count = omega (arith, l .count, ap length f, more-length x r o g′);
-        numbers-left = rw (p, e) (sym (written-more skip k b (code-of o) (numbers-of r)) ∙ ap (written skip k b) (sym (ap numbers-of f ∙ more-numbers x r o g′)) ∙ l .numbers-left);
-        places-left = rw q (sym (written-more skip k a (getD places i 0) (places-of r)) ∙ ap (written skip k a) (sym (ap places-of f ∙ more-places x r o g′)) ∙ l .places-left);
+        numbers-left =
+            rw (p, e)
+            (sym (written-more skip k b (code-of o) (numbers-of r)) ∙ ap (written skip k b) (sym (ap numbers-of f ∙ more-numbers x r o g′)) ∙ l .numbers-left);
+        places-left =
+            rw q
+            (sym (written-more skip k a (getD places i 0) (places-of r))
+            ∙ ap (written skip k a) (sym (ap places-of f ∙ more-places x r o g′))
+            ∙ l .places-left);
         long-numbers = rw p (length-wrote skip k b w ∙ l .long-numbers);
         long-at = rw q (length-wrote skip k a (getD places i 0) ∙ l .long-at);
       }
 
   pub fill-none : {b a : List ℕ} {k i w : ℕ} → i < n → w ≡ code-here s places starts ends roles n i → w ≡ 0 → Filling b a k i → Filling b a k (i + 1)
   fill-none {b} {a} {k} {i} {w} h e g l =
-      let f = rest-step s places starts ends roles n i h ∙ no-more (here s places starts ends roles n i) (rest s places starts ends roles n (i + 1)) (warning-of (file s places starts ends roles n) (here s places starts ends roles n i)) (sym e ∙ g) in
+      let x = here s places starts ends roles n i in
+      let o = warning-of (file s places starts ends roles n) x in
+      let f = rest-step s places starts ends roles n i h ∙ no-more x (rest s places starts ends roles n (i + 1)) o (sym e ∙ g) in
       record {
         few = omega (arith, l .few);
         count = omega (arith, l .count, ap length f);

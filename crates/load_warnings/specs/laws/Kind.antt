@@ -18,7 +18,9 @@ use Rattle.load_spans.specs.laws.Bare.{any-map}
 abbrev kindless : Tagged → Tagged
 kindless x = record { token = record { kind = kind-of-number 0; place = place x; text = text x }; role = x .role }
 
-kindless-from : (s : List ℕ) (a : Arrays) (roles : List ℕ) (i k : ℕ) → tagged-from s (arrays-of [] (a .places) (a .starts) (a .ends)) roles i k ≡ map kindless (tagged-from s a roles i k)
+kindless-from :
+    (s : List ℕ) (a : Arrays) (roles : List ℕ) (i k : ℕ)
+    → tagged-from s (arrays-of [] (a .places) (a .starts) (a .ends)) roles i k ≡ map kindless (tagged-from s a roles i k)
 unfolding tagged-from
 kindless-from s a roles i zero = refl
 kindless-from s a roles i (suc k) = ap (λ (l : List Tagged). kindless (tagged-at s a roles i) ∷ l) (kindless-from s a roles (suc i) k)
@@ -37,5 +39,7 @@ among-kindless file (x ∷ xs) = rw (warning-kindless file x, among-kindless fil
     go none = refl
     go (some w) = refl
 
-pub warnings-kindless : (s : List ℕ) (a : Arrays) (roles : List ℕ) (n : ℕ) → warnings (tagged-from s (arrays-of [] (a .places) (a .starts) (a .ends)) roles 0 n) ≡ warnings (tagged-from s a roles 0 n)
+pub warnings-kindless :
+    (s : List ℕ) (a : Arrays) (roles : List ℕ) (n : ℕ)
+    → warnings (tagged-from s (arrays-of [] (a .places) (a .starts) (a .ends)) roles 0 n) ≡ warnings (tagged-from s a roles 0 n)
 warnings-kindless s a roles n = ap warnings (kindless-from s a roles 0 n) ∙ among-kindless (tagged-from s a roles 0 n) (tagged-from s a roles 0 n)

@@ -11,12 +11,13 @@ use Rattle.spec_lists.specs.laws.Joined.{joined-append, map-append}
 use Rattle.spec_lists.specs.Runs.{runs, Run}
 use Rattle.spec_lists.specs.Select.{joined, beside, beside₃, prepend-if, select}
 use Rattle.spec_lists.specs.Text.{same}
-use Rattle.spec_lists.specs.Words.{spelled-out, word-bytes}
+use Rattle.spec_lists.specs.Words.{spelled-out}
 use Rattle.spec_grammar.specs.declared.Role.{Role}
 use Rattle.spec_grammar.specs.declared.Role.the-variants.{Input, Pvname, RuleWord, Calculation, UagNamed, HagNamed}
 use Rattle.spec_grammar.specs.Sentence.{Tagged}
 use Rattle.spec_file.specs.Contents.{Clause, has-role, Link, Rule-text, rule-text, Group, text, texts}
 use Rattle.spec_table.specs.Written.{run-words, flags, calculation-words, references-to, Reference, two-runs, number-of}
+use Rattle.byte_write.specs.laws.Puts.{spelled-append}
 use Rattle.load_flags.specs.Tokens.{cut, first-text, numbered}
 use Rattle.load_records.specs.declared.Cursor.{Cursor}
 use Rattle.load_records.specs.declared.Work.the-variants.{Firsts, Inputs, Rules, References, Texts}
@@ -93,10 +94,6 @@ calculations rs = map (λ r. Option·getD (r .calculation) []) rs
 -- the words of a rule
 abbrev pub rule-words : Rule-text → List ℕ → Run → List ℕ
 rule-words r refs calc = flags r ∷ (refs ++ calculation-words (r .calculation) calc)
-
-pub spelled-append : (ws vs : List ℕ) → spelled-out (ws ++ vs) ≡ spelled-out ws ++ spelled-out vs
-spelled-append [] vs = refl
-spelled-append (w ∷ ws) vs = ap (λ (l : List ℕ). word-bytes w ++ l) (spelled-append ws vs)
 
 refs-length : (gs : List Group) (ts : List (List ℕ)) → length (references-to gs ts) ≡ length ts
 refs-length gs ts = length-map ts _

@@ -18,6 +18,7 @@ use Rattle.spec_grammar.specs.Codes.{same-role}
 use Rattle.spec_file.specs.Contents.{text, texts, groups, clauses, asg, file-of, Link, Rule-text, rule-text}
 use Rattle.spec_file.specs.Limit.{user-groups, host-groups, members, access-groups, inputs, rules, references}
 use Rattle.spec_table.specs.Written.{member-lists, Reference, records, run-words, names}
+use Rattle.byte_write.specs.laws.Puts.{spelled-append}
 use Rattle.load_records.specs.declared.Cursor.{Cursor}
 use Rattle.load_records.specs.declared.Work.the-variants.{Groups, Names, Access, Inputs, Rules, References}
 use Rattle.load_passes.specs.Pass.{emits, refer-emits}
@@ -27,7 +28,7 @@ use Rattle.load_sections.specs.Strings.{zero-cursor}
 use Rattle.load_write.specs.Passes.{strings}
 use Rattle.load_write.specs.laws.Flat.{cuts, flat-links, flat-rules, link-of, texts-joined}
 use Rattle.load_write.specs.laws.GroupRecords.{access-bytes, groups-bytes, lowered-bytes, names-bytes, texts-bytes}
-use Rattle.load_write.specs.laws.RuleRecords.{firsts-are, inputs-are, reference-texts, references-are, rule-refs, rules-are, spelled-append}
+use Rattle.load_write.specs.laws.RuleRecords.{firsts-are, inputs-are, reference-texts, references-are, rule-refs, rules-are}
 
 -- ---- names and members
 
