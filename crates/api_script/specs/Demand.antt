@@ -1,4 +1,4 @@
--- Demand 3 of one run: a load, any calls, a question. See demand/specs/Front.antt.
+-- Demand 3 of one run: a load, any calls, a question. See spec_demand/specs/Front.antt.
 use mathlib.Core.Path.{_≡_}
 use mathlib.Core.Bool.{true}
 use mathlib.Core.List.{List}

@@ -1,3 +1,4 @@
+// The answer to a question on a table, and the look-up of an input.
 use spec_calc::Reading;
 use spec_decision::Answer;
 use spec_decision::Found;
@@ -47,7 +48,7 @@ fn decision_of_group(
 // ---- the question
 
 // The answer to a question on a table that was checked before: only the answering group's rules are tried.
-// Callers have asked is_table, or have the bytes of an accepted load (demand/specs/Exact: leaves-table); others call decide.
+// Callers have asked is_table, or have the bytes of an accepted load (spec_demand/specs/laws/Exact: leaves-table); others call decide.
 pub fn decide_checked(
     table: &[u8],
     group: &[u8],

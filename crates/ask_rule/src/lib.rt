@@ -1,3 +1,4 @@
+// One rule of a checked table and a question: members, level, calculation.
 use spec_rule::Access;
 use spec_rule::Decision;
 use table_read::Section;

@@ -26,7 +26,7 @@ fn rules(text: &mut [u8]) -> usize
 }
 
 // Answers the input piece by piece, and says how much of a last line is held. For each byte there is room for an answer
-// (replies/specs/Room).
+// (prog_replies/specs/laws/Room).
 fn answer_pieces(table: &[u8], held: &mut [u8]) -> usize
     requires { ⌜ (is-table (now table) ≡ true) × (length (now held) ≡ room) ⌝ }
     ensures { λ r. ⌜ r ≤ room ⌝ }

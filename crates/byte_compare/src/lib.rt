@@ -1,3 +1,4 @@
+// Comparing bytes, as they are or with ASCII letters in lower case.
 ghost use mathlib.Core.Path.{_≡_};
 ghost use Rattle.spec_lists.specs.Text.{same, lower-byte, lowered};
 

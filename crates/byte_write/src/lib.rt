@@ -1,3 +1,4 @@
+// Writing bytes, words and texts into lent bytes. What stands past the end is skipped, so that one code measures and writes.
 ghost use mathlib.Core.Path.{_≡_};
 ghost use mathlib.Core.List.{[], _∷_, map};
 ghost use Prim.Native.Nat.{_+_, _*_, _<_};

@@ -1,3 +1,4 @@
+// Whether a calculation is allowed, its value, and whether it is true.
 ghost use mathlib.Core.Path.{_≡_};
 ghost use mathlib.Core.Bool.{false, not};
 ghost use mathlib.Core.List.{[], map};
@@ -122,7 +123,7 @@ fn near(w: Worth) -> bool
 }
 
 // Whether a calculation is true, from the letters' values and which of them are good.
-// answer has both arrays from inputs_of, which makes 21 of each.
+// ask has both arrays from inputs_of, which makes 21 of each.
 pub fn holds_with(s: &[u8], values: &[f64; 21], goods: &[bool; 21]) -> bool
     requires { ⌜ length (now values) ≡ 21 ⌝ }
     ensures { λ r. ⌜ r ≡ true-with (now (values .entry)) (now (goods .entry)) (tree-of (now (s .entry))) ⌝ }

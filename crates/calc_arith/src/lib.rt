@@ -1,3 +1,4 @@
+// Arithmetic on the values of a calculation, and the test for true.
 ghost use mathlib.Core.Path.{_≡_};
 ghost use mathlib.Core.Bool.{not, cond};
 ghost use Rattle.spec_calc.specs.Value.{truth, is-true, apply, finite, near-one};

@@ -1,3 +1,4 @@
+// The value of a calculation's text: recursion over its expression.
 ghost use mathlib.Core.Path.{_≡_};
 ghost use mathlib.Core.List.{map};
 ghost use Prim.Native.Nat.{_+_, _≤_};

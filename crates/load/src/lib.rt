@@ -1,3 +1,4 @@
+// The load: from a text to a table in lent bytes, or a refusal that leaves them as they are.
 ghost use mathlib.Core.Path.{_≡_};
 ghost use Prim.Native.Nat.{_≤_};
 ghost use lib.ListN.{length};

@@ -1,3 +1,4 @@
+// Cause 10: a calculation not allowed.
 ghost use mathlib.Core.Path.{_≡_};
 ghost use mathlib.Core.Bool.{true};
 ghost use Prim.Native.Nat.{_+_, _<_};

@@ -1,3 +1,4 @@
+// Refusals 5 to 10: the causes in their order.
 ghost use mathlib.Core.Path.{_≡_};
 ghost use mathlib.Core.List.{List};
 ghost use Prim.Native.Nat.{ℕ, _≤_};
@@ -12,7 +13,7 @@ use spec_file::Refusal;
 // How many causes there are.
 const CAUSES: usize = 6;
 
-// The causes in the order in which they are looked for: file/specs/Refusal.antt.
+// The causes in the order in which they are looked for: spec_file/specs/Refusal.antt.
 fn cause(k: usize) -> Refusal
     ensures { λ r. ⌜ r ≡ cause-at k ⌝ }
 {
@@ -43,8 +44,8 @@ fn first_of(
         Refusal::StringTooLong => load_limits::too_long(s, starts, ends, roles, n),
         Refusal::TooMany => load_limits::too_many(s, starts, ends, roles, n),
         Refusal::GivenAgain => load_repeats::given_again(s, starts, ends, roles, n, seen),
-        Refusal::BadLevel => load_words::bad_level(s, starts, ends, roles, n),
-        Refusal::UnknownWord => load_words::unknown_word(s, starts, ends, roles, n),
+        Refusal::BadLevel => load_heads::bad_level(s, starts, ends, roles, n),
+        Refusal::UnknownWord => load_heads::unknown_word(s, starts, ends, roles, n),
         Refusal::BadCalculation => load_calcs::bad_calculation(s, starts, ends, roles, n),
         _ => n,
     }

@@ -31,7 +31,7 @@ fn opened(kind: u8, count: usize) -> usize
     }
 }
 
-// The braces rule over the first n tokens. The caller, hear, has arrays as long as the text, and no text has more tokens than bytes.
+// The braces rule over the first n tokens. The caller, load_syntax, has arrays as long as the text, and no text has more tokens than bytes.
 pub fn too_deep(kinds: &[u8], places: &[u16], n: usize) -> Deep
     requires { ⌜ (n ≤ length (now kinds)) × (n ≤ length (now places)) ⌝ }
     ensures { λ r. ⌜ ((s starts ends : List ℕ) → Finds s starts ends (now (kinds .entry)) (now (places .entry)) n r) ⌝ }

@@ -1,3 +1,4 @@
+// What stands behind a token in its clause, and the flags of a rule.
 use load_tokens::LEVEL;
 use load_tokens::LOG_OPTION;
 use load_tokens::PERMISSION;

@@ -1,3 +1,4 @@
+// Refusals 2 to 10: the judgment on a text.
 ghost use Prim.Native.Nat.{_≤_};
 ghost use lib.ListN.{length};
 ghost use Rattle.load_tokens.specs.Stores.{arrays-of};
@@ -61,7 +62,7 @@ fn judge_long(
 }
 
 // The refusals 2 to 10. The arrays then hold the tokens of a text that has none.
-// The callers, load_listing and loader, have looked at the text's length and have arrays as long as the text.
+// The callers, load_listing and load, have looked at the text's length and have arrays as long as the text.
 pub fn judge(
     s: &[u8],
     places: &mut [u16],

@@ -1,3 +1,4 @@
+// Causes 5 and 6: a string too long, a limit of the table passed.
 ghost use mathlib.Core.Path.{_≡_};
 ghost use mathlib.Core.List.{map};
 ghost use Prim.Native.Nat.{ℕ, _<_};

@@ -143,7 +143,7 @@ fn file(kinds: &[u8], roles: &mut [u8]) -> Cursor
 }
 
 // What each of the first n tokens says, or where reading stops.
-// The caller, hear, has both arrays as long as the text, and no text has more tokens than bytes.
+// The caller, load_syntax, has both arrays as long as the text, and no text has more tokens than bytes.
 pub fn read(kinds: &[u8], n: usize, roles: &mut [u8]) -> Outcome
     requires { ⌜ (n ≤ length (now kinds)) × (n ≤ length (now roles)) ⌝ }
     ensures { λ r. ⌜ Answers (now (kinds .entry)) n (now (roles .entry)) (now (roles .exit)) r ⌝ }

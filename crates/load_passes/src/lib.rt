@@ -1,3 +1,4 @@
+// The records or strings for all tokens of a role.
 use load_tokens::ASG_NAME;
 use load_tokens::HAG_NAMED;
 use load_tokens::RULE_WORD;

@@ -32,7 +32,7 @@ pub enum Quote {
     Unclosed,
 }
 
-// The end of a quoted text that starts at a place. The caller, scanner, has read the quote before it.
+// The end of a quoted text that starts at a place. The caller, load_scan, has read the quote before it.
 pub fn quote_end(s: &[u8], from: usize) -> Quote
     requires { ⌜ from ≤ length (now s) ⌝ }
     ensures { λ r. ⌜ Quote-read (now (s .entry)) from r ⌝ }

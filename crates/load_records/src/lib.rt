@@ -1,3 +1,4 @@
+// The record or string of the table that is written for one token.
 use load_tokens::ASG_NAME;
 use load_tokens::HAG_NAMED;
 use load_tokens::INPUT;

@@ -1,3 +1,4 @@
+// Cause 7: a name or letter given again.
 ghost use mathlib.Core.Path.{_≡_};
 ghost use Prim.Native.Nat.{_≤_, min};
 ghost use lib.ListN.{length};

@@ -122,7 +122,7 @@ pub enum Scanned {
 }
 
 // The tokens of a text, kept in the arrays.
-// The caller, loader by hear, has looked at the text's length and has arrays as long as the text.
+// The caller, load_judge by load_syntax, has looked at the text's length and has arrays as long as the text.
 pub fn scan(
     s: &[u8],
     kinds: &mut [u8],

@@ -1,3 +1,4 @@
+// The sections of the table, and its strings.
 use load_tokens::ASG_NAME;
 use load_tokens::CALCULATION;
 use load_tokens::HAG_NAME;

@@ -1,4 +1,4 @@
--- Kept tokens of a role: how many, and how far to the next. Roles stand as numbers, as in the arrays.
+-- The tokens of a role in the arrays: how many, and how far to the next. Roles stand as numbers, as in the arrays.
 use mathlib.Core.Path.{_≡_, refl, ap, ap₂, _∙_}
 use mathlib.Core.Bool.{Bool, true, false, cond, not, _||_}
 use mathlib.Core.List.{List, [], _∷_, map}
@@ -13,7 +13,7 @@ use Rattle.spec_grammar.specs.Sentence.{Tagged}
 use Rattle.load_tokens.specs.Arrays.{Arrays, tagged-from}
 use Rattle.spec_file.specs.Contents.{texts}
 
--- the number of a role that says something
+-- the code of a role other than NoRole
 pub record Role-code (q : ℕ) : Type 0 where
   pub some : 0 < q
   pub known : q < 18
@@ -22,7 +22,7 @@ pub record Role-code (q : ℕ) : Type 0 where
 abbrev pub arrays : List ℕ → List ℕ → Arrays
 arrays starts ends = record { kinds = []; places = []; starts = starts; ends = ends }
 
--- the texts of n tokens lie in s
+-- the spans of n tokens are in s
 pub record Spans-fit (s starts ends roles : List ℕ) (n : ℕ) : Type 0 where
   pub few : n ≤ 16384
   pub short : length s ≤ 16384

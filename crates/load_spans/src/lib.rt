@@ -1,3 +1,4 @@
+// The texts of tokens in the file, and the tokens of a role.
 ghost use mathlib.Core.Path.{_≡_};
 ghost use mathlib.Core.List.{map};
 ghost use Prim.Native.Nat.{_≤_, _<_};
@@ -8,7 +9,7 @@ ghost use Rattle.load_spans.specs.Spans.{Span-fits, Listed-spans-fit, te
 ghost use Rattle.load_spans.specs.Position.{position};
 ghost use Rattle.load_spans.specs.Listed.{Listed};
 
-// The text of a token. Inner, as all here: callers know from the scanner's promise (kept/specs/Stores: Good) that it lies in the file.
+// The text of a token. Inner, as all here: callers know from load_scan's promise (load_tokens/specs/Stores: Good) that it stands in the file.
 pub fn text<'a>(s: &'a [u8], starts: &[u16], ends: &[u16], i: usize) -> &'a [u8]
     requires { ⌜ Span-fits (now s) (now starts) (now ends) i ⌝ }
     ensures { λ r. ⌜ now r ≡ text-at (now (s .entry)) (now (starts .entry)) (now (ends .entry)) i ⌝ }

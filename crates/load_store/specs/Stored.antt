@@ -9,11 +9,11 @@ use Rattle.spec_table.specs.Layout.{greatest-table}
 use Rattle.load_spans.specs.Listed.{indices}
 use Rattle.spec_load.specs.declared.Loaded.{Loaded}
 use Rattle.spec_load.specs.Load.{by-verdict}
-use Rattle.load_write.specs.Table.{table-told}
+use Rattle.load_write.specs.Table.{stored-table}
 
 -- the table of n tokens is no longer than the greatest
 abbrev pub Fits : List ℕ → List ℕ → List ℕ → List ℕ → ℕ → Type 0
-Fits s starts ends roles n = length (table-told s starts ends roles n (indices 1 roles 0 n) (indices 3 roles 0 n)) ≤ greatest-table
+Fits s starts ends roles n = length (stored-table s starts ends roles n (indices 1 roles 0 n) (indices 3 roles 0 n)) ≤ greatest-table
 
 -- what a load of n tokens answers, and what it makes of the lent bytes
 abbrev pub Stored : List ℕ → Arrays → List ℕ → ℕ → List ℕ → List ℕ → Loaded → Type 0

@@ -1,3 +1,4 @@
+// The table of a judged text in the lent bytes, and how many warnings it has.
 ghost use mathlib.Core.List.{List};
 ghost use Prim.Native.Nat.{ℕ};
 ghost use Rattle.load_tokens.specs.Stores.{arrays-of};
@@ -9,7 +10,7 @@ use spec_file::Refusal;
 use spec_load::Loaded;
 
 // The table of n tokens of an accepted file, if there is room, and how many warnings they have.
-// The caller, loader, has the tokens from load_judge.
+// The caller, load, has the tokens from load_judge.
 pub fn store(
     s: &[u8],
     places: &[u16],

@@ -1,3 +1,4 @@
+// Refusals 2 to 4: bytes, braces, grammar.
 ghost use mathlib.Core.Path.{_≡_};
 ghost use mathlib.Core.Bool.{cond};
 ghost use mathlib.Core.List.{List};

@@ -1,5 +1,5 @@
 -- Tokens kept in arrays, one number for each of: kind, place, start and end of the text, role. The numbers are those of
--- grammar/specs: kind-number, role-number.
+-- spec_grammar/specs/Codes: kind-number, role-number.
 use mathlib.Core.List.{List, [], _∷_}
 use Prim.Native.Nat.{ℕ, zero, suc, _-_}
 use lib.ListN.{getD, take, drop}

@@ -1,3 +1,4 @@
+// The warnings of an accepted file.
 ghost use mathlib.Core.Path.{_≡_};
 ghost use Prim.Native.Nat.{_≤_, _<_};
 ghost use lib.ListN.{length};
@@ -125,7 +126,7 @@ fn write(
 }
 
 // The warnings of n tokens of an accepted file, from the skip-th on, as many as there is room for, and how many there are.
-// The callers, load_listing and loader, have the tokens from load_judge.
+// The callers, load_listing and load_store, have the tokens from load_judge.
 pub fn warnings(
     s: &[u8],
     places: &[u16],

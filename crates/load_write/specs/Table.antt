@@ -11,8 +11,8 @@ use Rattle.load_write.specs.declared.Written.the-variants.{Done, NoRoom}
 use Rattle.load_write.specs.Passes.{whole-table}
 
 -- the bytes that are to be written for kept tokens
-unfoldable pub table-told : List ℕ → List ℕ → List ℕ → List ℕ → ℕ → List ℕ → List ℕ → List ℕ
-table-told s starts ends roles n uags hags =
+unfoldable pub stored-table : List ℕ → List ℕ → List ℕ → List ℕ → ℕ → List ℕ → List ℕ → List ℕ
+stored-table s starts ends roles n uags hags =
     whole-table (texts-at s starts ends uags) (texts-at s starts ends hags) (tokens-in s starts ends roles 0 n)
 
 -- t: what is to be written; lent: the bytes before

@@ -1,3 +1,4 @@
+// The whole table of an accepted file.
 use load_tokens::ASG_NAME;
 use load_tokens::HAG_NAME;
 use load_tokens::HOST;
@@ -15,12 +16,12 @@ ghost use Rattle.load_spans.specs.Roles.{tokens};
 ghost use Rattle.byte_write.specs.Put.{Put};
 ghost use Rattle.load_passes.specs.Passed.{Source};
 ghost use Rattle.load_write.specs.Header.{Counts-right, header-of};
-ghost use Rattle.load_write.specs.Table.{table-told, Wrote};
+ghost use Rattle.load_write.specs.Table.{stored-table, Wrote};
 use load_sections::AccessSections;
 use load_sections::GroupSections;
 use load_sections::RuleSections;
 
-// No accepted file has a longer table: table/specs/Layout.antt.
+// No accepted file has a longer table: spec_table/specs/Layout.antt.
 const GREATEST_TABLE: usize = 35108;
 
 // How many records sections 1 to 6 have.
@@ -105,7 +106,7 @@ fn table(
     requires { ⌜ Source (now s) (now starts) (now ends) (now roles) n (now uags) (now hags) ⌝ }
     ensures { λ r. ⌜
         Put (now (lent .entry)) (now (lent .exit)) 0
-        (table-told (now (s .entry)) (now (starts .entry)) (now (ends .entry)) (now (roles .entry)) n (now (uags .entry)) (now (hags .entry))) r
+        (stored-table (now (s .entry)) (now (starts .entry)) (now (ends .entry)) (now (roles .entry)) n (now (uags .entry)) (now (hags .entry))) r
         ⌝ }
 {
     let groups = load_sections::group_sections(s, starts, ends, roles, n, lent);
@@ -127,7 +128,7 @@ pub enum Written {
 }
 
 // Nothing is written if there is no room for all of it. Only where the greatest table has no room is one measured first.
-// The caller, loader, has the tokens of an accepted file from the scanner and the groups from load_spans::collect.
+// The caller, load_store, has the tokens of an accepted file from load_scan and the groups from load_spans::collect.
 pub fn write(
     s: &[u8],
     starts: &[u16],
@@ -139,9 +140,9 @@ pub fn write(
     lent: &mut [u8],
 ) -> Written
     requires { ⌜ Source (now s) (now starts) (now ends) (now roles) n (now uags) (now hags) ⌝ }
-    requires { ⌜ length (table-told (now s) (now starts) (now ends) (now roles) n (now uags) (now hags)) ≤ greatest-table ⌝ }
+    requires { ⌜ length (stored-table (now s) (now starts) (now ends) (now roles) n (now uags) (now hags)) ≤ greatest-table ⌝ }
     ensures { λ r. ⌜
-        Wrote (table-told (now (s .entry)) (now (starts .entry)) (now (ends .entry)) (now (roles .entry)) n (now (uags .entry)) (now (hags .entry)))
+        Wrote (stored-table (now (s .entry)) (now (starts .entry)) (now (ends .entry)) (now (roles .entry)) n (now (uags .entry)) (now (hags .entry)))
         (now (lent .entry)) (now (lent .exit)) r
         ⌝ }
 {

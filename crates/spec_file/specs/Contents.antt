@@ -24,20 +24,21 @@ text x = x .token .text
 abbrev pub place : Tagged → ℕ
 place x = x .token .place
 
--- the texts of those that say r
+-- the texts of the tokens of the role r
 abbrev pub texts : Role → List Tagged → List (List ℕ)
 texts r xs = map text (select (has-role r) xs)
 
--- up to the next that says r
+-- up to the next of the role r
 abbrev pub until : Role → List Tagged → List Tagged
 until r xs = run (λ x. not (has-role r x)) xs
 
--- a token, and all that follows it up to the next of its kind
+-- a token, and all that follows it up to the next of its role
 pub record Clause : Type 0 where
   pub head : Tagged
   pub body : List Tagged
 
--- each token that says r, with what follows it up to the next one that does
+-- Each token of the role r, with what follows it up to the next one of that role. A body runs past its closing brace; that nothing is taken from
+-- there is a law: laws/Items.antt, file-by-items.
 abbrev pub clauses : Role → List Tagged → List Clause
 clauses r [] = []
 clauses r (x ∷ xs) = cond (has-role r x) (record { head = x; body = until r xs } ∷ clauses r xs) (clauses r xs)

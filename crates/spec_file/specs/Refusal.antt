@@ -34,7 +34,7 @@ number UnknownWord = 9
 number BadCalculation = 10
 number NoRoom = 11
 
--- a token among those before it, the nearest first, and those behind it
+-- a token, the tokens before it, read backwards from it, and those behind it, read onwards
 pub record Context : Type 0 where
   pub backwards : List Tagged
   pub here : Tagged

@@ -1,4 +1,4 @@
--- What it is for tokens to be read by the grammar, and where a text stops being the beginning of any file. No reader stands here.
+-- What it is for tokens to be a file of the grammar, and where a text stops being the beginning of any file. No reader stands here.
 use mathlib.Core.Path.{_≡_}
 use mathlib.Core.List.{List, [], _∷_, _++_, map}
 use Prim.Native.Nat.{ℕ}
@@ -7,7 +7,7 @@ use Rattle.spec_token.specs.Token.{Token}
 use Rattle.spec_grammar.specs.declared.Role.{Role}
 use Rattle.spec_grammar.specs.Production.{Sign, _tagged_, Acf-file}
 
--- a token and what it says in its place
+-- a token with its role: what it is in its place
 pub record Tagged : Type 0 where
   pub token : Token
   pub role : Role
@@ -32,7 +32,7 @@ pub record Sentence (ks : List Kind) : Type 0 where
   pub spelled : map kind-of signs ≡ ks
   pub derived : Acf-file signs
 
--- a sentence begins with the kinds ks
+-- a sentence begins with the kinds ks: they are a viable prefix
 pub record Viable (ks : List Kind) : Type 0 where
   pub rest : List Kind
   pub sentence : Sentence (ks ++ rest)

@@ -1,3 +1,4 @@
+// Whether bytes are a table.
 use table_fields::HOST_GROUPS;
 use table_fields::INPUTS;
 use table_fields::REFERENCES;

@@ -1,3 +1,4 @@
+// The words of a table's header and records, and the sections with their numbers and widths.
 ghost use mathlib.Core.Path.{_≡_};
 ghost use Prim.Native.Nat.{_+_, _*_, _<_, _≤_};
 ghost use lib.ListN.{length, getD};

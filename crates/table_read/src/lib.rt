@@ -1,3 +1,4 @@
+// The records of a checked table: counts, fields, names, the answering group, an input.
 use table_fields::ACCESS_GROUPS;
 use table_fields::HOST_GROUPS;
 use table_fields::INPUTS;

@@ -1,3 +1,4 @@
+// Whether sections, counts and runs are those of a table.
 use table_fields::ACCESS_GROUPS;
 use table_fields::HOST_GROUPS;
 use table_fields::INPUTS;

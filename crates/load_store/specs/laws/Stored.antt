@@ -16,7 +16,7 @@ use Rattle.spec_load.specs.declared.Loaded.the-variants as loaded
 use Rattle.load_spans.specs.Listed.{indices}
 use Rattle.load_write.specs.declared.Written.{Written}
 use Rattle.load_write.specs.declared.Written.the-variants as written
-use Rattle.load_write.specs.Table.{table-told, Wrote}
+use Rattle.load_write.specs.Table.{stored-table, Wrote}
 use Rattle.load_write.specs.laws.Whole.{table-is}
 use Rattle.load_warnings.specs.Filled.{Filled, warnings-of}
 use Rattle.load_warnings.specs.laws.Kind.{warnings-kindless}
@@ -25,8 +25,8 @@ use Rattle.load_store.specs.Stored.{Stored}
 -- the tokens that define groups, as they were collected
 pub is-table-of :
     (s : List ℕ) (a : Arrays) (roles : List ℕ) (n : ℕ) {uags hags : List ℕ} → uags ≡ indices 1 roles 0 n → hags ≡ indices 3 roles 0 n
-    → table-told s (a .starts) (a .ends) roles n uags hags ≡ table-of (file-of (tagged-from s a roles 0 n))
-unfolding table-told
+    → stored-table s (a .starts) (a .ends) roles n uags hags ≡ table-of (file-of (tagged-from s a roles 0 n))
+unfolding stored-table
 is-table-of s a roles n u h = rw (u, h) (table-is s a roles n)
 
 -- what is stored of n tokens: t, if there is room for it
@@ -73,7 +73,7 @@ module _ {t lent c : List ℕ} {r : Written} (w : Wrote t lent c r) where
 
 module _
     (s : List ℕ) (a : Arrays) (roles : List ℕ) (n : ℕ) (lent : List ℕ) {uags hags : List ℕ} (u : uags ≡ indices 1 roles 0 n) (h : hags ≡ indices 3 roles 0 n)
-    {c : List ℕ} {r : Written} (w : Wrote (table-told s (a .starts) (a .ends) roles n uags hags) lent c r)
+    {c : List ℕ} {r : Written} (w : Wrote (stored-table s (a .starts) (a .ends) roles n uags hags) lent c r)
   where
     pub stored-done :
         {size count : ℕ} {b d e f : List ℕ} {skip : ℕ} → r ≡ written.Done size

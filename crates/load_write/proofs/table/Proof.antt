@@ -2,7 +2,7 @@ use native.Mathlib.Omega.{arith}
 use Rattle.load_spans.specs.Roles.{arrays}
 use Rattle.byte_write.specs.laws.Puts.{put-length}
 use Rattle.load_flags.specs.Tokens.{texts-at, tokens-in}
-use Rattle.load_write.specs.Table.{table-told}
+use Rattle.load_write.specs.Table.{stored-table}
 use Rattle.load_write.specs.laws.Table.{table-put}
 use Rattle.load_write.proofs.table.Statement.{statement}
 use Rattle.load_write.proofs.table.Tie as tie
@@ -48,7 +48,7 @@ put-header-requires c κs =
     )
 
 same-length : tie.Need-same-length
-unfolding table-told
+unfolding stored-table
 same-length c =
     let a = c .before .before .before .before .before .before .before .before .before .before .before .before .before .before .before .before .before .before .before .before .before .before .before .before .before .before .before .before .before .before .before .before .before .before .before .args in
     put-length
@@ -64,7 +64,7 @@ same-length c =
     (c .before .before .put-header .ensures))
 
 returns : tie.Need-returns
-unfolding table-told
+unfolding stored-table
 returns c =
     let a = c .before .before .before .before .before .before .before .before .before .before .before .before .before .before .before .before .before .before .before .before .before .before .before .before .before .before .before .before .before .before .before .before .before .before .before .args in
     table-put (texts-at (a .s .now) (a .starts .now) (a .ends .now) (a .uags .now))

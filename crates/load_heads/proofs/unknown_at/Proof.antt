@@ -1,4 +1,4 @@
-use Rattle.load_words.specs.laws.Word.{permission-here, log-here, no-word-here}
+use Rattle.load_heads.specs.laws.Word.{permission-here, log-here, no-word-here}
 use Rattle.load_spans.specs.laws.Spans.{span-fits-at}
 use Rattle.spec_file.specs.Contents.{permission-of, log-of}
 use Rattle.spec_lists.specs.Select.{missing}
@@ -6,8 +6,8 @@ use Prim.Native.Nat.{ℕ}
 use mathlib.Core.Path.{_∙_, ap}
 use mathlib.Core.List.{List}
 use borrow.Author.Needs.{needs}
-use Rattle.load_words.proofs.unknown_at.Statement.{statement}
-use Rattle.load_words.proofs.unknown_at.Tie as tie
+use Rattle.load_heads.proofs.unknown_at.Statement.{statement}
+use Rattle.load_heads.proofs.unknown_at.Tie as tie
 
 shared-slice-read-role : tie.Need-shared-slice-read-role
 shared-slice-read-role c = search needs

@@ -1,8 +1,8 @@
-use Rattle.load_words.specs.laws.Word.{level-known}
+use Rattle.load_heads.specs.laws.Word.{level-known}
 use Rattle.spec_file.specs.Contents.{level-of}
 use borrow.Author.Needs.{needs}
-use Rattle.load_words.proofs.no_level.Statement.{statement}
-use Rattle.load_words.proofs.no_level.Tie as tie
+use Rattle.load_heads.proofs.no_level.Statement.{statement}
+use Rattle.load_heads.proofs.no_level.Tie as tie
 
 level-of-requires : tie.Need-level-of-requires
 level-of-requires c κs = search needs

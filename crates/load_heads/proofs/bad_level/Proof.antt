@@ -3,8 +3,8 @@ use Rattle.spec_file.specs.Refusal.{bad-level}
 use Prim.Native.Nat.{_-_}
 use mathlib.Core.Path.{sym, _∙_}
 use borrow.Author.Needs.{needs}
-use Rattle.load_words.proofs.bad_level.Statement.{statement}
-use Rattle.load_words.proofs.bad_level.Tie as tie
+use Rattle.load_heads.proofs.bad_level.Statement.{statement}
+use Rattle.load_heads.proofs.bad_level.Tie as tie
 
 abbrev Inv-loop : tie.InvT-loop
 Inv-loop s starts ends roles n i₀ i = Searched bad-level s starts ends roles n i

@@ -1,8 +1,8 @@
-use Rattle.load_words.specs.laws.Word.{log-known}
+use Rattle.load_heads.specs.laws.Word.{log-known}
 use Rattle.spec_file.specs.Contents.{log-of}
 use borrow.Author.Needs.{needs}
-use Rattle.load_words.proofs.no_log.Statement.{statement}
-use Rattle.load_words.proofs.no_log.Tie as tie
+use Rattle.load_heads.proofs.no_log.Statement.{statement}
+use Rattle.load_heads.proofs.no_log.Tie as tie
 
 log-of-requires : tie.Need-log-of-requires
 log-of-requires c κs = search needs

@@ -1,8 +1,8 @@
-use Rattle.load_words.specs.laws.Word.{permission-known}
+use Rattle.load_heads.specs.laws.Word.{permission-known}
 use Rattle.spec_file.specs.Contents.{permission-of}
 use borrow.Author.Needs.{needs}
-use Rattle.load_words.proofs.no_permission.Statement.{statement}
-use Rattle.load_words.proofs.no_permission.Tie as tie
+use Rattle.load_heads.proofs.no_permission.Statement.{statement}
+use Rattle.load_heads.proofs.no_permission.Tie as tie
 
 permission-of-requires : tie.Need-permission-of-requires
 permission-of-requires c κs = search needs

@@ -1,3 +1,4 @@
+// Causes 8 and 9: the level, permission and log word in a rule's head.
 ghost use mathlib.Core.Path.{_≡_};
 ghost use Prim.Native.Nat.{_<_};
 ghost use Rattle.spec_lists.specs.Select.{missing};

@@ -7,8 +7,8 @@ use Prim.Native.Nat.{ℕ}
 use mathlib.Core.Path.{_∙_, ap}
 use mathlib.Core.List.{List}
 use borrow.Author.Needs.{needs}
-use Rattle.load_words.proofs.bad_level_at.Statement.{statement}
-use Rattle.load_words.proofs.bad_level_at.Tie as tie
+use Rattle.load_heads.proofs.bad_level_at.Statement.{statement}
+use Rattle.load_heads.proofs.bad_level_at.Tie as tie
 
 shared-slice-read-if1 : tie.Need-shared-slice-read-if1
 shared-slice-read-if1 c = search needs
