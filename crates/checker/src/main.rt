@@ -21,5 +21,5 @@ fn main() {
     let mut text = [0u8; 16385];
     let n = io::read_full(STDIN_FILENO, &mut text);
     drain();
-    prog_output::check(&text[..n]);
+    prog_check::check(&text[..n]);
 }

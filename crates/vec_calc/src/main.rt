@@ -1,5 +1,5 @@
 // Works out each calculation of the file calc, and says of it what that file should say: allowed or refused, the value, and whether it is true.
-use libc::STDOUT_FILENO;
+use prog_output::put;
 use spec_calc::Reading;
 ghost use Prim.Native.Nat.{_≤_, _<_};
 ghost use lib.ListN.{length};
@@ -8,29 +8,30 @@ fn peek(s: &[u8], at: usize) -> u8 {
     if at < s.len() { s[at] } else { 0 }
 }
 
-// The place behind the next b, or the end.
+// The offset behind the next b, or the end.
 fn behind(s: &[u8], from: usize, b: u8) -> usize
     requires { ⌜ from ≤ length (now s) ⌝ }
     ensures { λ r. ⌜ r ≤ length (now (s .entry)) ⌝ }
 {
-    let mut i = from;
-    while i < s.len() {
-        if s[i] == b {
-            return i + 1;
-        }
-        i += 1;
-    }
-    i
+    let end = bytes::scan::find(s, from, s.len(), b);
+    if end < s.len() { end + 1 } else { end }
 }
 
 fn hex(b: u8) -> u64
     ensures { λ r. ⌜ r < 16 ⌝ }
 {
     match b {
-        48..=57 => (b - 48) as u64,
-        97..=102 => (b - 87) as u64,
+        b'0'..=b'9' => (b - b'0') as u64,
+        b'a'..=b'f' => (b - b'a') as u64 + 10,
         _ => 0,
     }
+}
+
+// Two hexadecimal digits.
+fn byte_at(s: &[u8], at: usize) -> u8
+    requires { ⌜ at < 1000 ⌝ }
+{
+    (hex(peek(s, at)) * 16 + hex(peek(s, at + 1))) as u8
 }
 
 // Sixteen hexadecimal digits.
@@ -122,7 +123,7 @@ fn same(x: f64, y: f64) -> bool {
     }
 }
 
-// Whether the value is as written from a place on: bits, nan, or bad, which is no value.
+// Whether the value is as written from an offset on: bits, nan, or bad, which is no value.
 fn as_written(x: f64, s: &[u8], at: usize) -> bool
     requires { ⌜ at ≤ length (now s) ⌝ }
 {
@@ -133,12 +134,8 @@ fn as_written(x: f64, s: &[u8], at: usize) -> bool
     }
 }
 
-fn put(s: &[u8]) {
-    io::write_all(STDOUT_FILENO, s);
-}
-
 // The value as the line writes it, if it is that.
-fn value_as(right: bool, line: &[u8], from: usize, to: usize)
+fn put_value(right: bool, line: &[u8], from: usize, to: usize)
     requires { ⌜ to ≤ length (now line) ⌝ }
 {
     if !right {
@@ -151,7 +148,7 @@ fn value_as(right: bool, line: &[u8], from: usize, to: usize)
 }
 
 // A calculation that is allowed: its value as the line writes it, and whether it is true.
-fn say(text: &[u8], line: &[u8], at: usize)
+fn put_allowed(text: &[u8], line: &[u8], at: usize)
     requires { ⌜ at ≤ length (now line) ⌝ }
 {
     put(b"allowed\t");
@@ -162,7 +159,7 @@ fn say(text: &[u8], line: &[u8], at: usize)
         put(b"none\n");
         return;
     };
-    value_as(as_written(x, line, at), line, at, third);
+    put_value(as_written(x, line, at), line, at, third);
     if calc::holds(text, rs) {
         put(b"true\n");
     } else {
@@ -170,49 +167,41 @@ fn say(text: &[u8], line: &[u8], at: usize)
     }
 }
 
-fn judge(text: [u8; 128], n: usize, line: &[u8])
+// A calculation and its line, whose third field is its value.
+fn judge_text(text: [u8; 128], n: usize, line: &[u8])
     requires { ⌜ n ≤ 128 ⌝ }
 {
     if calc::allowed(&text[..n]) {
         let second = behind(line, 0, b'\t');
         let third = behind(line, second, b'\t');
-        say(&text[..n], line, third);
+        put_allowed(&text[..n], line, third);
     } else {
         put(b"refused\n");
     }
 }
 
 // A line: the text in hexadecimal, allowed or refused, value, truth, readings.
-fn line_of(line: &[u8]) {
+fn judge(line: &[u8]) {
     let mut text = [0u8; 128];
     let mut n = 0;
     while n < 128 && peek(line, 2 * n) != b'\t' {
-        text[n] = (hex(peek(line, 2 * n)) * 16 + hex(peek(line, 2 * n + 1))) as u8;
+        text[n] = byte_at(line, 2 * n);
         n += 1;
     }
-    judge(text, n, line);
+    judge_text(text, n, line);
 }
 
-fn lines(s: &[u8]) {
+fn judge_all(s: &[u8]) {
     let mut at = 0;
     while at < s.len() {
-        let end = behind(s, at, b'\n');
-        if end <= at {
-            return;
-        }
-        line_of(&s[at..end]);
-        at = end;
+        let end = bytes::scan::find(s, at, s.len(), b'\n');
+        judge(&s[at..end]);
+        at = end + 1;
     }
 }
 
 fn main() {
-    let fd = os::open_read(b"calc");
-    if fd < 0 {
-        os::fail(b"calc");
-        return;
-    }
     let mut buf = [0u8; 131072];
-    let n = io::read_full(fd, &mut buf);
-    libc::close(fd);
-    lines(&buf[..n]);
+    let n = prog_input::read(b"calc", &mut buf);
+    judge_all(&buf[..n]);
 }

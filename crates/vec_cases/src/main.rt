@@ -1,8 +1,6 @@
 // Checks and loads each file that a line of the file index names, into as many lent bytes as the line says.
-use prog_output::BEFORE;
 use prog_output::put;
 ghost use Prim.Native.Nat.{_≤_};
-ghost use lib.ListN.{length};
 
 fn at_most(n: usize) -> usize
     ensures { λ r. ⌜ r ≤ 35108 ⌝ }
@@ -15,7 +13,7 @@ fn with_digit(n: usize, b: u8) -> usize
     ensures { λ r. ⌜ r ≤ 35108 ⌝ }
 {
     match b {
-        48..=57 => at_most(n * 10 + (b - 48) as usize),
+        b'0'..=b'9' => at_most(n * 10 + (b - b'0') as usize),
         _ => n,
     }
 }
@@ -33,25 +31,12 @@ fn number(s: &[u8]) -> usize
     n
 }
 
-// Loads a text into the first bytes of those that are lent.
-fn load(text: &[u8], lent: &mut [u8], room: usize)
-    requires { ⌜ room ≤ length (now lent) ⌝ }
-{
-    let answer = load::load(text, &mut lent[..room]);
-    prog_output::put_answer(answer);
-    prog_output::put_rest(answer, lent);
-}
-
 // A line of the index: a file's name, a space, and how many bytes are lent.
 fn judge(line: &[u8]) {
     let end = bytes::scan::find(line, 0, line.len(), b' ');
-    let mut text = [0u8; 16385];
-    let n = prog_output::read(&line[..end], &mut text);
     put(line);
     put(b"\n");
-    prog_output::check(&text[..n]);
-    let mut lent = [BEFORE; 35108];
-    load(&text[..n], &mut lent, number(&line[end..]));
+    prog_check::check_and_load(&line[0..end], number(&line[end..]), b"");
 }
 
 fn judge_all(s: &[u8]) {
@@ -65,6 +50,6 @@ fn judge_all(s: &[u8]) {
 
 fn main() {
     let mut buf = io::large_buffer();
-    let n = prog_output::read(b"index", &mut buf);
+    let n = prog_input::read(b"index", &mut buf);
     judge_all(&buf[..n]);
 }

@@ -13,51 +13,39 @@ Inv-loop s at t n₀ i₀ n i = (i ≤ 16) × (n < 2 ^ 64)
 abbrev μ-loop : tie.MeasureT-loop
 μ-loop s at t n₀ i₀ n i = 16 - i
 
--- src/main.rt:40:13
 sub-t : tie.Need-sub-t Inv-loop μ-loop
 sub-t c = search needs
 
--- src/main.rt:40:13
 part-t-start : tie.Need-part-t-start Inv-loop μ-loop
 part-t-start c = search needs
 
--- src/main.rt:40:13
 part-t-end : tie.Need-part-t-end Inv-loop μ-loop
 part-t-end c = search needs
 
--- src/main.rt:43:5
 loop-holds : tie.Need-loop-holds Inv-loop μ-loop
 loop-holds c = search needs
 
--- src/main.rt:44:13
 mul-n : tie.Need-mul-n Inv-loop μ-loop
 mul-n c = search needs
 
--- src/main.rt:44:50
 peek-requires : tie.Need-peek-requires Inv-loop μ-loop
 peek-requires c κs = search needs
 
--- src/main.rt:44:46
 hex-requires : tie.Need-hex-requires Inv-loop μ-loop
 hex-requires c κs = search needs
 
--- src/main.rt:44:13
 add-n : tie.Need-add-n Inv-loop μ-loop
 add-n c = search needs
 
--- src/main.rt:45:9
 add-i : tie.Need-add-i Inv-loop μ-loop
 add-i c = search needs
 
--- src/main.rt:43:5
 loop-less : tie.Need-loop-less Inv-loop μ-loop
 loop-less c = search needs
 
--- src/main.rt:43:5
 loop-again : tie.Need-loop-again Inv-loop μ-loop
 loop-again c = search needs
 
--- src/main.rt:37:1
 returns : tie.Need-returns Inv-loop μ-loop
 returns c = search needs
 

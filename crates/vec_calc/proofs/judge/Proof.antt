@@ -1,78 +1,68 @@
-use lib.Seq.{length-take-le}
+use Prim.Native.Nat.{_≤_, _-_}
+use mathlib.Core.Path.{_≡_}
 use lib.ListN.{length}
-use native.Mathlib.Omega.{arith}
-use mathlib.Core.Path.{_≡_, sym}
 use borrow.Author.Needs.{needs}
 use Rattle.vec_calc.proofs.judge.Statement.{statement}
 use Rattle.vec_calc.proofs.judge.Tie as tie
 use Rattle.vec_calc.proofs.judge.Reads as reads
 use Rattle.vec_calc.proofs.judge.Lts as lts
-use Rattle.vec_calc.proofs.behind.Reads as behind-reads
-use Rattle.vec_calc.proofs.put.Reads as put-reads
-use Rattle.vec_calc.proofs.say.Reads as say-reads
-use Rattle.calc.proofs.allowed.Reads as allowed-reads
+use Rattle.vec_calc.proofs.byte_at.Reads as byte-at-reads
+use Rattle.vec_calc.proofs.judge_text.Reads as judge-text-reads
+use Rattle.vec_calc.proofs.peek.Reads as peek-reads
 
--- src/main.rt:172:26
-array-share-prefix-text : tie.Need-array-share-prefix-text
-array-share-prefix-text c = search needs
+abbrev Inv-loop : tie.InvT-loop
+Inv-loop line text₀ n₀ text n = (n ≤ 128) × (length text ≡ 128)
 
--- src/main.rt:172:26
-slice-aggregate-allowed : tie.Need-slice-aggregate-allowed
-slice-aggregate-allowed c = let l : length (c .before .before .args .t1) ≡ 128 = search needs in sym (length-take-le (c .before .before .args .n) (c .before .before .args .t1) (omega (arith, c .before .before .pre)))
+abbrev μ-loop : tie.MeasureT-loop
+μ-loop line text₀ n₀ text n = 128 - n
 
--- src/main.rt:172:8
-allowed-requires : tie.Need-allowed-requires
-allowed-requires c κs = search needs
+loop-holds : tie.Need-loop-holds Inv-loop μ-loop
+loop-holds c = search needs
 
--- src/main.rt:173:13
-behind-requires : tie.Need-behind-requires
-behind-requires c κs = search needs
+mul-peek : tie.Need-mul-peek Inv-loop μ-loop
+mul-peek c = search needs
 
--- src/main.rt:174:13
-behind-requires-2 : tie.Need-behind-requires-2
-behind-requires-2 c κs = search needs
+peek-requires : tie.Need-peek-requires Inv-loop μ-loop
+peek-requires c κs = search needs
 
--- src/main.rt:175:13
-array-share-prefix-text-2 : tie.Need-array-share-prefix-text-2
-array-share-prefix-text-2 c = search needs
+mul-byte-at : tie.Need-mul-byte-at Inv-loop μ-loop
+mul-byte-at c = search needs
 
--- src/main.rt:175:13
-slice-aggregate-say : tie.Need-slice-aggregate-say
-slice-aggregate-say c = let l : length (c .before .before .before .before .before .before .before .args .t1) ≡ 128 = search needs in sym (length-take-le (c .before .before .before .before .before .before .before .args .n) (c .before .before .before .before .before .before .before .args .t1) (omega (arith, c .before .before .before .before .before .before .before .pre)))
+byte-at-requires : tie.Need-byte-at-requires Inv-loop μ-loop
+byte-at-requires c κs = search needs
 
--- src/main.rt:175:9
-say-requires : tie.Need-say-requires
-say-requires c κs = search needs
+array-write-text : tie.Need-array-write-text Inv-loop μ-loop
+array-write-text c = search needs
 
--- src/main.rt:177:13
-slice-aggregate-put : tie.Need-slice-aggregate-put
-slice-aggregate-put c = search needs
+add-n : tie.Need-add-n Inv-loop μ-loop
+add-n c = search needs
 
--- src/main.rt:177:9
-put-requires : tie.Need-put-requires
-put-requires c κs = search needs
+loop-less : tie.Need-loop-less Inv-loop μ-loop
+loop-less c = search needs
 
--- src/main.rt:169:1
-returns : tie.Need-returns
+loop-again : tie.Need-loop-again Inv-loop μ-loop
+loop-again c = search needs
+
+judge-text-requires : tie.Need-judge-text-requires Inv-loop μ-loop
+judge-text-requires c κs = search needs
+
+returns : tie.Need-returns Inv-loop μ-loop
 returns c = search needs
-
--- src/main.rt:169:1
-returns-2 : tie.Need-returns-2
-returns-2 c = search needs
 
 pub judge-spec : {M : Type 1} → statement M
 judge-spec =
     tie.close
     (tie.spec
-    array-share-prefix-text
-    slice-aggregate-allowed
-    allowed-requires
-    behind-requires
-    behind-requires-2
-    array-share-prefix-text-2
-    slice-aggregate-say
-    say-requires
-    slice-aggregate-put
-    put-requires
-    returns
-    returns-2)
+    Inv-loop
+    μ-loop
+    loop-holds
+    mul-peek
+    peek-requires
+    mul-byte-at
+    byte-at-requires
+    array-write-text
+    add-n
+    loop-less
+    loop-again
+    judge-text-requires
+    returns)

@@ -15,39 +15,30 @@ Inv-loop s from rs₀ at₀ i₀ rs at i = (i ≤ 21) × (at ≤ length s) × (l
 abbrev μ-loop : tie.MeasureT-loop
 μ-loop s from rs₀ at₀ i₀ rs at i = 21 - i
 
--- src/main.rt:104:5
 loop-holds : tie.Need-loop-holds Inv-loop μ-loop
 loop-holds c = search needs
 
--- src/main.rt:105:17
 reading-at-requires : tie.Need-reading-at-requires Inv-loop μ-loop
 reading-at-requires c κs = search needs
 
--- src/main.rt:105:9
 mul-rs : tie.Need-mul-rs Inv-loop μ-loop
 mul-rs c = search needs
 
--- src/main.rt:105:9
 array-set-from-rs : tie.Need-array-set-from-rs Inv-loop μ-loop
 array-set-from-rs c = search needs
 
--- src/main.rt:106:9
 behind-requires : tie.Need-behind-requires Inv-loop μ-loop
 behind-requires c κs = search needs
 
--- src/main.rt:107:9
 add-i : tie.Need-add-i Inv-loop μ-loop
 add-i c = search needs
 
--- src/main.rt:104:5
 loop-less : tie.Need-loop-less Inv-loop μ-loop
 loop-less c = search needs
 
--- src/main.rt:104:5
 loop-again : tie.Need-loop-again Inv-loop μ-loop
 loop-again c = search needs
 
--- src/main.rt:98:1
 returns : tie.Need-returns Inv-loop μ-loop
 returns c = search needs
 
