@@ -14,14 +14,16 @@ use Rattle.spec_grammar.specs.Sentence.{Tagged}
 abbrev pub kind-of-number : ℕ → Kind
 kind-of-number n =
     getD
-    (kind.Uag ∷ kind.Hag ∷ kind.Asg ∷ kind.Rule ∷ kind.Calc ∷ kind.Inp ∷ kind.Int ∷ kind.Float ∷ kind.String ∷ kind.OpenParen ∷ kind.CloseParen ∷ kind.OpenBrace ∷ kind.CloseBrace ∷ kind.Comma ∷ [])
+    (kind.Uag ∷ kind.Hag ∷ kind.Asg ∷ kind.Rule ∷ kind.Calc ∷ kind.Inp ∷ kind.Int ∷ kind.Float ∷ kind.String ∷ kind.OpenParen ∷ kind.CloseParen ∷
+    kind.OpenBrace ∷ kind.CloseBrace ∷ kind.Comma ∷ [])
     n
     kind.Comma
 
 abbrev pub role-of-number : ℕ → Role
 role-of-number n =
     getD
-    (role.NoRole ∷ role.UagName ∷ role.User ∷ role.HagName ∷ role.Host ∷ role.AsgName ∷ role.Input ∷ role.Pvname ∷ role.RuleWord ∷ role.Level ∷ role.Permission ∷ role.LogOption ∷ role.UagNamed ∷ role.HagNamed ∷ role.CalcWord ∷ role.Calculation ∷ role.UnknownItem ∷ role.UnknownPredicate ∷ [])
+    (role.NoRole ∷ role.UagName ∷ role.User ∷ role.HagName ∷ role.Host ∷ role.AsgName ∷ role.Input ∷ role.Pvname ∷ role.RuleWord ∷ role.Level ∷
+    role.Permission ∷ role.LogOption ∷ role.UagNamed ∷ role.HagNamed ∷ role.CalcWord ∷ role.Calculation ∷ role.UnknownItem ∷ role.UnknownPredicate ∷ [])
     n
     role.NoRole
 

@@ -41,7 +41,8 @@ pub record Line-span (piece : List ℕ) (at e : ℕ) : Type 0 where
   pub newline : e < length piece → getD piece e 0 ≡ 10
 
 -- the answers to a part of a piece become those to a longer part
-abbrev pub Extends : (table s s′ out : List ℕ) (printed : ℕ) (buffer : List ℕ) (count : ℕ) (out′ : List ℕ) (printed′ : ℕ) (buffer′ : List ℕ) (count′ : ℕ) → Type 0
+abbrev pub Extends :
+    (table s s′ out : List ℕ) (printed : ℕ) (buffer : List ℕ) (count : ℕ) (out′ : List ℕ) (printed′ : ℕ) (buffer′ : List ℕ) (count′ : ℕ) → Type 0
 Extends table s s′ out printed buffer count out′ printed′ buffer′ count′ =
     (h out₀ : List ℕ) → Answers table h s out₀ out printed buffer count → Answers table h s′ out₀ out′ printed′ buffer′ count′
 

@@ -23,7 +23,8 @@ use Rattle.spec_demand.specs.laws.Cited.{answers-by-file, inputs-by-file
 -- without fail, is what its contracts prove. The rest of the demand:
 pub record Total : Type 0 where
   pub refused-load : (lent s : List ℕ) → is-accepted (load lent s .answer) ≡ false → load lent s .bytes ≡ lent
-  pub refused-question : (b : List ℕ) (q : Question) (n : ℕ) → number (decide b q) ≡ some n → (access-in (decide b q) ≡ access.None) × (trap-in (decide b q) ≡ false)
+  pub refused-question :
+      (b : List ℕ) (q : Question) (n : ℕ) → number (decide b q) ≡ some n → (access-in (decide b q) ≡ access.None) × (trap-in (decide b q) ≡ false)
   pub zeros : (n : ℕ) (q : Question) → (access-in (decide (replicate n 0) q) ≡ access.None) × (trap-in (decide (replicate n 0) q) ≡ false)
 
 pub demand-1 : Total
@@ -41,8 +42,12 @@ pub record Exact : Type 0 where
   pub refused : (s : List ℕ) (r : Refusal) (p : ℕ) → (verdict s ≡ refuse r p) ↔ Refusable s r p
   pub table : (lent s : List ℕ) (xs : List Tagged) → Acceptable s xs → length (table-of (file-of xs)) ≤ length lent → load lent s ≡ written lent xs
   pub no-room : (lent s : List ℕ) (xs : List Tagged) → Acceptable s xs → length lent < length (table-of (file-of xs)) → load lent s ≡ without-room lent xs
-  pub table-stands : (s : List ℕ) (xs : List Tagged) → Acceptable s xs → (rest : List ℕ) → (is-table (table-of (file-of xs) ++ rest) ≡ true) × (length (table-of (file-of xs)) ≤ greatest-table)
-  pub answers : (s : List ℕ) (xs : List Tagged) → Acceptable s xs → (rest : List ℕ) (q : Question) → decide (table-of (file-of xs) ++ rest) q ≡ answer-by-file (file-of xs) q
+  pub table-stands :
+      (s : List ℕ) (xs : List Tagged) → Acceptable s xs → (rest : List ℕ)
+      → (is-table (table-of (file-of xs) ++ rest) ≡ true) × (length (table-of (file-of xs)) ≤ greatest-table)
+  pub answers :
+      (s : List ℕ) (xs : List Tagged) → Acceptable s xs → (rest : List ℕ) (q : Question)
+      → decide (table-of (file-of xs) ++ rest) q ≡ answer-by-file (file-of xs) q
   -- and the look-up finds the name that the file gives an input
   pub inputs :
       (s : List ℕ) (xs : List Tagged) → Acceptable s xs → (rest g : List ℕ) (letter : ℕ)
@@ -71,7 +76,9 @@ Never-more-access =
     → (xs : List Tagged) → Text-reads s xs
     → (between : List Call) → No-accepted-load (load lent s .bytes) between
     → (e : Edition) (q : Question)
-    → ((worse : List Reading) → Gone-bad (q .readings) worse → rank (access-in (decide (after-calls (load lent s .bytes) between) (reading-instead q worse))) ≤ rank (access-later e xs q))
+    →
+    ((worse : List Reading) → Gone-bad (q .readings) worse
+    → rank (access-in (decide (after-calls (load lent s .bytes) between) (reading-instead q worse))) ≤ rank (access-later e xs q))
     × (Says-no e q xs → access-in (decide (after-calls (load lent s .bytes) between) q) ≡ access-later e xs q)
 
 pub demand-3 : Never-more-access

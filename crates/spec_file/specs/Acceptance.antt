@@ -41,5 +41,8 @@ pub data Refusable (s : List ℕ) : Refusal → ℕ → Type 0 where
   long-file : most-bytes < length s → Refusable s FileTooLong 0
   bad-byte : {p : ℕ} → length s ≤ most-bytes → scanned s ≡ bad p → Refusable s BadByte p
   deep-brace : {p : ℕ} {ts : List Token} → length s ≤ most-bytes → scanned s ≡ tokens ts → too-deep 0 ts ≡ some p → Refusable s TooDeep p
-  no-file : {p : ℕ} {ts : List Token} → length s ≤ most-bytes → scanned s ≡ tokens ts → too-deep 0 ts ≡ none → Stops ts (length s) p → Refusable s Ungrammatical p
-  for-cause : {r : Refusal} {p : ℕ} {xs : List Tagged} → length s ≤ most-bytes → (t : Text-reads s xs) → too-deep 0 (t .spelled) ≡ none → Caused xs r p → Refusable s r p
+  no-file :
+      {p : ℕ} {ts : List Token} → length s ≤ most-bytes → scanned s ≡ tokens ts → too-deep 0 ts ≡ none → Stops ts (length s) p → Refusable s Ungrammatical p
+  for-cause :
+      {r : Refusal} {p : ℕ} {xs : List Tagged} → length s ≤ most-bytes → (t : Text-reads s xs) → too-deep 0 (t .spelled) ≡ none → Caused xs r p
+      → Refusable s r p

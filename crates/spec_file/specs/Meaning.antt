@@ -17,7 +17,8 @@ members-in (some g) = g .members
 abbrev pub members-named : List Group → List ℕ → List (List ℕ)
 members-named gs s = members-in (named (λ g. g .name) s gs)
 
--- 01: "switched off (its body has an unknown predicate)"; 001: "If the rule contains predicates that are unknown to the parser [..] then the rule will NOT match"
+-- 01: "switched off (its body has an unknown predicate)"; 001: "If the rule contains predicates that are unknown to the parser [..] then the rule
+-- will NOT match"
 abbrev pub switched-off : Rule-text → Bool
 switched-off r = nonempty (r .unknown)
 

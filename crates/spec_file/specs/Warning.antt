@@ -27,7 +27,8 @@ pub record Warned : Type 0 where
 abbrev pub undefined : Role → List Tagged → Tagged → Bool
 undefined n file x = not (any (λ y. has-role n y && same (text y) (text x)) file)
 
--- 01: "1 unknown top-level item (its name), 2 unknown predicate in a RULE body (its name), 3 a UAG or HAG named in a rule and defined nowhere in the file (that name)"
+-- 01: "1 unknown top-level item (its name), 2 unknown predicate in a RULE body (its name), 3 a UAG or HAG named in a rule and defined nowhere in the
+-- file (that name)"
 abbrev pub warning-of : List Tagged → Tagged → Option Warning
 warning-of file x =
     cond (has-role role.UnknownItem x) (some UnknownItem)

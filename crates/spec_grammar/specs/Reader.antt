@@ -101,7 +101,10 @@ non-rule-words r l rs = rule (kind.Asg tagged r) l (rule (kind.Rule tagged r) l 
 
 -- the same rule for each generic_block_elem_name
 abbrev pub names : Stack → Rules → Rules
-names l rs = rule (kind.Uag tagged NoRole) l (rule (kind.Hag tagged NoRole) l (rule (kind.Calc tagged NoRole) l (non-rule-words NoRole l (rule (kind.String tagged NoRole) l rs))))
+names l rs =
+    rule
+    (kind.Uag tagged NoRole) l
+    (rule (kind.Hag tagged NoRole) l (rule (kind.Calc tagged NoRole) l (non-rule-words NoRole l (rule (kind.String tagged NoRole) l rs))))
 
 -- an unknown predicate: the same rule for each rule_generic_block_elem_name
 abbrev pub predicates : Rules
@@ -140,7 +143,9 @@ rules (next-string r) = rule (kind.Comma tagged NoRole) (string r ∷ []) no-rul
 rules asg-block = braced (λ k. once asg-item ∷ often asg-item ∷ k)
 rules asg-item =
     rule (kind.Inp tagged Input) (named Pvname [])
-    (rule (kind.Rule tagged RuleWord) (mute kind.OpenParen ∷ once (token (kind.Int tagged Level)) ∷ mute kind.Comma ∷ string Permission ∷ once log-option ∷ perhaps rule-block ∷ []) no-rule)
+    (rule
+    (kind.Rule tagged RuleWord)
+    (mute kind.OpenParen ∷ once (token (kind.Int tagged Level)) ∷ mute kind.Comma ∷ string Permission ∷ once log-option ∷ perhaps rule-block ∷ []) no-rule)
 rules log-option = rule (kind.Comma tagged NoRole) (string LogOption ∷ mute kind.CloseParen ∷ []) (rule (kind.CloseParen tagged NoRole) [] no-rule)
 rules rule-block = braced (λ k. once rule-item ∷ often rule-item ∷ k)
 rules rule-item =

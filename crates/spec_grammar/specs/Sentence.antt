@@ -39,5 +39,7 @@ pub record Viable (ks : List Kind) : Type 0 where
 
 -- 01, refusal 4: "first token that no well-formed file could have there; the file's length at its end". n is that length.
 pub data Stops (ts : List Token) (n : ℕ) : ℕ → Type 0 where
-  at-token : (before : List Token) (t : Token) (behind : List Token) → ts ≡ before ++ (t ∷ behind) → Viable (kinds before) → (Viable (kinds before ++ (t .kind ∷ [])) → ⊥) → Stops ts n (t .place)
+  at-token :
+      (before : List Token) (t : Token) (behind : List Token) → ts ≡ before ++ (t ∷ behind) → Viable (kinds before)
+      → (Viable (kinds before ++ (t .kind ∷ [])) → ⊥) → Stops ts n (t .place)
   at-end : Viable (kinds ts) → (Sentence (kinds ts) → ⊥) → Stops ts n n

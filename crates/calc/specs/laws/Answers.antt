@@ -117,7 +117,8 @@ value-with-heard rs (negation t) = rw (value-with-heard rs t)
 value-with-heard rs (binary o t u) = rw (value-with-heard rs t, value-with-heard rs u)
 value-with-heard rs (choice c x y) = rw (value-with-heard rs c, value-with-heard rs x, value-with-heard rs y)
 
-pub worth-of-inputs : (rs : List Reading) (vs : List Float) (o : Option Tree) {w : Worth} → vs ≡ map heard rs → w ≡ worth (map readings.Value vs) o → w ≡ worth rs o
+pub worth-of-inputs :
+    (rs : List Reading) (vs : List Float) (o : Option Tree) {w : Worth} → vs ≡ map heard rs → w ≡ worth (map readings.Value vs) o → w ≡ worth rs o
 worth-of-inputs rs vs none e h = h
 worth-of-inputs rs vs (some t) e h = h ∙ (rw e (ap worths.Is (value-with-heard rs t)))
 

@@ -49,7 +49,8 @@ module _ (w : Work) (us hs : List (List ℕ)) where
       bounded-more (omega arith) (bounded-moves HagNamed HagNamed hs w ys f few (bounded-moves UagNamed UagNamed us w ys f few n))
 
   bounded-refers :
-      {b : ℕ} {p : Cursor} (xs : List Tagged) → Every Short xs → length xs ≤ 16384 → Bounded b p → Bounded (b + 2147483648 * length xs) (refer-moves w us hs xs p)
+      {b : ℕ} {p : Cursor} (xs : List Tagged) → Every Short xs → length xs ≤ 16384 → Bounded b p
+      → Bounded (b + 2147483648 * length xs) (refer-moves w us hs xs p)
   bounded-refers = each-bounded RuleWord (λ x ys c. rule-moves w us hs (cut RuleWord ys) c) 2147483648 (λ x xs b p h. bounded-rule {b = b} {p = p} {xs = xs})
 
 -- ---- the same for kept tokens

@@ -52,7 +52,8 @@ module _ (q : Role) (e : Tagged → List Tagged → Cursor → List ℕ) (m : Ta
   pub head-start : (b : List ℕ) (p : Cursor) (xs : List Tagged) → Head b p xs b p xs
   head-start b p xs = record { same = refl; bytes = refl; moved = refl }
 
-  pub head-end : {b₀ b : List ℕ} {p₀ p : Cursor} {xs₀ : List Tagged} → Head b₀ p₀ xs₀ b p [] → Emitted b₀ b p₀ (each-emits q e m xs₀ p₀) (each-moves q m xs₀ p₀) p
+  pub head-end :
+      {b₀ b : List ℕ} {p₀ p : Cursor} {xs₀ : List Tagged} → Head b₀ p₀ xs₀ b p [] → Emitted b₀ b p₀ (each-emits q e m xs₀ p₀) (each-moves q m xs₀ p₀) p
   unfolding each-emits each-moves
   head-end h = record { bytes = h .bytes; moved = h .moved }
 
@@ -98,7 +99,8 @@ module _ (q : Role) (e : Tagged → List Tagged → Cursor → List ℕ) (m : Ta
 -- what is written depends on no cursor if that for one token depends on none
 pub each-same :
     (q : Role) (e e′ : Tagged → List Tagged → Cursor → List ℕ) (m m′ : Tagged → List Tagged → Cursor → Cursor)
-    → ((x : Tagged) (xs : List Tagged) (p t : Cursor) → e x xs p ≡ e′ x xs t) → (xs : List Tagged) (p t : Cursor) → each-emits q e m xs p ≡ each-emits q e′ m′ xs t
+    → ((x : Tagged) (xs : List Tagged) (p t : Cursor) → e x xs p ≡ e′ x xs t) → (xs : List Tagged) (p t : Cursor)
+    → each-emits q e m xs p ≡ each-emits q e′ m′ xs t
 unfolding each-emits
 each-same q e e′ m m′ one [] p t = refl
 each-same q e e′ m m′ one (x ∷ xs) p t =

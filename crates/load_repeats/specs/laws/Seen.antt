@@ -143,7 +143,8 @@ module _ (s starts ends roles : List ℕ) (q stop n long : ℕ) where
 
     pub seen-found :
         {seen : List ℕ} {k i : ℕ} → i < n → k ≤ length seen → getD roles i 0 ≡ q
-        → position (text-at s starts ends i) (map (text-at s starts ends) (take k seen)) < k → Seen seen k i → i ≡ first-of (wanted q stop) s starts ends roles n
+        → position (text-at s starts ends i) (map (text-at s starts ends) (take k seen)) < k → Seen seen k i
+        → i ≡ first-of (wanted q stop) s starts ends roles n
     seen-found {seen} {k} {i} h l e p v =
         search-found (v .searched) h (again-at l e v ∙ lt-ltb _ k p)
 

@@ -24,7 +24,8 @@ abbrev pub bare : Tagged → Tagged
 bare x = record { token = record { kind = kind-of-number 0; place = 0; text = text x }; role = x .role }
 
 -- kept tokens whose kinds and places are not looked at
-pub bare-from : (s : List ℕ) (a : Arrays) (roles : List ℕ) (i k : ℕ) → tagged-from s (arrays (a .starts) (a .ends)) roles i k ≡ map bare (tagged-from s a roles i k)
+pub bare-from :
+    (s : List ℕ) (a : Arrays) (roles : List ℕ) (i k : ℕ) → tagged-from s (arrays (a .starts) (a .ends)) roles i k ≡ map bare (tagged-from s a roles i k)
 unfolding tagged-from
 bare-from s a roles i zero = refl
 bare-from s a roles i (suc k) = ap (λ (l : List Tagged). bare (tagged-at s a roles i) ∷ l) (bare-from s a roles (suc i) k)
@@ -88,7 +89,10 @@ unknown-word-bare c = refl
 pub too-many-bare : (c : Context) → too-many (bare-context c) ≡ too-many c
 too-many-bare c = go (item-of (c .here .role))
   where
-    go : (o : Option Section) → holds-of o (λ s. leb (most s) (length (select (item s) (map bare (c .backwards))))) ≡ holds-of o (λ s. leb (most s) (length (select (item s) (c .backwards))))
+    go :
+        (o : Option Section)
+        → holds-of o (λ s. leb (most s) (length (select (item s) (map bare (c .backwards)))))
+        ≡ holds-of o (λ s. leb (most s) (length (select (item s) (c .backwards))))
     go none = refl
     go (some s) = rw (select-bare (item s) (λ x. refl) (c .backwards), length-map (select (item s) (c .backwards)) bare)
 

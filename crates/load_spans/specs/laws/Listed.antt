@@ -24,7 +24,9 @@ pub indices-none : (q : ℕ) (roles : List ℕ) (i to : ℕ) → to ≤ i → in
 unfolding indices
 indices-none q roles i to h = let e : to - i ≡ 0 = omega arith in rw e
 
-indices-step : (q : ℕ) (roles : List ℕ) (i to : ℕ) → i < to → indices q roles i (to - i) ≡ cond (eqb (getD roles i 0) q) (i ∷ indices q roles (i + 1) (to - (i + 1))) (indices q roles (i + 1) (to - (i + 1)))
+indices-step :
+    (q : ℕ) (roles : List ℕ) (i to : ℕ) → i < to
+    → indices q roles i (to - i) ≡ cond (eqb (getD roles i 0) q) (i ∷ indices q roles (i + 1) (to - (i + 1))) (indices q roles (i + 1) (to - (i + 1)))
 unfolding indices
 indices-step q roles i to h = let e : to - i ≡ suc (to - (i + 1)) = omega arith in rw (e, add-one i)
 
@@ -39,7 +41,9 @@ unfolding indices tally
 indices-length q roles i zero = refl
 indices-length q roles i (suc k) = go (eqb (getD roles i 0) q) (indices-length q roles (suc i) k)
   where
-    go : (b : Bool) → length (indices q roles (suc i) k) ≡ tally q roles (suc i) k → length (cond b (i ∷ indices q roles (suc i) k) (indices q roles (suc i) k)) ≡ cond b 1 0 + tally q roles (suc i) k
+    go :
+        (b : Bool) → length (indices q roles (suc i) k) ≡ tally q roles (suc i) k
+        → length (cond b (i ∷ indices q roles (suc i) k) (indices q roles (suc i) k)) ≡ cond b 1 0 + tally q roles (suc i) k
     go true e = omega arith
     go false e = omega arith
 
@@ -49,20 +53,26 @@ unfolding indices
 indices-below q roles i zero = nil
 indices-below q roles i (suc k) = go (eqb (getD roles i 0) q) (every-implies (λ j h. omega arith) (indices-below q roles (suc i) k))
   where
-    go : (b : Bool) → Every (λ j. j < i + suc k) (indices q roles (suc i) k) → Every (λ j. j < i + suc k) (cond b (i ∷ indices q roles (suc i) k) (indices q roles (suc i) k))
+    go :
+        (b : Bool) → Every (λ j. j < i + suc k) (indices q roles (suc i) k)
+        → Every (λ j. j < i + suc k) (cond b (i ∷ indices q roles (suc i) k) (indices q roles (suc i) k))
     go true e = cons {x = i} (omega arith) e
     go false e = e
 
 -- their texts are those of the role
-pub indices-texts : (s starts ends roles : List ℕ) (q i k : ℕ) → Role-code q → map (text-at s starts ends) (indices q roles i k) ≡ texts (role-of-number q) (tagged-from s (arrays starts ends) roles i k)
+pub indices-texts :
+    (s starts ends roles : List ℕ) (q i k : ℕ) → Role-code q
+    → map (text-at s starts ends) (indices q roles i k) ≡ texts (role-of-number q) (tagged-from s (arrays starts ends) roles i k)
 unfolding indices tagged-from
 indices-texts s starts ends roles q i zero t = refl
-indices-texts s starts ends roles q i (suc k) t = rw (same-number (getD roles i 0) q t) (go (eqb (getD roles i 0) q) (indices-texts s starts ends roles q (suc i) k t))
+indices-texts s starts ends roles q i (suc k) t =
+    rw (same-number (getD roles i 0) q t) (go (eqb (getD roles i 0) q) (indices-texts s starts ends roles q (suc i) k t))
   where
     go :
         (b : Bool) → map (text-at s starts ends) (indices q roles (suc i) k) ≡ texts (role-of-number q) (tagged-from s (arrays starts ends) roles (suc i) k)
         → map (text-at s starts ends) (cond b (i ∷ indices q roles (suc i) k) (indices q roles (suc i) k))
-        ≡ map text (prepend-if b (tagged-at s (arrays starts ends) roles i) (select (has-role (role-of-number q)) (tagged-from s (arrays starts ends) roles (suc i) k)))
+        ≡ map text
+        (prepend-if b (tagged-at s (arrays starts ends) roles i) (select (has-role (role-of-number q)) (tagged-from s (arrays starts ends) roles (suc i) k)))
     go true e = ap (λ (l : List (List ℕ)). text-at s starts ends i ∷ l) e
     go false e = e
 
@@ -70,9 +80,15 @@ module _ (q : ℕ) (roles : List ℕ) (names : List ℕ) (n : ℕ) where
   pub list-first : (To-list q roles names n) names 0 0
   list-first =
       let z : n - 0 ≡ n = omega arith in
-      record { bytes = ap (λ (m : ℕ). sets names 0 (indices q roles 0 m)) z; count = omega (arith, ap (λ (m : ℕ). length (indices q roles 0 m)) z); few = omega arith; long = refl }
+      record {
+        bytes = ap (λ (m : ℕ). sets names 0 (indices q roles 0 m)) z;
+        count = omega (arith, ap (λ (m : ℕ). length (indices q roles 0 m)) z);
+        few = omega arith;
+        long = refl;
+      }
 
-  pub list-hit : {b c : List ℕ} {k i : ℕ} → i < n → getD roles i 0 ≡ q → c ≡ set b k i → (To-list q roles names n) b k i → (To-list q roles names n) c (k + 1) (i + 1)
+  pub list-hit :
+      {b c : List ℕ} {k i : ℕ} → i < n → getD roles i 0 ≡ q → c ≡ set b k i → (To-list q roles names n) b k i → (To-list q roles names n) c (k + 1) (i + 1)
   list-hit {b} {c} {k} {i} h e g l =
       let s = indices-hit q roles i n h e in
       record {
@@ -93,10 +109,13 @@ module _ (q : ℕ) (roles : List ℕ) (names : List ℕ) (n : ℕ) where
       record { listed = rw s at (l .bytes); count = omega (arith, l .count, ap length s) }
 
 -- the tokens listed, if there was room for all
-pub listed-names : {names list : List ℕ} {q : ℕ} {roles : List ℕ} {n r : ℕ} → Listed names list q roles n r → r ≤ length names → take r list ≡ indices q roles 0 n
+pub listed-names :
+    {names list : List ℕ} {q : ℕ} {roles : List ℕ} {n r : ℕ} → Listed names list q roles n r → r ≤ length names → take r list ≡ indices q roles 0 n
 listed-names {names} {list} {q} {roles} {n} {r} l h =
     let e = sets-eq (indices q roles 0 n) names 0 (omega (arith, l .count)) in
-    ap (take r) (l .listed ∙ e) ∙ ap (λ (k : ℕ). take k (indices q roles 0 n ++ drop (0 + length (indices q roles 0 n)) names)) (l .count) ∙ take-append-seam (indices q roles 0 n) (drop (0 + length (indices q roles 0 n)) names)
+    ap (take r) (l .listed ∙ e)
+    ∙ ap (λ (k : ℕ). take k (indices q roles 0 n ++ drop (0 + length (indices q roles 0 n)) names)) (l .count)
+    ∙ take-append-seam (indices q roles 0 n) (drop (0 + length (indices q roles 0 n)) names)
 
 pub listed-lie : {s starts ends roles : List ℕ} {n : ℕ} (q : ℕ) → Spans-fit s starts ends roles n → Listed-spans-fit s starts ends (indices q roles 0 n)
 listed-lie {roles = roles} {n = n} q l k h = span-fits-at (go (indices q roles 0 n) k h (indices-below q roles 0 n)) l

@@ -33,13 +33,16 @@ pub spot-any : (t : List ℕ) (ns : List (List ℕ)) → any (λ n. same n t) ns
 spot-any t [] = refl
 spot-any t (n ∷ ns) = go (same n t) (spot-any t ns)
   where
-    go : (b : Bool) → any (λ m. same m t) ns ≡ ltb (position t ns) (length ns) → b || any (λ m. same m t) ns ≡ ltb (cond b 0 (suc (position t ns))) (suc (length ns))
+    go :
+        (b : Bool) → any (λ m. same m t) ns ≡ ltb (position t ns) (length ns)
+        → b || any (λ m. same m t) ns ≡ ltb (cond b 0 (suc (position t ns))) (suc (length ns))
     go true e = sym (lt-ltb 0 (suc (length ns)) (omega arith))
     go false e = e ∙ sym (ltb-suc (position t ns) (length ns))
 
 -- the names of some tokens, from the k-th on
 module _ (f : ℕ → List ℕ) (t : List ℕ) (names : List ℕ) where
-  spot-step : (k : ℕ) → k < length names → position t (map f (drop k names)) ≡ cond (same (f (getD names k 0)) t) 0 (suc (position t (map f (drop (k + 1) names))))
+  spot-step :
+      (k : ℕ) → k < length names → position t (map f (drop k names)) ≡ cond (same (f (getD names k 0)) t) 0 (suc (position t (map f (drop (k + 1) names))))
   spot-step k h =
       ap (λ (l : List ℕ). position t (map f l)) (drop-cons names k 0 h)
       ∙ ap (λ (n : ℕ). cond (same (f (getD names k 0)) t) 0 (suc (position t (map f (drop n names))))) (sym (add-one k))
@@ -47,7 +50,8 @@ module _ (f : ℕ → List ℕ) (t : List ℕ) (names : List ℕ) where
   pub spot-here : (k : ℕ) → k < length names → same (f (getD names k 0)) t ≡ true → position t (map f (drop k names)) ≡ 0
   spot-here k h e = spot-step k h ∙ rw e
 
-  pub spot-on : (k : ℕ) → k < length names → same (f (getD names k 0)) t ≡ false → position t (map f (drop k names)) ≡ suc (position t (map f (drop (k + 1) names)))
+  pub spot-on :
+      (k : ℕ) → k < length names → same (f (getD names k 0)) t ≡ false → position t (map f (drop k names)) ≡ suc (position t (map f (drop (k + 1) names)))
   spot-on k h e = spot-step k h ∙ rw e
 
   pub spot-none : (k : ℕ) → k ≡ length names → position t (map f (drop k names)) ≡ 0

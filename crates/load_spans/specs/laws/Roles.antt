@@ -52,7 +52,9 @@ number-back (suc (suc (suc (suc (suc (suc (suc (suc (suc (suc (suc (suc (suc (su
 number-back (suc (suc (suc (suc (suc (suc (suc (suc (suc (suc (suc (suc (suc (suc (suc (suc (suc (suc q)))))))))))))))))) h = absurd (omega arith)
 
 number-beyond : (q : ℕ) → 18 ≤ q → role-number (role-of-number q) ≡ 0
-number-beyond q h = let e : q ≡ suc (suc (suc (suc (suc (suc (suc (suc (suc (suc (suc (suc (suc (suc (suc (suc (suc (suc (q - 18)))))))))))))))))) = omega arith in ap (λ (k : ℕ). role-number (role-of-number k)) e
+number-beyond q h =
+    let e : q ≡ suc (suc (suc (suc (suc (suc (suc (suc (suc (suc (suc (suc (suc (suc (suc (suc (suc (suc (q - 18)))))))))))))))))) = omega arith in
+    ap (λ (k : ℕ). role-number (role-of-number k)) e
 
 -- roles are the same if their numbers are
 pub same-number : (r q : ℕ) → Role-code q → same-role (role-of-number r) (role-of-number q) ≡ eqb r q
@@ -75,7 +77,8 @@ pub tally-none : (m : ℕ) (roles : List ℕ) (i to : ℕ) → to ≤ i → tall
 unfolding tally
 tally-none m roles i to h = let e : to - i ≡ 0 = omega arith in rw e
 
-pub tally-step : (m : ℕ) (roles : List ℕ) (i to : ℕ) → i < to → tally m roles i (to - i) ≡ cond (eqb (getD roles i 0) m) 1 0 + tally m roles (i + 1) (to - (i + 1))
+pub tally-step :
+    (m : ℕ) (roles : List ℕ) (i to : ℕ) → i < to → tally m roles i (to - i) ≡ cond (eqb (getD roles i 0) m) 1 0 + tally m roles (i + 1) (to - (i + 1))
 unfolding tally
 tally-step m roles i to h = let e : to - i ≡ suc (to - (i + 1)) = omega arith in rw (e, add-one i)
 
@@ -94,14 +97,16 @@ tally-bound m roles i (suc k) = go (eqb (getD roles i 0) m) (tally-bound m roles
     go true h = omega arith
     go false h = omega arith
 
-pub tally-is : (s : List ℕ) (a : Arrays) (roles : List ℕ) (m i k : ℕ) → Role-code m → length (texts (role-of-number m) (tagged-from s a roles i k)) ≡ tally m roles i k
+pub tally-is :
+    (s : List ℕ) (a : Arrays) (roles : List ℕ) (m i k : ℕ) → Role-code m → length (texts (role-of-number m) (tagged-from s a roles i k)) ≡ tally m roles i k
 unfolding tally tagged-from
 tally-is s a roles m i zero t = refl
 tally-is s a roles m i (suc k) t = rw (same-number (getD roles i 0) m t) (go (eqb (getD roles i 0) m) (tally-is s a roles m (suc i) k t))
   where
     go :
         (b : Bool) → length (texts (role-of-number m) (tagged-from s a roles (suc i) k)) ≡ tally m roles (suc i) k
-        → length (map text (prepend-if b (tagged-at s a roles i) (select (has-role (role-of-number m)) (tagged-from s a roles (suc i) k)))) ≡ cond b 1 0 + tally m roles (suc i) k
+        → length (map text (prepend-if b (tagged-at s a roles i) (select (has-role (role-of-number m)) (tagged-from s a roles (suc i) k))))
+        ≡ cond b 1 0 + tally m roles (suc i) k
     go true e = omega (arith, e)
     go false e = omega (arith, e)
 
@@ -109,7 +114,9 @@ pub gap-none : (a b : ℕ) (roles : List ℕ) (i to : ℕ) → to ≤ i → gap 
 unfolding gap
 gap-none a b roles i to h = let e : to - i ≡ 0 = omega arith in rw e
 
-gap-step : (a b : ℕ) (roles : List ℕ) (i to : ℕ) → i < to → gap a b roles i (to - i) ≡ cond (eqb (getD roles i 0) a || eqb (getD roles i 0) b) 0 (suc (gap a b roles (i + 1) (to - (i + 1))))
+gap-step :
+    (a b : ℕ) (roles : List ℕ) (i to : ℕ) → i < to
+    → gap a b roles i (to - i) ≡ cond (eqb (getD roles i 0) a || eqb (getD roles i 0) b) 0 (suc (gap a b roles (i + 1) (to - (i + 1))))
 unfolding gap
 gap-step a b roles i to h = let e : to - i ≡ suc (to - (i + 1)) = omega arith in rw (e, add-one i)
 
@@ -123,7 +130,9 @@ gap-second a b roles i to h e = gap-step a b roles i to h ∙ rw (eq-eqb (getD r
     go true = refl
     go false = refl
 
-pub gap-on : (a b : ℕ) (roles : List ℕ) (i to : ℕ) → i < to → (getD roles i 0 ≡ a → ⊥) → (getD roles i 0 ≡ b → ⊥) → gap a b roles i (to - i) ≡ suc (gap a b roles (i + 1) (to - (i + 1)))
+pub gap-on :
+    (a b : ℕ) (roles : List ℕ) (i to : ℕ) → i < to → (getD roles i 0 ≡ a → ⊥) → (getD roles i 0 ≡ b → ⊥)
+    → gap a b roles i (to - i) ≡ suc (gap a b roles (i + 1) (to - (i + 1)))
 gap-on a b roles i to h e g = gap-step a b roles i to h ∙ rw (ne-eqb (getD roles i 0) a e, ne-eqb (getD roles i 0) b g)
 
 pub gap-bound : (a b : ℕ) (roles : List ℕ) (i k : ℕ) → gap a b roles i k ≤ k
@@ -137,7 +146,9 @@ gap-bound a b roles i (suc k) = go (eqb (getD roles i 0) a || eqb (getD roles i 
 
 module _ (s : List ℕ) (ar : Arrays) (roles : List ℕ) where
   -- the tokens before the first that says a or b
-  pub until-two : (a b i k : ℕ) → Role-code a → Role-code b → until (role-of-number a) (until (role-of-number b) (tagged-from s ar roles i k)) ≡ tagged-from s ar roles i (gap a b roles i k)
+  pub until-two :
+      (a b i k : ℕ) → Role-code a → Role-code b
+      → until (role-of-number a) (until (role-of-number b) (tagged-from s ar roles i k)) ≡ tagged-from s ar roles i (gap a b roles i k)
   unfolding gap tagged-from
   until-two a b i zero t u = refl
   until-two a b i (suc k) t u = rw (same-number (getD roles i 0) b u) (go (eqb (getD roles i 0) b) (eqb (getD roles i 0) a) refl (until-two a b (suc i) k t u))
@@ -146,7 +157,8 @@ module _ (s : List ℕ) (ar : Arrays) (roles : List ℕ) where
       rest = until (role-of-number b) (tagged-from s ar roles (suc i) k)
 
       go :
-          (g h : Bool) → eqb (getD roles i 0) a ≡ h → until (role-of-number a) (until (role-of-number b) (tagged-from s ar roles (suc i) k)) ≡ tagged-from s ar roles (suc i) (gap a b roles (suc i) k)
+          (g h : Bool) → eqb (getD roles i 0) a ≡ h
+          → until (role-of-number a) (until (role-of-number b) (tagged-from s ar roles (suc i) k)) ≡ tagged-from s ar roles (suc i) (gap a b roles (suc i) k)
           → until (role-of-number a) (keep-if (not g) (tagged-at s ar roles i) (until (role-of-number b) (tagged-from s ar roles (suc i) k)))
           ≡ tagged-from s ar roles i (cond (eqb (getD roles i 0) a || g) 0 (suc (gap a b roles (suc i) k)))
       go true true e ih = rw e
@@ -161,19 +173,27 @@ module _ (s : List ℕ) (ar : Arrays) (roles : List ℕ) where
     where
       go :
           (g : Bool) → until (role-of-number q) (tagged-from s ar roles (suc i) k) ≡ tagged-from s ar roles (suc i) (gap q q roles (suc i) k)
-          → keep-if (not g) (tagged-at s ar roles i) (until (role-of-number q) (tagged-from s ar roles (suc i) k)) ≡ tagged-from s ar roles i (cond (g || g) 0 (suc (gap q q roles (suc i) k)))
+          → keep-if (not g) (tagged-at s ar roles i) (until (role-of-number q) (tagged-from s ar roles (suc i) k))
+          ≡ tagged-from s ar roles i (cond (g || g) 0 (suc (gap q q roles (suc i) k)))
       go true ih = refl
       go false ih = ap (λ (l : List Tagged). tagged-at s ar roles i ∷ l) ih
 
   -- and those from it on
-  pub after-one : (q i k : ℕ) → Role-code q → after (λ x. not (has-role (role-of-number q) x)) (tagged-from s ar roles i k) ≡ tagged-from s ar roles (i + gap q q roles i k) (k - gap q q roles i k)
+  pub after-one :
+      (q i k : ℕ) → Role-code q
+      → after (λ x. not (has-role (role-of-number q) x)) (tagged-from s ar roles i k) ≡ tagged-from s ar roles (i + gap q q roles i k) (k - gap q q roles i k)
   unfolding gap tagged-from
   after-one q i zero t = refl
   after-one q i (suc k) t = rw (same-number (getD roles i 0) q t) (go (eqb (getD roles i 0) q) (after-one q (suc i) k t))
     where
       go :
-          (g : Bool) → after (λ x. not (has-role (role-of-number q) x)) (tagged-from s ar roles (suc i) k) ≡ tagged-from s ar roles (suc i + gap q q roles (suc i) k) (k - gap q q roles (suc i) k)
-          → skip-if (not g) (after (λ x. not (has-role (role-of-number q) x)) (tagged-from s ar roles (suc i) k)) (tagged-at s ar roles i ∷ tagged-from s ar roles (suc i) k)
+          (g : Bool)
+          → after (λ x. not (has-role (role-of-number q) x)) (tagged-from s ar roles (suc i) k)
+          ≡ tagged-from s ar roles (suc i + gap q q roles (suc i) k) (k - gap q q roles (suc i) k)
+          → skip-if
+          (not g)
+          (after (λ x. not (has-role (role-of-number q) x)) (tagged-from s ar roles (suc i) k))
+          (tagged-at s ar roles i ∷ tagged-from s ar roles (suc i) k)
           ≡ tagged-from s ar roles (i + cond (g || g) 0 (suc (gap q q roles (suc i) k))) (suc k - cond (g || g) 0 (suc (gap q q roles (suc i) k)))
       go true ih =
           let e : i ≡ i + 0 = omega arith in
@@ -186,15 +206,20 @@ module _ (s : List ℕ) (ar : Arrays) (roles : List ℕ) where
           ih ∙ ap₂ (λ (j l : ℕ). tagged-from s ar roles j l) e n
 
   -- the first text of a role
-  pub first-some : (m i k : ℕ) → Role-code m → gap m m roles i k < k → head-of (texts (role-of-number m) (tagged-from s ar roles i k)) ≡ some (text (tagged-at s ar roles (i + gap m m roles i k)))
+  pub first-some :
+      (m i k : ℕ) → Role-code m → gap m m roles i k < k
+      → head-of (texts (role-of-number m) (tagged-from s ar roles i k)) ≡ some (text (tagged-at s ar roles (i + gap m m roles i k)))
   unfolding gap tagged-from
   first-some m i zero t h = absurd (omega arith)
   first-some m i (suc k) t h = rw (same-number (getD roles i 0) m t) (go (eqb (getD roles i 0) m) h (first-some m (suc i) k t))
     where
       go :
           (g : Bool) → cond (g || g) 0 (suc (gap m m roles (suc i) k)) < suc k
-          → (gap m m roles (suc i) k < k → head-of (texts (role-of-number m) (tagged-from s ar roles (suc i) k)) ≡ some (text (tagged-at s ar roles (suc i + gap m m roles (suc i) k))))
-          → head-of (map text (prepend-if g (tagged-at s ar roles i) (select (has-role (role-of-number m)) (tagged-from s ar roles (suc i) k)))) ≡ some (text (tagged-at s ar roles (i + cond (g || g) 0 (suc (gap m m roles (suc i) k)))))
+          →
+          (gap m m roles (suc i) k < k
+          → head-of (texts (role-of-number m) (tagged-from s ar roles (suc i) k)) ≡ some (text (tagged-at s ar roles (suc i + gap m m roles (suc i) k))))
+          → head-of (map text (prepend-if g (tagged-at s ar roles i) (select (has-role (role-of-number m)) (tagged-from s ar roles (suc i) k))))
+          ≡ some (text (tagged-at s ar roles (i + cond (g || g) 0 (suc (gap m m roles (suc i) k)))))
       go true l ih = let e : i ≡ i + 0 = omega arith in ap (λ (j : ℕ). some (text (tagged-at s ar roles j))) e
       go false l ih =
           let e : suc i + gap m m roles (suc i) k ≡ i + suc (gap m m roles (suc i) k) = omega arith in

@@ -61,7 +61,8 @@ seek-same p q e b (x ∷ xs) = rw (e (record { backwards = b; here = x; onwards 
 pub seek-either : (p q : Context → Bool) (b xs : List Tagged) → seek (λ c. p c || q c) b xs ≡ min (seek p b xs) (seek q b xs)
 unfolding seek
 seek-either p q b [] = omega arith
-seek-either p q b (x ∷ xs) = go (p (record { backwards = b; here = x; onwards = xs })) (q (record { backwards = b; here = x; onwards = xs })) (seek-either p q (x ∷ b) xs)
+seek-either p q b (x ∷ xs) =
+    go (p (record { backwards = b; here = x; onwards = xs })) (q (record { backwards = b; here = x; onwards = xs })) (seek-either p q (x ∷ b) xs)
   where
     go :
         (t u : Bool) → seek (λ c. p c || q c) (x ∷ b) xs ≡ min (seek p (x ∷ b) xs) (seek q (x ∷ b) xs)
@@ -75,9 +76,12 @@ seek-either p q b (x ∷ xs) = go (p (record { backwards = b; here = x; onwards 
 pub refused-at :
     (s : List ℕ) (a : Arrays) (roles : List ℕ) (k : Refusal) (p : Context → Bool) (o : Option Refusal-at) (b : List Tagged) (i m : ℕ)
     → or-else k (first p (contexts-after b (tagged-from s a roles i m))) o
-    ≡ cond (ltb (seek p b (tagged-from s a roles i m)) m) (some (record { refusal = k; place = getD (a .places) (i + seek p b (tagged-from s a roles i m)) 0 })) o
+    ≡ cond
+    (ltb (seek p b (tagged-from s a roles i m)) m)
+    (some (record { refusal = k; place = getD (a .places) (i + seek p b (tagged-from s a roles i m)) 0 })) o
 unfolding seek tagged-from
-refused-at s a roles k p o b i zero = sym (ap (λ (t : Bool). cond t (some (record { refusal = k; place = getD (a .places) (i + 0) 0 })) o) (le-ltb 0 0 (omega arith)))
+refused-at s a roles k p o b i zero =
+    sym (ap (λ (t : Bool). cond t (some (record { refusal = k; place = getD (a .places) (i + 0) 0 })) o) (le-ltb 0 0 (omega arith)))
 refused-at s a roles k p o b i (suc m) = go (p here) (refused-at s a roles k p o (tagged-at s a roles i ∷ b) (suc i) m)
   where
     here : Context
@@ -89,8 +93,16 @@ refused-at s a roles k p o b i (suc m) = go (p here) (refused-at s a roles k p o
     go :
         (t : Bool)
         → or-else k (first p (contexts-after (tagged-at s a roles i ∷ b) (tagged-from s a roles (suc i) m))) o
-        ≡ cond (ltb (seek p (tagged-at s a roles i ∷ b) (tagged-from s a roles (suc i) m)) m) (some (record { refusal = k; place = getD (a .places) (suc i + seek p (tagged-at s a roles i ∷ b) (tagged-from s a roles (suc i) m)) 0 })) o
-        → or-else k (first-if t (record { backwards = b; here = tagged-at s a roles i; onwards = tagged-from s a roles (suc i) m }) (first p (contexts-after (tagged-at s a roles i ∷ b) (tagged-from s a roles (suc i) m)))) o
-        ≡ cond (ltb (cond t 0 (suc (seek p (tagged-at s a roles i ∷ b) (tagged-from s a roles (suc i) m)))) (suc m)) (some (record { refusal = k; place = getD (a .places) (i + cond t 0 (suc (seek p (tagged-at s a roles i ∷ b) (tagged-from s a roles (suc i) m)))) 0 })) o
+        ≡ cond
+        (ltb (seek p (tagged-at s a roles i ∷ b) (tagged-from s a roles (suc i) m)) m)
+        (some (record { refusal = k; place = getD (a .places) (suc i + seek p (tagged-at s a roles i ∷ b) (tagged-from s a roles (suc i) m)) 0 })) o
+        → or-else k
+        (first-if t
+        (record { backwards = b; here = tagged-at s a roles i; onwards = tagged-from s a roles (suc i) m })
+        (first p (contexts-after (tagged-at s a roles i ∷ b) (tagged-from s a roles (suc i) m)))) o
+        ≡ cond
+        (ltb (cond t 0 (suc (seek p (tagged-at s a roles i ∷ b) (tagged-from s a roles (suc i) m)))) (suc m))
+        (some (record { refusal = k; place = getD (a .places) (i + cond t 0 (suc (seek p (tagged-at s a roles i ∷ b) (tagged-from s a roles (suc i) m)))) 0 }))
+        o
     go true e = let z : i ≡ i + 0 = omega arith in rw (lt-ltb 0 (suc m) (omega arith), ← z)
     go false e = let z : suc i + d ≡ i + suc d = omega arith in e ∙ rw (z, ltb-suc d m)

@@ -70,7 +70,9 @@ tokens-step s a i n h =
     let f : suc i ≡ i + 1 = omega arith in
     ap (tokens-from s a i) e ∙ ap (λ (k : ℕ). token-at s a i ∷ tokens-from s a k (n - (i + 1))) f
 
-pub said-step : (s : List ℕ) (a : Arrays) (roles : List ℕ) (i n : ℕ) → i < n → tagged-from s a roles i (n - i) ≡ tagged-at s a roles i ∷ tagged-from s a roles (i + 1) (n - (i + 1))
+pub said-step :
+    (s : List ℕ) (a : Arrays) (roles : List ℕ) (i n : ℕ) → i < n
+    → tagged-from s a roles i (n - i) ≡ tagged-at s a roles i ∷ tagged-from s a roles (i + 1) (n - (i + 1))
 unfolding tagged-from
 said-step s a roles i n h =
     let e : n - i ≡ suc (n - (i + 1)) = omega arith in

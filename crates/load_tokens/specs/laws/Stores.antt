@@ -47,7 +47,8 @@ module _ {m : ℕ} (a : Arrays) (n : ℕ) (t : Numbers) (r : Room m a) (h : n < 
   same-end : getD (set (a .ends) n (t .end)) n 0 ≡ t .end
   same-end = getD-set-same (a .ends) n (t .end) 0 (omega (arith, r .ends))
 
-  pub token-stored : (s : List ℕ) → token-at s (stored a n t) n ≡ record { kind = kind-of-number (t .kind); place = t .place; text = between s (t .start) (t .end) }
+  pub token-stored :
+      (s : List ℕ) → token-at s (stored a n t) n ≡ record { kind = kind-of-number (t .kind); place = t .place; text = between s (t .start) (t .end) }
   token-stored s = rw (same-kind, same-place, same-start, same-end)
 
   pub good-stored : t .kind < 14 → t .place < m → t .start ≤ t .end → t .end ≤ m → Good m (stored a n t) n

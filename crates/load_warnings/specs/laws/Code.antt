@@ -100,7 +100,8 @@ apart r e = ne-eqb r 13 (λ d. omega (arith, eqb-true r 12 e))
 -- the number of a token's warning, from its role and the names of the groups
 pub code-is :
     (s : List ℕ) (a : Arrays) (roles : List ℕ) (n i : ℕ)
-    → code-of (warning-of (tagged-from s a roles 0 n) (tagged-at s a roles i)) ≡ code-at s (a .starts) (a .ends) roles (indices 1 roles 0 n) (indices 3 roles 0 n) i
+    → code-of (warning-of (tagged-from s a roles 0 n) (tagged-at s a roles i))
+    ≡ code-at s (a .starts) (a .ends) roles (indices 1 roles 0 n) (indices 3 roles 0 n) i
 code-is s a roles n i =
     rw (
       same-number (getD roles i 0) 16 (omega arith),

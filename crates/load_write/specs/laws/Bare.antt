@@ -64,7 +64,9 @@ some-bare : (xs : List Tagged) → nonempty (map place (map bare xs)) ≡ nonemp
 some-bare [] = refl
 some-bare (x ∷ xs) = refl
 
-unknown-bare : (ys : List Tagged) → nonempty (map place (select (has-role UnknownPredicate) (map bare ys))) ≡ nonempty (map place (select (has-role UnknownPredicate) ys))
+unknown-bare :
+    (ys : List Tagged)
+    → nonempty (map place (select (has-role UnknownPredicate) (map bare ys))) ≡ nonempty (map place (select (has-role UnknownPredicate) ys))
 unknown-bare ys =
     ap (λ (l : List Tagged). nonempty (map place l)) (select-bare (has-role UnknownPredicate) (λ x. refl) ys)
     ∙ some-bare (select (has-role UnknownPredicate) ys)

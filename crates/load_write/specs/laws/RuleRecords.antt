@@ -328,7 +328,8 @@ module _ (us hs : List Group) where
       (references-move xs p)
 
   -- the names of all references, by whatever names they are numbered
-  pub reference-texts : (ms ns : List (List ℕ)) (xs : List Tagged) (p : Cursor) → refer-emits Texts ms ns xs p ≡ joined (ref-names (all-refs (cuts RuleWord xs)))
+  pub reference-texts :
+      (ms ns : List (List ℕ)) (xs : List Tagged) (p : Cursor) → refer-emits Texts ms ns xs p ≡ joined (ref-names (all-refs (cuts RuleWord xs)))
   unfolding each-emits
   reference-texts ms ns [] p = refl
   reference-texts ms ns (x ∷ xs) p =

@@ -90,7 +90,9 @@ figures-after : (s : List ℕ) → all numeral-byte (after digit s) ≡ true →
 figures-after [] e = refl
 figures-after (b ∷ s) e = go (digit b) refl (figures-after s) e
   where
-    go : (t : Bool) → digit b ≡ t → (all numeral-byte (after digit s) ≡ true → after numeral-byte s ≡ []) → all numeral-byte (skip-if t (after digit s) (b ∷ s)) ≡ true → after numeral-byte (b ∷ s) ≡ []
+    go :
+        (t : Bool) → digit b ≡ t → (all numeral-byte (after digit s) ≡ true → after numeral-byte s ≡ [])
+        → all numeral-byte (skip-if t (after digit s) (b ∷ s)) ≡ true → after numeral-byte (b ∷ s) ≡ []
     go true h g k = rw (figure-byte b h) (g k)
     go false h g k = all-after numeral-byte (b ∷ s) k
 
@@ -145,4 +147,6 @@ module _ (s : List ℕ) (h : length s ≡ 0 → ⊥) where
     ends-before q =
         let w = reads .0 .within in
         let l : p < length s = omega arith in
-        sym (number-is ∙ no-number s (λ g. let f : getD s p 0 ∷ drop (suc p) s ≡ [] = sym (drop-cons s p 0 l) ∙ sym (reads .0 .behind) ∙ g in let z : _≡_ {A = ℕ} 0 1 = cc in omega arith))
+        sym
+        (number-is ∙ no-number s
+        (λ g. let f : getD s p 0 ∷ drop (suc p) s ≡ [] = sym (drop-cons s p 0 l) ∙ sym (reads .0 .behind) ∙ g in let z : _≡_ {A = ℕ} 0 1 = cc in omega arith))

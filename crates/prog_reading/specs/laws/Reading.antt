@@ -113,7 +113,9 @@ no-letter [] h e = refl
 no-letter (l ∷ []) h e = refl
 no-letter (l ∷ c ∷ s) h e = rw e
 
-letter-colon : (s : List ℕ) → 2 ≤ length s → within 65 85 (getD s 0 0) ≡ true → getD s 1 0 ≡ 58 → named s ≡ named-as (getD s 0 0 - 65) (reading (take (length s - 2) (drop 2 s)))
+letter-colon :
+    (s : List ℕ) → 2 ≤ length s → within 65 85 (getD s 0 0) ≡ true → getD s 1 0 ≡ 58
+    → named s ≡ named-as (getD s 0 0 - 65) (reading (take (length s - 2) (drop 2 s)))
 unfolding named
 letter-colon [] h e f = absurd (omega arith)
 letter-colon (l ∷ []) h e f = absurd (omega arith)

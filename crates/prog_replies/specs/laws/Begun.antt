@@ -24,7 +24,9 @@ take-front (suc n) [] p = refl
 take-front (suc n) (x ∷ h) p = ap (λ (l : List ℕ). x ∷ l) (take-front n h p)
 
 -- a text written behind the first n of some bytes, as far as there is room
-put-take : (part buffer : List ℕ) (n : ℕ) → n ≤ length buffer → take (reached (length buffer) (n + length part)) (sets buffer n part) ≡ take (length buffer) (take n buffer ++ part)
+put-take :
+    (part buffer : List ℕ) (n : ℕ) → n ≤ length buffer
+    → take (reached (length buffer) (n + length part)) (sets buffer n part) ≡ take (length buffer) (take n buffer ++ part)
 put-take [] buffer n h =
     let e : reached (length buffer) (n + 0) ≡ n = reached-fits (length buffer) (n + 0) (omega arith) ∙ (let z : n + 0 ≡ n = omega arith in z) in
     rw (e, append-nil (take n buffer)) (sym (take-all (length buffer) (take n buffer) (let z = length-take-le n buffer h in omega arith)))
@@ -35,7 +37,10 @@ put-take (v ∷ vs) buffer n h = go (leb (suc n) (length buffer)) refl (λ k. pu
 
     go :
         (t : Bool) → leb (suc n) (length buffer) ≡ t
-        → (suc n ≤ length (set buffer n v) → take (reached (length (set buffer n v)) (suc n + length vs)) (sets (set buffer n v) (suc n) vs) ≡ take (length (set buffer n v)) (take (suc n) (set buffer n v) ++ vs))
+        →
+        (suc n ≤ length (set buffer n v)
+        → take (reached (length (set buffer n v)) (suc n + length vs)) (sets (set buffer n v) (suc n) vs)
+        ≡ take (length (set buffer n v)) (take (suc n) (set buffer n v) ++ vs))
         → take (reached (length buffer) (n + suc (length vs))) (sets (set buffer n v) (suc n) vs) ≡ take (length buffer) (take n buffer ++ (v ∷ vs))
     go true e next =
         let k : n < length buffer = leb-true (suc n) (length buffer) e in

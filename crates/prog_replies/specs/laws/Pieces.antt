@@ -18,7 +18,9 @@ unfolding parted
 plain-parted [] h = refl
 plain-parted (b ∷ l) h = go (ends-line b) refl h (plain-parted l)
   where
-    go : (t : Bool) → ends-line b ≡ t → plain (b ∷ l) ≡ true → (plain l ≡ true → parted l ≡ record { lines = []; rest = l }) → parted (b ∷ l) ≡ record { lines = []; rest = b ∷ l }
+    go :
+        (t : Bool) → ends-line b ≡ t → plain (b ∷ l) ≡ true → (plain l ≡ true → parted l ≡ record { lines = []; rest = l })
+        → parted (b ∷ l) ≡ record { lines = []; rest = b ∷ l }
     go true e k i = absurd (false≢true (by-first b l true e k))
     go false e k i = rw (e, i (by-first b l false e k)) refl
 
@@ -27,7 +29,9 @@ unfolding parted
 plain-line [] h = refl
 plain-line (b ∷ l) h = go (ends-line b) refl h (plain-line l)
   where
-    go : (t : Bool) → ends-line b ≡ t → plain (b ∷ l) ≡ true → (plain l ≡ true → parted (l ++ (10 ∷ [])) ≡ record { lines = l ∷ []; rest = [] }) → parted (b ∷ (l ++ (10 ∷ []))) ≡ record { lines = (b ∷ l) ∷ []; rest = [] }
+    go :
+        (t : Bool) → ends-line b ≡ t → plain (b ∷ l) ≡ true → (plain l ≡ true → parted (l ++ (10 ∷ [])) ≡ record { lines = l ∷ []; rest = [] })
+        → parted (b ∷ (l ++ (10 ∷ []))) ≡ record { lines = (b ∷ l) ∷ []; rest = [] }
     go true e k i = absurd (false≢true (by-first b l true e k))
     go false e k i = rw (e, i (by-first b l false e k)) refl
 
@@ -76,7 +80,8 @@ parted-append (x ∷ a) b = go (ends-line x) refl (parted-append a b)
 pub replies-append : (table : List ℕ) (a b : List (List ℕ)) → replies table (a ++ b) ≡ replies table a ++ replies table b
 unfolding replies
 replies-append table [] b = refl
-replies-append table (l ∷ a) b = ap (λ (s : List ℕ). reply table l ++ s) (replies-append table a b) ∙ sym (append-assoc (reply table l) (replies table a) (replies table b))
+replies-append table (l ∷ a) b =
+    ap (λ (s : List ℕ). reply table l ++ s) (replies-append table a b) ∙ sym (append-assoc (reply table l) (replies table a) (replies table b))
 
 -- ---- all pieces
 
@@ -87,7 +92,8 @@ module _ (table : List ℕ) where
   begun h [] k = rw (append-nil h, plain-parted h k) refl
   begun h (p ∷ ps) k =
       let next = parted (h ++ p) .rest in
-      let whole : parted (h ++ (p ++ joined ps)) ≡ then (parted (h ++ p)) (joined ps) = ap parted (sym (append-assoc h p (joined ps))) ∙ parted-append (h ++ p) (joined ps) in
+      let whole : parted (h ++ (p ++ joined ps)) ≡ then (parted (h ++ p)) (joined ps) =
+      ap parted (sym (append-assoc h p (joined ps))) ∙ parted-append (h ++ p) (joined ps) in
       ap (λ (s : List ℕ). replies table (parted (h ++ p) .lines) ++ s) (begun next ps (rest-plain (h ++ p)))
       ∙ sym (replies-append table (parted (h ++ p) .lines) (parted (next ++ joined ps) .lines ++ last-line (parted (next ++ joined ps) .rest)))
       ∙ ap (replies table) (sym (append-assoc (parted (h ++ p) .lines) (parted (next ++ joined ps) .lines) (last-line (parted (next ++ joined ps) .rest))))

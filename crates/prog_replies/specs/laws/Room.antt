@@ -43,7 +43,8 @@ short-reply table l = let z = length-append (answered table (asks l)) (10 ∷ []
 short-replies : (table : List ℕ) (ls : List (List ℕ)) → length (replies table ls) ≤ 18 * length ls
 unfolding replies
 short-replies table [] = omega arith
-short-replies table (l ∷ ls) = let z = length-append (reply table l) (replies table ls) in let y = short-reply table l in let x = short-replies table ls in omega arith
+short-replies table (l ∷ ls) =
+    let z = length-append (reply table l) (replies table ls) in let y = short-reply table l in let x = short-replies table ls in omega arith
 
 as-many : (b : ℕ) (ls : List (List ℕ)) (r : List ℕ) → length (in-first b ls r .lines) ≡ length ls
 as-many b [] r = refl
@@ -69,7 +70,8 @@ few-behind (b ∷ h) p k = go (ends-line b) refl (few-behind h p)
 
 -- with that room the answers stand whole at the start
 pub stand-whole :
-    {table h piece out out′ buffer : List ℕ} {printed count : ℕ} → Answers table h piece out out′ printed buffer count → plain h ≡ true → 18 * length piece ≤ length out
+    {table h piece out out′ buffer : List ℕ} {printed count : ℕ} → Answers table h piece out out′ printed buffer count → plain h ≡ true
+    → 18 * length piece ≤ length out
     → take printed out′ ≡ replies table (parted (h ++ piece) .lines)
 stand-whole {table} {h} {piece} a k r =
     put-whole (a .answers) (let z = short-replies table (parted (h ++ piece) .lines) in let y = few-behind h piece k in omega arith)

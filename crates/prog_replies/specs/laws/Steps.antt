@@ -32,7 +32,9 @@ unfolding indexOf indexAfter
 index-newline [] h = absurd (omega arith)
 index-newline (x ∷ m) h = go (eqb x 10) refl h (index-newline m)
   where
-    go : (t : Bool) → eqb x 10 ≡ t → indexAfter t (indexOf 10 m) < suc (length m) → (indexOf 10 m < length m → getD m (indexOf 10 m) 0 ≡ 10) → getD (x ∷ m) (indexAfter t (indexOf 10 m)) 0 ≡ 10
+    go :
+        (t : Bool) → eqb x 10 ≡ t → indexAfter t (indexOf 10 m) < suc (length m) → (indexOf 10 m < length m → getD m (indexOf 10 m) 0 ≡ 10)
+        → getD (x ∷ m) (indexAfter t (indexOf 10 m)) 0 ≡ 10
     go true e k i = eqb-true x 10 e
     go false e k i = i (omega arith)
 

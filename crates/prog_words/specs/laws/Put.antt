@@ -72,7 +72,8 @@ put-put {ws} {vs} {b} {c} {d} {at} {r} {t} p q = go (leb (at + length ws) (lengt
     full h =
         let e : r ≡ length b = p .end ∙ reached-full (length b) (at + length ws) (omega arith) in
         let out : sets c r vs ≡ c = sets-out vs c r (omega (arith, n)) in
-        let far : sets (sets b at ws) (at + length ws) vs ≡ sets b at ws = sets-out vs (sets b at ws) (at + length ws) (let z = length-sets b at ws in omega arith) in
+        let far : sets (sets b at ws) (at + length ws) vs ≡ sets b at ws =
+        sets-out vs (sets b at ws) (at + length ws) (let z = length-sets b at ws in omega arith) in
         record {
           bytes = q .bytes ∙ out ∙ p .bytes ∙ sym far ∙ sets-sets ws vs b at (at + length ws) refl;
           end =

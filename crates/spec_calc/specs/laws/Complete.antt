@@ -52,7 +52,8 @@ mutual
       (expression-read d₂ (if-of c ∷ k) (omega arith) (omega arith)
       ∙ (expression-read d₃ (begun (else-of c x) ∷ k) (omega arith) e ∙ takes (else-of c x) y k r e))
 
-  pub joined-read : {l : ℕ} {s r : List Symbol} {t : Tree} → Joined l s r t → (k : Stack) → top k ≤ l → first-ends r ≤ suc l → run (wanted k) s ≡ run (have t k) r
+  pub joined-read :
+      {l : ℕ} {s r : List Symbol} {t : Tree} → Joined l s r t → (k : Stack) → top k ≤ l → first-ends r ≤ suc l → run (wanted k) s ≡ run (have t k) r
   joined-read (tighter d) k h e = joined-read d k (omega arith) (omega arith)
   joined-read {r = r} (join {o = o} {t = t} {u = u} p d₁ d₂) k h e =
       joined-read d₁ k h (omega arith)

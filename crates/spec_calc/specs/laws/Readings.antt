@@ -37,7 +37,14 @@ module _ (rs qs : List Reading) where
   value-agrees (binary o t u) a = rw (value-agrees t (left (letters t) (letters u) a), value-agrees u (right (letters t) (letters u) a))
   value-agrees (choice c x y) a =
       let b = right (letters c) (letters x ++ letters y) a in
-      rw (value-agrees c (left (letters c) (letters x ++ letters y) a), value-agrees x (left (letters x) (letters y) b), value-agrees y (right (letters x) (letters y) b))
+      rw (
+        value-agrees c
+            (left (letters c) (letters x ++ letters y) a),
+        value-agrees x
+            (left (letters x) (letters y) b),
+        value-agrees y
+            (right (letters x) (letters y) b),
+      )
 
   all-agree : (ls : List ℕ) → Agree ls → all-good rs ls ≡ all-good qs ls
   all-agree [] a = refl

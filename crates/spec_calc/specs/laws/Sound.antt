@@ -103,7 +103,8 @@ module _ (full : List Symbol) where
         go true e = rw (e, reduce) (more (leb-true l (tightness b) e))
         go false e = rw (e, reduce) (stop (omega (arith, part-bound b .1, leb-false l (tightness b) e)))
 
-    reduced : {k : Stack} {s : List Symbol} → Context k s → (m : ℕ) (t : Tree) → need k ≤ m → l ≤ m → ((n : ℕ) → n ≤ m → At n s r t) → Reduced l r (reduce l t k)
+    reduced :
+        {k : Stack} {s : List Symbol} → Context k s → (m : ℕ) (t : Tree) → need k ≤ m → l ≤ m → ((n : ℕ) → n ≤ m → At n s r t) → Reduced l r (reduce l t k)
     unfolding reduce
     reduced start m t h g d = record { from = full; context = start; enough = omega arith; tree = d l g }
     reduced (within {b = b} {k = k} {s = s} {s₀ = s₀} c n f) m t h g d =

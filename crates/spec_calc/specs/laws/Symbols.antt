@@ -23,7 +23,14 @@ module _ {A : Type 0} (p : A → Bool) where
 -- only a number begins with a figure
 pub figure-byte : (b : ℕ) (s : List ℕ) → start b s ≡ figure → numeral-byte b ≡ true
 figure-byte b s e =
-    go (among " \t" b) (numeral-byte b) (within 65 85 b) (within 97 117 b) (first (λ x. same (x .spelled) (take (length (x .spelled)) (b ∷ s))) spellings) (b - 65) (b - 97) e
+    go
+    (among " \t" b)
+    (numeral-byte b)
+    (within 65 85 b)
+    (within 97 117 b)
+    (first (λ x. same (x .spelled) (take (length (x .spelled)) (b ∷ s))) spellings)
+    (b - 65)
+    (b - 97) e
   where
     go :
         (p q u v : Bool) (o : Option Spelling) (i j : ℕ)
@@ -49,7 +56,8 @@ enough-step :
     → (x : Start) → start b s ≡ x → symbols-in (suc n) (b ∷ s) ≡ symbols-in (suc m) (b ∷ s)
 unfolding symbols-in
 enough-step n m b s h blank e = rw (e, symbols-in) (h s (omega arith))
-enough-step n m b s h figure e = rw (e, symbols-in) (ap (then-number (numeral (run numeral-byte (b ∷ s)))) (h (after numeral-byte (b ∷ s)) (number-shorter b s e)))
+enough-step n m b s h figure e =
+    rw (e, symbols-in) (ap (then-number (numeral (run numeral-byte (b ∷ s)))) (h (after numeral-byte (b ∷ s)) (number-shorter b s e)))
 enough-step n m b s h wrong e = rw (e, symbols-in)
 enough-step n m b s h (sign x k) e = rw (e, symbols-in) (ap (then x) (h (drop k s) (drop-shorter k s)))
 
@@ -79,7 +87,9 @@ module _ (b : ℕ) (s : List ℕ) where
   scan-figure e =
       let l = number-shorter b s e in
       rw (e, symbols-in)
-      (ap (then-number (numeral (run numeral-byte (b ∷ s)))) (enough (length s) (length (after numeral-byte (b ∷ s))) (after numeral-byte (b ∷ s)) (omega arith) (omega arith)))
+      (ap
+      (then-number (numeral (run numeral-byte (b ∷ s))))
+      (enough (length s) (length (after numeral-byte (b ∷ s))) (after numeral-byte (b ∷ s)) (omega arith) (omega arith)))
 
   pub scan-wrong : start b s ≡ wrong → symbols (b ∷ s) ≡ none
   unfolding symbols-in
@@ -87,4 +97,5 @@ module _ (b : ℕ) (s : List ℕ) where
 
   pub scan-sign : {x : Symbol} {m : ℕ} → start b s ≡ sign x m → symbols (b ∷ s) ≡ then x (symbols (drop m s))
   unfolding symbols-in
-  scan-sign {x} {m} e = let l = drop-shorter m s in rw (e, symbols-in) (ap (then x) (enough (length s) (length (drop m s)) (drop m s) (omega arith) (omega arith)))
+  scan-sign {x} {m} e =
+      let l = drop-shorter m s in rw (e, symbols-in) (ap (then x) (enough (length s) (length (drop m s)) (drop m s) (omega arith) (omega arith)))

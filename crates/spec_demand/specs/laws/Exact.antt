@@ -28,7 +28,8 @@ use Rattle.spec_demand.specs.laws.Inputs.{looked-up}
 use Rattle.spec_demand.specs.Calls.{is-accepted}
 use Rattle.spec_demand.specs.laws.Loaded.{stored, decided}
 
-pub refused-grants-nothing : (b : List ℕ) (q : Question) (n : ℕ) → number (decide b q) ≡ some n → (access-in (decide b q) ≡ access.None) × (trap-in (decide b q) ≡ false)
+pub refused-grants-nothing :
+    (b : List ℕ) (q : Question) (n : ℕ) → number (decide b q) ≡ some n → (access-in (decide b q) ≡ access.None) × (trap-in (decide b q) ≡ false)
 refused-grants-nothing b q n e = by (decide b q) e
   where
     by : (a : Answer) → number a ≡ some n → (access-in a ≡ access.None) × (trap-in a ≡ false)
@@ -48,7 +49,9 @@ pub not-laid-down : (lent s : List ℕ) (xs : List Tagged) → Acceptable s xs �
 unfolding load
 not-laid-down lent s xs a l = rw (acceptable-is s xs a, lt-leb (length (table-of (file-of xs))) (length lent) l)
 
-pub stands : (s : List ℕ) (xs : List Tagged) → Acceptable s xs → (rest : List ℕ) → (is-table (table-of (file-of xs) ++ rest) ≡ true) × (length (table-of (file-of xs)) ≤ greatest-table)
+pub stands :
+    (s : List ℕ) (xs : List Tagged) → Acceptable s xs → (rest : List ℕ)
+    → (is-table (table-of (file-of xs) ++ rest) ≡ true) × (length (table-of (file-of xs)) ≤ greatest-table)
 stands s xs a rest = let f = fits s xs (acceptable-is s xs a) in (is-a-table (file-of xs) f rest, table-length (file-of xs) f)
 
 -- what an accepted load leaves is a table
@@ -57,7 +60,9 @@ leaves-table lent s e =
     let k = stored lent s e in
     ap is-table (k .bytes) ∙ is-a-table (file-of (k .said)) (fits s (k .said) (k .accepted)) (drop (length (table-of (file-of (k .said)))) lent)
 
-pub answers-by-file : (s : List ℕ) (xs : List Tagged) → Acceptable s xs → (rest : List ℕ) (q : Question) → decide (table-of (file-of xs) ++ rest) q ≡ answer-by-file (file-of xs) q
+pub answers-by-file :
+    (s : List ℕ) (xs : List Tagged) → Acceptable s xs → (rest : List ℕ) (q : Question)
+    → decide (table-of (file-of xs) ++ rest) q ≡ answer-by-file (file-of xs) q
 answers-by-file s xs a rest q = decided (file-of xs) (fits s xs (acceptable-is s xs a)) rest q
 
 pub inputs-by-file :

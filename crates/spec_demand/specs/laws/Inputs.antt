@@ -54,7 +54,9 @@ part-of r xs d x a =
 
 -- the part that is found is the input's name
 module _ (b : List ℕ) (h : is-table b ≡ true) where
-  found-is : (letter : ℕ) (g : Option (List ℕ)) → name-found (named-part b (input-of (view b) letter g)) b ≡ Option·map (name (view b) inputs) (input-of (view b) letter g)
+  found-is :
+      (letter : ℕ) (g : Option (List ℕ))
+      → name-found (named-part b (input-of (view b) letter g)) b ≡ Option·map (name (view b) inputs) (input-of (view b) letter g)
   found-is letter none = refl
   found-is letter (some group) = go (input-of (view b) letter (some group)) refl
     where
@@ -62,7 +64,11 @@ module _ (b : List ℕ) (h : is-table b ≡ true) where
       go none e = refl
       go (some x) e =
           let s = stands b h in
-          let a = part-of (inputs-run group) (view b .records inputs) [] x (first-at (λ i. eqb (letter-field i) letter) (part (inputs-run group) (view b .records inputs)) [] x e) in
+          let a =
+          part-of
+          (inputs-run group)
+          (view b .records inputs) [] x
+          (first-at (λ i. eqb (letter-field i) letter) (part (inputs-run group) (view b .records inputs)) [] x e) in
           let w = name-within (view b) (s .1) inputs (a .place) (a .inside) in
           let u : name-run inputs x .first + name-run inputs x .count ≤ length (view b .strings) = rw (sym (a .is)) w in
           ap some (sym (string-at b (s .0) (name-run inputs x) (rw (strings-count b (s .0)) at u)))
@@ -78,7 +84,8 @@ module _ (c : Content) (letter : ℕ) where
     where
       go :
           (t : Bool)
-          → Option·map (name c inputs) (first (λ i. eqb (letter-field i) letter) rows) ≡ Option·map (λ l. l .name) (first (λ l. eqb (l .letter) letter) (map (link-of c) rows))
+          → Option·map (name c inputs) (first (λ i. eqb (letter-field i) letter) rows)
+          ≡ Option·map (λ l. l .name) (first (λ l. eqb (l .letter) letter) (map (link-of c) rows))
           → Option·map (name c inputs) (first-if t x (first (λ i. eqb (letter-field i) letter) rows))
           ≡ Option·map (λ l. l .name) (first-if t (link-of c x) (first (λ l. eqb (l .letter) letter) (map (link-of c) rows)))
       go true i = refl
@@ -95,7 +102,9 @@ inputs-in-is : (o : Option Asg) → Option·getD (Option·map (λ a. a .inputs) 
 inputs-in-is none = refl
 inputs-in-is (some a) = refl
 
-pub looked-up : (f : File) → Fits f → (rest : List ℕ) (g : List ℕ) (letter : ℕ) → name-found (look-up (table-of f ++ rest) g letter) (table-of f ++ rest) ≡ input-by-file f g letter
+pub looked-up :
+    (f : File) → Fits f → (rest : List ℕ) (g : List ℕ) (letter : ℕ)
+    → name-found (look-up (table-of f ++ rest) g letter) (table-of f ++ rest) ≡ input-by-file f g letter
 unfolding look-up
 looked-up f fits rest g letter =
     let b = table-of f ++ rest in

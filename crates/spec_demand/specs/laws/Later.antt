@@ -71,7 +71,8 @@ module _ (e : Edition) (q : Question) where
   rule-denied : (ys : List Tagged) → Says-no e q ys → Every (λ p. e p q ≡ false) (rule-text ys .unknown)
   rule-denied ys h = every-map place (every-selected (has-role UnknownPredicate) h)
 
-  rules-denied : (ys : List Tagged) → Says-no e q ys → Every (λ r. Every (λ p. e p q ≡ false) (r .unknown)) (map (λ r. rule-text (r .body)) (clauses RuleWord ys))
+  rules-denied :
+      (ys : List Tagged) → Says-no e q ys → Every (λ r. Every (λ p. e p q ≡ false) (r .unknown)) (map (λ r. rule-text (r .body)) (clauses RuleWord ys))
   rules-denied ys h = every-map (λ (r : Clause). rule-text (r .body)) (every-implies (λ r w. rule-denied (r .body) (w .body)) (every-parts RuleWord h))
 
   denied : (xs : List Tagged) → Says-no e q xs → (g : List ℕ) → Every (λ r. Every (λ p. e p q ≡ false) (r .unknown)) (rules-by-file (file-of xs) g)
@@ -80,24 +81,33 @@ module _ (e : Edition) (q : Question) where
       asgs : Every (λ a. Every (λ r. Every (λ p. e p q ≡ false) (r .unknown)) (a .rules)) (file-of xs .asgs)
       asgs = every-map asg (every-implies (λ a w. rules-denied (a .body) (w .body)) (every-parts AsgName h))
 
-      by : (o : Option Asg) → Given (λ a. Every (λ r. Every (λ p. e p q ≡ false) (r .unknown)) (a .rules)) o → Every (λ r. Every (λ p. e p q ≡ false) (r .unknown)) (rules-later o)
+      by :
+          (o : Option Asg) → Given (λ a. Every (λ r. Every (λ p. e p q ≡ false) (r .unknown)) (a .rules)) o
+          → Every (λ r. Every (λ p. e p q ≡ false) (r .unknown)) (rules-later o)
       by none d = nil
       by (some a) d = d
 
 -- ---- by the file's rules
 
 module _ (e : Edition) (xs : List Tagged) (q : Question) where
-  never-above-by-file : (rs : List Reading) → Gone-bad (q .readings) rs → rank (access-in (answer-by-file (file-of xs) (reading-instead q rs))) ≤ rank (access-later e xs q)
+  never-above-by-file :
+      (rs : List Reading) → Gone-bad (q .readings) rs → rank (access-in (answer-by-file (file-of xs) (reading-instead q rs))) ≤ rank (access-later e xs q)
   never-above-by-file rs g = by (a-level (q .level))
     where
-      by : (b : Bool) → rank (access-in (cond b (answered (reading-instead q rs) (map (rule-in (file-of xs)) (rules-by-file (file-of xs) (q .group)))) BadLevel)) ≤ rank (cond b (access-by-rules e (file-of xs) q (rules-by-file (file-of xs) (q .group))) access.None)
+      by :
+          (b : Bool)
+          → rank (access-in (cond b (answered (reading-instead q rs) (map (rule-in (file-of xs)) (rules-by-file (file-of xs) (q .group)))) BadLevel))
+          ≤ rank (cond b (access-by-rules e (file-of xs) q (rules-by-file (file-of xs) (q .group))) access.None)
       by true = access-never-above e (file-of xs) q rs g (rules-by-file (file-of xs) (q .group))
       by false = le-refl 0
 
   alike-by-file : Says-no e q xs → access-in (answer-by-file (file-of xs) q) ≡ access-later e xs q
   alike-by-file h = by (a-level (q .level))
     where
-      by : (b : Bool) → access-in (cond b (answered q (map (rule-in (file-of xs)) (rules-by-file (file-of xs) (q .group)))) BadLevel) ≡ cond b (access-by-rules e (file-of xs) q (rules-by-file (file-of xs) (q .group))) access.None
+      by :
+          (b : Bool)
+          → access-in (cond b (answered q (map (rule-in (file-of xs)) (rules-by-file (file-of xs) (q .group)))) BadLevel)
+          ≡ cond b (access-by-rules e (file-of xs) q (rules-by-file (file-of xs) (q .group))) access.None
       by true = access-alike e (file-of xs) q (rules-by-file (file-of xs) (q .group)) (denied e q xs h (q .group))
       by false = refl
 
@@ -124,7 +134,9 @@ answered-by-text lent s h xs t between n q =
 module _
     (lent s : List ℕ) (h : is-accepted (load lent s .answer) ≡ true) (xs : List Tagged) (t : Text-reads s xs)
     (between : List Call) (n : No-accepted-load (load lent s .bytes) between) (e : Edition) (q : Question) where
-  pub never-above : (rs : List Reading) → Gone-bad (q .readings) rs → rank (access-in (decide (after-calls (load lent s .bytes) between) (reading-instead q rs))) ≤ rank (access-later e xs q)
+  pub never-above :
+      (rs : List Reading) → Gone-bad (q .readings) rs
+      → rank (access-in (decide (after-calls (load lent s .bytes) between) (reading-instead q rs))) ≤ rank (access-later e xs q)
   never-above rs g = rw (answered-by-text lent s h xs t between n (reading-instead q rs)) (never-above-by-file e xs q rs g)
 
   pub exactly-equal : Says-no e q xs → access-in (decide (after-calls (load lent s .bytes) between) q) ≡ access-later e xs q

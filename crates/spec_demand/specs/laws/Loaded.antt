@@ -40,7 +40,9 @@ pub stored : (lent s : List ℕ) → is-accepted (load lent s .answer) ≡ true 
 unfolding load
 stored lent s e = by (verdict s) refl e
   where
-    room : (xs : List Tagged) (b : Bool) → verdict s ≡ accept xs → leb (length (table-of (file-of xs))) (length lent) ≡ b → is-accepted (cond b (written lent xs) (without-room lent xs) .answer) ≡ true → Stored lent s
+    room :
+        (xs : List Tagged) (b : Bool) → verdict s ≡ accept xs → leb (length (table-of (file-of xs))) (length lent) ≡ b
+        → is-accepted (cond b (written lent xs) (without-room lent xs) .answer) ≡ true → Stored lent s
     room xs true v l h = record { said = xs; accepted = v; bytes = rw (v, l) }
     room xs false v l h = absurd (false≢true h)
 
@@ -53,7 +55,9 @@ pub refused-leaves : (lent s : List ℕ) → is-accepted (load lent s .answer) �
 unfolding load
 refused-leaves lent s e = by (verdict s) e
   where
-    room : (xs : List Tagged) (b : Bool) → is-accepted (cond b (written lent xs) (without-room lent xs) .answer) ≡ false → cond b (written lent xs) (without-room lent xs) .bytes ≡ lent
+    room :
+        (xs : List Tagged) (b : Bool) → is-accepted (cond b (written lent xs) (without-room lent xs) .answer) ≡ false
+        → cond b (written lent xs) (without-room lent xs) .bytes ≡ lent
     room xs true h = absurd (false≢true (sym h))
     room xs false h = refl
 

@@ -57,7 +57,8 @@ pub same-selected :
     (rs : List Role) (r : Role) → one-of rs r ≡ true → (xs ys : List Tagged)
     → select (says-one-of rs) xs ≡ select (says-one-of rs) ys → select (has-role r) xs ≡ select (has-role r) ys
 same-selected rs r o xs ys e =
-    sym (select-select (says-one-of rs) (has-role r) (covered rs r o) xs) ∙ (ap (select (has-role r)) e ∙ select-select (says-one-of rs) (has-role r) (covered rs r o) ys)
+    sym (select-select (says-one-of rs) (has-role r) (covered rs r o) xs)
+    ∙ (ap (select (has-role r)) e ∙ select-select (says-one-of rs) (has-role r) (covered rs r o) ys)
 
 -- ---- a part, and what is made of it
 
@@ -173,7 +174,8 @@ pub headed-never :
 headed-never q xs w d = never q xs (headed-all (λ z. not (q z)) w d)
 
 -- what is headed by h has no part headed by r, if none of it may say r
-pub other-parts : (r : Role) {h : Role} {rs : List Role} (xs : List Tagged) → apart (λ z. same-role z r) h rs ≡ true → Headed h rs (roles xs) → clauses r xs ≡ []
+pub other-parts :
+    (r : Role) {h : Role} {rs : List Role} (xs : List Tagged) → apart (λ z. same-role z r) h rs ≡ true → Headed h rs (roles xs) → clauses r xs ≡ []
 other-parts r xs w d = parts-none r (headed-never (λ z. same-role z r) xs w d)
 
 -- whether what is headed by h has ts only behind r: h is r, or none of it may say one of ts

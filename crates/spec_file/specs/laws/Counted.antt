@@ -65,7 +65,9 @@ bodies-until r g w f (x ∷ xs) = go (has-role r x) (f (until r xs)) (bodies-unt
     go false l h = omega arith
 
 -- what counts a body for no more than its tokens weigh counts all bodies so
-pub sum-bodies : (r : Role) (g : List Tagged → ℕ) (w : Tagged → ℕ) → ((ys : List Tagged) → g ys ≤ sum w ys) → (xs : List Tagged) → sum (λ p. g (p .body)) (clauses r xs) ≤ sum w xs
+pub sum-bodies :
+    (r : Role) (g : List Tagged → ℕ) (w : Tagged → ℕ) → ((ys : List Tagged) → g ys ≤ sum w ys) → (xs : List Tagged)
+    → sum (λ p. g (p .body)) (clauses r xs) ≤ sum w xs
 sum-bodies r g w f xs = omega (arith, bodies-until r g w f xs)
 
 pub sum-texts : (r : Role) (m : List ℕ → ℕ) (xs : List Tagged) → sum m (texts r xs) ≡ sum-of (has-role r) (λ x. m (text x)) xs
@@ -150,7 +152,9 @@ section-back rules = refl
 section-back references = refl
 
 abbrev all-roles : List Role
-all-roles = NoRole ∷ UagName ∷ User ∷ HagName ∷ Host ∷ AsgName ∷ Input ∷ Pvname ∷ RuleWord ∷ Level ∷ Permission ∷ LogOption ∷ UagNamed ∷ HagNamed ∷ CalcWord ∷ Calculation ∷ UnknownItem ∷ UnknownPredicate ∷ []
+all-roles =
+    NoRole ∷ UagName ∷ User ∷ HagName ∷ Host ∷ AsgName ∷ Input ∷ Pvname ∷ RuleWord ∷ Level ∷ Permission ∷ LogOption ∷ UagNamed ∷ HagNamed ∷ CalcWord ∷
+    Calculation ∷ UnknownItem ∷ UnknownPredicate ∷ []
 
 -- how often a token says one of the roles, each time counted as n
 abbrev pub says-among : List Role → ℕ → Tagged → ℕ
@@ -220,7 +224,9 @@ counted-after s b (x ∷ xs) l (cons h c) = go (item s x) refl (λ k. counted-af
     with-x : Bool → List Tagged → ℕ
     with-x i ys = length (prepend-if i x (select (item s) ys))
 
-    go : (i : Bool) → item s x ≡ i → (with-x i b ≤ most s → with-x i b + length (select (item s) xs) ≤ most s) → length (select (item s) b) + with-x i xs ≤ most s
+    go :
+        (i : Bool) → item s x ≡ i → (with-x i b ≤ most s → with-x i b + length (select (item s) xs) ≤ most s)
+        → length (select (item s) b) + with-x i xs ≤ most s
     go true e f = let k = f (room s (record { backwards = b; here = x; onwards = xs }) h e) in omega arith
     go false e f = f l
 
@@ -235,7 +241,8 @@ sum-roles rs m v f xs = rw (sum-swap (λ r x. cond (has-role r x) (m x) 0) rs xs
 
 -- the tokens of some roles are no more than the section holds to which each adds
 pub counted-roles :
-    (s : Section) (rs : List Role) → ((x : Tagged) → says-among rs 1 x ≤ cond (item s x) 1 0) → (xs : List Tagged) → Every (λ c. too-many c ≡ false) (contexts xs)
+    (s : Section) (rs : List Role) → ((x : Tagged) → says-among rs 1 x ≤ cond (item s x) 1 0) → (xs : List Tagged)
+    → Every (λ c. too-many c ≡ false) (contexts xs)
     → sum (λ r. sum-of (has-role r) (λ x. 1) xs) rs ≤ most s
 counted-roles s rs f xs c =
     omega (arith, sum-roles rs (λ x. 1) _ f xs, sum-select (item s) (λ x. 1) xs, length-sum (select (item s) xs), counted s xs c)

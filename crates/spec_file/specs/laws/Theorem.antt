@@ -44,7 +44,9 @@ module _ (s : List ℕ) (xs : List Tagged) where
   unfolding verdict
   accepted-is e = go-length (leb (length s) most-bytes) refl e
     where
-      go-causes : (ts : List Token) (ys : List Tagged) (o : Option Refusal-at) → leb (length s) most-bytes ≡ true → scanned s ≡ tokens ts → too-deep 0 ts ≡ none → read ts (length s) ≡ parsed ys → refused-by causes (contexts ys) ≡ o → by-causes ys o ≡ accept xs → Acceptable s xs
+      go-causes :
+          (ts : List Token) (ys : List Tagged) (o : Option Refusal-at) → leb (length s) most-bytes ≡ true → scanned s ≡ tokens ts → too-deep 0 ts ≡ none
+          → read ts (length s) ≡ parsed ys → refused-by causes (contexts ys) ≡ o → by-causes ys o ≡ accept xs → Acceptable s xs
       go-causes ts ys none l a d r c h =
           let same : ys ≡ xs = cc in
           record {
@@ -55,11 +57,15 @@ module _ (s : List ℕ) (xs : List Tagged) where
           }
       go-causes ts ys (some r) l a d q c h = never-accepts (r .refusal) (r .place) xs h
 
-      go-read : (ts : List Token) (o : Parse) → leb (length s) most-bytes ≡ true → scanned s ≡ tokens ts → too-deep 0 ts ≡ none → read ts (length s) ≡ o → by-grammar o ≡ accept xs → Acceptable s xs
+      go-read :
+          (ts : List Token) (o : Parse) → leb (length s) most-bytes ≡ true → scanned s ≡ tokens ts → too-deep 0 ts ≡ none → read ts (length s) ≡ o
+          → by-grammar o ≡ accept xs → Acceptable s xs
       go-read ts (parsed ys) l a d r h = go-causes ts ys (refused-by causes (contexts ys)) l a d r refl h
       go-read ts (stopped p) l a d r h = never-accepts Ungrammatical p xs h
 
-      go-deep : (ts : List Token) (o : Option ℕ) → leb (length s) most-bytes ≡ true → scanned s ≡ tokens ts → too-deep 0 ts ≡ o → by-depth o (read ts (length s)) ≡ accept xs → Acceptable s xs
+      go-deep :
+          (ts : List Token) (o : Option ℕ) → leb (length s) most-bytes ≡ true → scanned s ≡ tokens ts → too-deep 0 ts ≡ o
+          → by-depth o (read ts (length s)) ≡ accept xs → Acceptable s xs
       go-deep ts none l a d h = go-read ts (read ts (length s)) l a d refl h
       go-deep ts (some p) l a d h = never-accepts TooDeep p xs h
 
@@ -75,7 +81,20 @@ module _ (s : List ℕ) (xs : List Tagged) where
   pub acceptable-is : Acceptable s xs → verdict s ≡ accept xs
   unfolding verdict
   acceptable-is a =
-      rw (le-leb (length s) most-bytes (a .short), a .says .spelling, a .shallow, read-complete (a .says .spelled) (length s) xs (a .says .reading), unanswered (contexts xs) (a .uncaused))
+      rw (
+        le-leb
+            (length s) most-bytes
+            (a .short),
+        a .says .spelling,
+        a .shallow,
+        read-complete
+            (a .says .spelled)
+            (length s) xs
+            (a .says .reading),
+        unanswered
+            (contexts xs)
+            (a .uncaused),
+      )
 
 -- ---- refusals
 
@@ -84,11 +103,14 @@ first-cause :
     (xs : List Tagged) (lower ks : List Cause) (x : Refusal-at) → causes ≡ lower ++ ks
     → Every (λ j. Every (λ c. j .applies c ≡ false) (contexts xs)) lower → refused-by ks (contexts xs) ≡ some x → Caused xs (x .refusal) (x .place)
 first-cause xs lower [] x a h e = let z : _≡_ {A = ℕ} 0 1 = cc in absurd (omega arith)
-first-cause xs lower (k ∷ ks) x a h e = go (first (k .applies) (contexts xs)) refl e (first-cause xs (lower ++ (k ∷ [])) ks x (a ∙ sym (append-assoc lower (k ∷ []) ks)))
+first-cause xs lower (k ∷ ks) x a h e =
+    go (first (k .applies) (contexts xs)) refl e (first-cause xs (lower ++ (k ∷ [])) ks x (a ∙ sym (append-assoc lower (k ∷ []) ks)))
   where
     go :
         (o : Option Context) → first (k .applies) (contexts xs) ≡ o → or-else (k .refusal) o (refused-by ks (contexts xs)) ≡ some x
-        → (Every (λ j. Every (λ c. j .applies c ≡ false) (contexts xs)) (lower ++ (k ∷ [])) → refused-by ks (contexts xs) ≡ some x → Caused xs (x .refusal) (x .place))
+        →
+        (Every (λ j. Every (λ c. j .applies c ≡ false) (contexts xs)) (lower ++ (k ∷ [])) → refused-by ks (contexts xs) ≡ some x
+        → Caused xs (x .refusal) (x .place))
         → Caused xs (x .refusal) (x .place)
     go none p g f = f (every-append h (cons (first-none (k .applies) (contexts xs) p) nil)) g
     go (some c) p g f =
@@ -104,15 +126,25 @@ module _ (s : List ℕ) (r : Refusal) (p : ℕ) where
   unfolding verdict
   refused-is e = by-length (leb (length s) most-bytes) refl e
     where
-      by-cause : (ts : List Token) (xs : List Tagged) (o : Option Refusal-at) → length s ≤ most-bytes → scanned s ≡ tokens ts → too-deep 0 ts ≡ none → read ts (length s) ≡ parsed xs → refused-by causes (contexts xs) ≡ o → by-causes xs o ≡ refuse r p → Refusable s r p
+      by-cause :
+          (ts : List Token) (xs : List Tagged) (o : Option Refusal-at) → length s ≤ most-bytes → scanned s ≡ tokens ts → too-deep 0 ts ≡ none
+          → read ts (length s) ≡ parsed xs → refused-by causes (contexts xs) ≡ o → by-causes xs o ≡ refuse r p → Refusable s r p
       by-cause ts xs none l a d q c h = never-accepts r p xs (sym h)
-      by-cause ts xs (some x) l a d q c h = refused-so (x .refusal) (x .place) h (for-cause l (record { spelled = ts; spelling = a; reading = read-sound ts (length s) xs q }) d (first-cause xs [] causes x refl nil c))
+      by-cause ts xs (some x) l a d q c h =
+          refused-so
+          (x .refusal)
+          (x .place) h
+          (for-cause l (record { spelled = ts; spelling = a; reading = read-sound ts (length s) xs q }) d (first-cause xs [] causes x refl nil c))
 
-      by-read : (ts : List Token) (o : Parse) → length s ≤ most-bytes → scanned s ≡ tokens ts → too-deep 0 ts ≡ none → read ts (length s) ≡ o → by-grammar o ≡ refuse r p → Refusable s r p
+      by-read :
+          (ts : List Token) (o : Parse) → length s ≤ most-bytes → scanned s ≡ tokens ts → too-deep 0 ts ≡ none → read ts (length s) ≡ o
+          → by-grammar o ≡ refuse r p → Refusable s r p
       by-read ts (parsed xs) l a d q h = by-cause ts xs (refused-by causes (contexts xs)) l a d q refl h
       by-read ts (stopped o) l a d q h = refused-so Ungrammatical o h (no-file l a d (read-stops ts (length s) o q))
 
-      by-braces : (ts : List Token) (o : Option ℕ) → length s ≤ most-bytes → scanned s ≡ tokens ts → too-deep 0 ts ≡ o → by-depth o (read ts (length s)) ≡ refuse r p → Refusable s r p
+      by-braces :
+          (ts : List Token) (o : Option ℕ) → length s ≤ most-bytes → scanned s ≡ tokens ts → too-deep 0 ts ≡ o → by-depth o (read ts (length s)) ≡ refuse r p
+          → Refusable s r p
       by-braces ts none l a d h = by-read ts (read ts (length s)) l a d refl h
       by-braces ts (some o) l a d h = refused-so TooDeep o h (deep-brace l a d)
 
@@ -130,7 +162,8 @@ first-of : {A : Type 0} (p : A → Bool) (early late : List A) (x : A) → Every
 first-of p [] late x nil e = rw e
 first-of p (y ∷ early) late x (cons h c) e = rw h (first-of p early late x c e)
 
-passed-over : (cs : List Context) (lower ks : List Cause) → Every (λ j. Every (λ c. j .applies c ≡ false) cs) lower → refused-by (lower ++ ks) cs ≡ refused-by ks cs
+passed-over :
+    (cs : List Context) (lower ks : List Cause) → Every (λ j. Every (λ c. j .applies c ≡ false) cs) lower → refused-by (lower ++ ks) cs ≡ refused-by ks cs
 passed-over cs [] ks nil = refl
 passed-over cs (j ∷ lower) ks (cons h c) = rw (none-first (j .applies) h) (passed-over cs lower ks c)
 
@@ -138,7 +171,9 @@ caused-is : (xs : List Tagged) (r : Refusal) (p : ℕ) → Caused xs r p → ref
 caused-is xs r p (caused {c} lower k higher a h f) =
     ap (λ (ks : List Cause). refused-by ks (contexts xs)) a
     ∙ passed-over (contexts xs) lower (k ∷ higher) h
-    ∙ ap (λ (o : Option Context). or-else (k .refusal) o (refused-by higher (contexts xs))) (ap (first (k .applies)) (f .among) ∙ first-of (k .applies) (f .earlier) (f .later) c (f .fail) (f .pass))
+    ∙ ap
+    (λ (o : Option Context). or-else (k .refusal) o (refused-by higher (contexts xs)))
+    (ap (first (k .applies)) (f .among) ∙ first-of (k .applies) (f .earlier) (f .later) c (f .fail) (f .pass))
 
 pub refusable-is : (s : List ℕ) (r : Refusal) (p : ℕ) → Refusable s r p → verdict s ≡ refuse r p
 unfolding verdict
@@ -146,4 +181,5 @@ refusable-is s r p (long-file l) = rw (lt-leb (length s) most-bytes l)
 refusable-is s r p (bad-byte l a) = rw (le-leb (length s) most-bytes l, a)
 refusable-is s r p (deep-brace l a d) = rw (le-leb (length s) most-bytes l, a, d)
 refusable-is s r p (no-file {ts = ts} l a d h) = rw (le-leb (length s) most-bytes l, a, d, stops-read ts (length s) p h)
-refusable-is s r p (for-cause {xs = xs} l t d c) = rw (le-leb (length s) most-bytes l, t .spelling, d, read-complete (t .spelled) (length s) xs (t .reading), caused-is xs r p c)
+refusable-is s r p (for-cause {xs = xs} l t d c) =
+    rw (le-leb (length s) most-bytes l, t .spelling, d, read-complete (t .spelled) (length s) xs (t .reading), caused-is xs r p c)

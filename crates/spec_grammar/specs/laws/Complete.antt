@@ -48,7 +48,8 @@ Shut k = step k kind.OpenBrace ≡ halt
 -- a block that may come is passed over where none comes
 pass : (x : Expected) (l k : Stack) → rules x ≡ rule (kind.OpenBrace tagged NoRole) l no-rule → Shut k → (s : Signs) → Follows k s → Follows (perhaps x ∷ k) s
 pass x l k e h _ (done c) = done c
-pass x l k e h _ (took {j = j} {t = t} {v = v} f g) = took (ap (λ (rs : Rules). find rs t k (step k t)) e ∙ test (eqb (kind-number kind.OpenBrace) (kind-number t)) refl) g
+pass x l k e h _ (took {j = j} {t = t} {v = v} f g) =
+    took (ap (λ (rs : Rules). find rs t k (step k t)) e ∙ test (eqb (kind-number kind.OpenBrace) (kind-number t)) refl) g
   where
     test : (b : Bool) → eqb (kind-number kind.OpenBrace) (kind-number t) ≡ b → cond b (go NoRole (l ++ k)) (step k t) ≡ go v j
     test true n = never (sym h ∙ ap (step k) (same-kind kind.OpenBrace t (rw n tt)) ∙ f)
@@ -79,7 +80,9 @@ found : (rs : Rules) (t : Kind) (k : Stack) (d : Step) {v : Role} {j : Stack} �
 found no-rule t k d e = never e
 found (rule (x tagged w) l rs) t k d {v = v} {j = j} e = test (eqb (kind-number x) (kind-number t)) (found rs t k d) e
   where
-    test : (b : Bool) → (find rs t k halt ≡ go v j → find rs t k d ≡ go v j) → cond b (go w (l ++ k)) (find rs t k halt) ≡ go v j → cond b (go w (l ++ k)) (find rs t k d) ≡ go v j
+    test :
+        (b : Bool) → (find rs t k halt ≡ go v j → find rs t k d ≡ go v j) → cond b (go w (l ++ k)) (find rs t k halt) ≡ go v j
+        → cond b (go w (l ++ k)) (find rs t k d) ≡ go v j
     test true ih f = f
     test false ih f = ih f
 
@@ -119,7 +122,12 @@ opens-element : (k : Stack) → Opens (once element ∷ k) k k
 opens-element k = record { name = found-name [] (numbers [] no-rule) k halt; int = refl; float = refl }
 
 opens-arguments : (k : Stack) → Opens (once arguments ∷ k) (more-until kind.CloseParen ++ k) (more-until kind.CloseParen ++ k)
-opens-arguments k = record { name = found-name (more-until kind.CloseParen) (numbers (more-until kind.CloseParen) (rule (kind.CloseParen tagged NoRole) [] no-rule)) k halt; int = refl; float = refl }
+opens-arguments k =
+    record {
+      name = found-name (more-until kind.CloseParen) (numbers (more-until kind.CloseParen) (rule (kind.CloseParen tagged NoRole) [] no-rule)) k halt;
+      int = refl;
+      float = refl;
+    }
 
 opens-block : (p : Depth) (k : Stack) → Opens (once (block-inside p) ∷ k) (once (block-name p) ∷ k) (once (block-number p) ∷ k)
 opens-block p k = record { name = found-name (once (block-name p) ∷ []) (numbers (once (block-number p) ∷ []) no-rule) k halt; int = refl; float = refl }
@@ -130,7 +138,9 @@ data Strings (v : Role) : Stack → Stack → Type 0 where
 
 -- generic_list is next, its first element a name or a number
 data Elements : Stack → Stack → Type 0 where
-  some-elements : {i n m k : Stack} → Opens i n m → step n kind.Comma ≡ go NoRole (once element ∷ often next-element ∷ k) → step m kind.Comma ≡ go NoRole (once element ∷ often next-element ∷ k) → Elements i (often next-element ∷ k)
+  some-elements :
+      {i n m k : Stack} → Opens i n m → step n kind.Comma ≡ go NoRole (once element ∷ often next-element ∷ k)
+      → step m kind.Comma ≡ go NoRole (once element ∷ often next-element ∷ k) → Elements i (often next-element ∷ k)
 
 -- generic_block_elem is next, as the first of a block or not
 data Block-elements : Stack → Stack → Type 0 where
@@ -193,11 +203,14 @@ trace-strings : {v : Role} {i j : Stack} → Strings v i j → Trace (strings v)
 trace-strings some-strings = by-token refl (by-many (by-token refl (by-token refl over)) over)
 
 -- generic_element { "," generic_element }
-trace-elements : (k : Stack) → Trace (nt generic-element (many (cm (nt generic-element end)) end)) (once element ∷ often next-element ∷ k) (often next-element ∷ k)
+trace-elements :
+    (k : Stack) → Trace (nt generic-element (many (cm (nt generic-element end)) end)) (once element ∷ often next-element ∷ k) (often next-element ∷ k)
 trace-elements k = by-part (opens-element _) (by-many (by-token refl (by-part (opens-element _) over)) over)
 
 -- generic_head [ generic_block ]
-trace-headed : {i : Stack} (k : Stack) → step i kind.OpenParen ≡ go NoRole (once arguments ∷ perhaps (block inner) ∷ k) → Shut k → Trace (nt generic-head (opt generic-block end)) i k
+trace-headed :
+    {i : Stack} (k : Stack) → step i kind.OpenParen ≡ go NoRole (once arguments ∷ perhaps (block inner) ∷ k) → Shut k
+    → Trace (nt generic-head (opt generic-block end)) i k
 trace-headed k e h = by-part e (by-option {x = generic-block} (pass (block inner) _ k refl h) (inner, refl, h) over)
 
 -- "}" "{" generic_list "}"
@@ -254,21 +267,26 @@ trace generic-element₁ e = by-part {x = keyword} (λ t w. e .name t (is-keywor
 trace generic-element₂ e = by-token (e .name _ is-string) over
 trace generic-element₃ e = by-token (e .int) over
 trace generic-element₄ e = by-token (e .float) over
-trace generic-block₁ (p, e, h) = by-token e (by-element (opens-block p _) (by-token refl (skipped (pass-behind p _ h))) (by-token refl (skipped (pass-behind p _ h))))
+trace generic-block₁ (p, e, h) =
+    by-token e (by-element (opens-block p _) (by-token refl (skipped (pass-behind p _ h))) (by-token refl (skipped (pass-behind p _ h))))
 trace generic-block₂ (p, e, h) = by-token e (by-part (some-elements (opens-block p _) refl refl) (by-token refl over))
 trace generic-block₃ (p, e, h) = by-token e (by-part inside (by-token refl over))
 trace generic-block-list₁ inside = by-part inside (by-many (by-part behind-one over) over)
 trace generic-block-list₁ behind-one = by-part behind-one (by-many (by-part behind-one over) over)
 trace generic-block-elem₁ inside = by-part (opens-block _ _ .name) (trace-headed _ refl refl)
 trace generic-block-elem₁ (behind-one {k = k}) =
-    by-part {x = generic-block-elem-name} (λ t. found-name (headed (perhaps (block inner) ∷ [])) no-rule (often block-element ∷ mute kind.CloseBrace ∷ k) (step (mute kind.CloseBrace ∷ k) t) t) (trace-headed _ refl refl)
+    by-part
+    {x = generic-block-elem-name}
+    (λ t. found-name (headed (perhaps (block inner) ∷ [])) no-rule (often block-element ∷ mute kind.CloseBrace ∷ k) (step (mute kind.CloseBrace ∷ k) t) t)
+    (trace-headed _ refl refl)
 trace generic-block-elem-name₁ e = by-part {x = keyword} (λ t w. e t (is-keyword w)) over
 trace generic-block-elem-name₂ e = by-token (e _ is-string) over
 trace generic-top-level-item₁ e = by-token (enter e kind.String refl) (by-part refl (by-part refl over))
 trace generic-top-level-item₂ e = by-token (enter e kind.String refl) (by-part refl (by-part {x = generic-block} (top, refl, shut e) over))
 trace generic-top-level-item₃ e = by-token (enter e kind.String refl) (by-part refl (skipped (pass (block top) _ _ refl (shut e))))
 trace generic-list-block₁ e = by-token e (by-element (opens-block top _) (trace-second _ _ refl) (trace-second _ _ refl))
-trace rule-generic-block-elem₁ e = by-part {x = rule-generic-block-elem-name} (λ t w. enter e t (found-predicate _ t w), enter e kind.String refl) (trace-headed _ refl (shut e))
+trace rule-generic-block-elem₁ e =
+    by-part {x = rule-generic-block-elem-name} (λ t w. enter e t (found-predicate _ t w), enter e kind.String refl) (trace-headed _ refl (shut e))
 trace rule-generic-block-elem-name₁ e = by-part (e .0) over
 trace rule-generic-block-elem-name₂ e = by-token (e .1) over
 
@@ -294,4 +312,5 @@ follows d = follow d (by-part (first refl) over) (done refl)
 -- the signs that the reader follows are what it says
 pub read-from-complete : (k : Stack) (n : ℕ) (xs : List Tagged) → Follows k (map sign xs) → read-from k (map (λ x. x .token) xs) n ≡ parsed xs
 read-from-complete k n [] (done c) = rw c
-read-from-complete k n (x ∷ xs) (took {j = j} e f) = ap (λ s. onward s (x .token) (λ i. read-from i (map (λ y. y .token) xs) n)) e ∙ ap (joined-to x) (read-from-complete j n xs f)
+read-from-complete k n (x ∷ xs) (took {j = j} e f) =
+    ap (λ s. onward s (x .token) (λ i. read-from i (map (λ y. y .token) xs) n)) e ∙ ap (joined-to x) (read-from-complete j n xs f)

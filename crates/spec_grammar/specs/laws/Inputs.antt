@@ -99,15 +99,19 @@ find-keeps (rule (x tagged r) l rs) t k d h g w =
     let b = both (stack-may l) (rules-may rs) (a .1) in
     found (eqb (kind-number x) (kind-number t)) refl (find-keeps rs t k d (b .1) g w) (a .0) (all-append l k (b .0) g)
   where
-    found : (c : Bool) → eqb (kind-number x) (kind-number t) ≡ c → step-may t (find rs t k d) → may-say x r ≡ true → stack-may (l ++ k) ≡ true → step-may t (cond c (go r (l ++ k)) (find rs t k d))
+    found :
+        (c : Bool) → eqb (kind-number x) (kind-number t) ≡ c → step-may t (find rs t k d) → may-say x r ≡ true → stack-may (l ++ k) ≡ true
+        → step-may t (cond c (go r (l ++ k)) (find rs t k d))
     found true e later m s = (subst (λ (y : Kind). may-say y r ≡ true) (same-kind x t (subst T (sym e) tt)) m, s)
     found false e later m s = later
 
 step-keeps : (k : Stack) (t : Kind) → stack-may k ≡ true → step-may t (step k t)
 step-keeps [] t h = tt
 step-keeps (once x ∷ k) t h = let w = both (part-may x) (stack-may k) h in find-keeps (rules x) t k halt (rules-keep x (w .0)) (w .1) tt
-step-keeps (perhaps x ∷ k) t h = let w = both (part-may x) (stack-may k) h in find-keeps (rules x) t k (step k t) (rules-keep x (w .0)) (w .1) (step-keeps k t (w .1))
-step-keeps (often x ∷ k) t h = let w = both (part-may x) (stack-may k) h in find-keeps (rules x) t (often x ∷ k) (step k t) (rules-keep x (w .0)) h (step-keeps k t (w .1))
+step-keeps (perhaps x ∷ k) t h =
+    let w = both (part-may x) (stack-may k) h in find-keeps (rules x) t k (step k t) (rules-keep x (w .0)) (w .1) (step-keeps k t (w .1))
+step-keeps (often x ∷ k) t h =
+    let w = both (part-may x) (stack-may k) h in find-keeps (rules x) t (often x ∷ k) (step k t) (rules-keep x (w .0)) h (step-keeps k t (w .1))
 
 -- so does what is read
 abbrev outcome-may : Parse → Type 0
@@ -126,7 +130,9 @@ run-keeps k (t ∷ ts) n h = onwards (step k (t .kind)) (step-keeps k (t .kind) 
     with r (parsed xs) m e = cons m e
     with r (stopped p) m e = tt
 
-    onwards : (s : Step) → step-may (t .kind) s → ((j : Stack) → stack-may j ≡ true → outcome-may (read-from j ts n)) → outcome-may (onward s t (λ j. read-from j ts n))
+    onwards :
+        (s : Step) → step-may (t .kind) s → ((j : Stack) → stack-may j ≡ true → outcome-may (read-from j ts n))
+        → outcome-may (onward s t (λ j. read-from j ts n))
     onwards halt w f = tt
     onwards (go r j) w f = with r (read-from j ts n) (w .0) (f j (w .1))
 

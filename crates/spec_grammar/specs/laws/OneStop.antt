@@ -35,12 +35,15 @@ within (x ∷ b) (y ∷ c) t u d e p = further (let z : x ≡ y = cc in z) (with
 
 -- what begins a sentence up to a place behind t begins one up to t
 up-to : (b l : List Token) (t : Token) → Viable (kinds (b ++ (t ∷ l))) → Viable (kinds b ++ (t .kind ∷ []))
-up-to b l t h = begins-shorter (kinds b ++ (t .kind ∷ [])) (kinds l) (subst Viable (kinds-append b (t ∷ l) ∙ sym (append-assoc (kinds b) (t .kind ∷ []) (kinds l))) h)
+up-to b l t h =
+    begins-shorter (kinds b ++ (t .kind ∷ [])) (kinds l) (subst Viable (kinds-append b (t ∷ l) ∙ sym (append-assoc (kinds b) (t .kind ∷ []) (kinds l))) h)
 
 pub one-stop : (ts : List Token) (n p q : ℕ) → Stops ts n p → Stops ts n q → p ≡ q
 one-stop ts n p q a b = go p q a b
   where
-    tokens : (b c d e : List Token) (t u : Token) → Within b t c u → Viable (kinds b) → (Viable (kinds b ++ (t .kind ∷ [])) → ⊥) → Viable (kinds c) → (Viable (kinds c ++ (u .kind ∷ [])) → ⊥) → t .place ≡ u .place
+    tokens :
+        (b c d e : List Token) (t u : Token) → Within b t c u → Viable (kinds b) → (Viable (kinds b ++ (t .kind ∷ [])) → ⊥) → Viable (kinds c)
+        → (Viable (kinds c ++ (u .kind ∷ [])) → ⊥) → t .place ≡ u .place
     tokens b c d e t u (alike z) h i j k = ap (λ (w : Token). w .place) z
     tokens b c d e t u (earlier l z) h i j k = absurd (i (up-to b l t (subst (λ (w : List Token). Viable (kinds w)) z j)))
     tokens b c d e t u (later l z) h i j k = absurd (k (up-to c l u (subst (λ (w : List Token). Viable (kinds w)) z h)))
@@ -64,7 +67,8 @@ append-none [] = refl
 append-none (k ∷ ks) = ap (λ (l : List Kind). k ∷ l) (append-none ks)
 
 no-stop : (ts : List Token) (n p : ℕ) → Sentence (kinds ts) → Stops ts n p → ⊥
-no-stop ts n p s (at-token b t d e h i) = i (up-to b d t (record { rest = []; sentence = subst Sentence (ap kinds e ∙ sym (append-none (kinds (b ++ (t ∷ d))))) s }))
+no-stop ts n p s (at-token b t d e h i) =
+    i (up-to b d t (record { rest = []; sentence = subst Sentence (ap kinds e ∙ sym (append-none (kinds (b ++ (t ∷ d))))) s }))
 no-stop ts n p s (at-end h i) = i s
 
 pub stops-read : (ts : List Token) (n p : ℕ) → Stops ts n p → read ts n ≡ stopped p

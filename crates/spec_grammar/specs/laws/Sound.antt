@@ -72,7 +72,8 @@ Means hosts s r = Derives (nt hag-body end) s r
 Means (next-string x) s r = Derives (cm (STRING x end)) s r
 Means asg-block s r = Derives (nt asg-body end) s r
 Means asg-item s r = Derives (nt asg-body-item end) s r
-Means log-option s r = Derives (nt rule-head end) (kind.OpenParen tagged NoRole ∷ kind.Int tagged Level ∷ kind.Comma tagged NoRole ∷ kind.String tagged Permission ∷ s) r
+Means log-option s r =
+    Derives (nt rule-head end) (kind.OpenParen tagged NoRole ∷ kind.Int tagged Level ∷ kind.Comma tagged NoRole ∷ kind.String tagged Permission ∷ s) r
 Means rule-block s r = Derives (nt rule-body end) s r
 Means rule-item s r = Derives (nt rule-list-item end) s r
 Means element s r = Derives (nt generic-element end) s r
@@ -157,13 +158,16 @@ at-token : (a : Sign) → Keeps (token a) a []
 at-token a _ _ nil = take finish
 
 at-uag : Keeps item (kind.Uag tagged NoRole) (named UagName (perhaps users ∷ []))
-at-uag _ _ (take finish ⨾ take finish ⨾ take finish ⨾ b ⨾ nil) = expand asconfig-item₁ (expand uag-def₁ (take (expand uag-head₁ (take (take (take finish))) (optional b))) finish) finish
+at-uag _ _ (take finish ⨾ take finish ⨾ take finish ⨾ b ⨾ nil) =
+    expand asconfig-item₁ (expand uag-def₁ (take (expand uag-head₁ (take (take (take finish))) (optional b))) finish) finish
 
 at-hag : Keeps item (kind.Hag tagged NoRole) (named HagName (perhaps hosts ∷ []))
-at-hag _ _ (take finish ⨾ take finish ⨾ take finish ⨾ b ⨾ nil) = expand asconfig-item₂ (expand hag-def₁ (take (expand hag-head₁ (take (take (take finish))) (optional b))) finish) finish
+at-hag _ _ (take finish ⨾ take finish ⨾ take finish ⨾ b ⨾ nil) =
+    expand asconfig-item₂ (expand hag-def₁ (take (expand hag-head₁ (take (take (take finish))) (optional b))) finish) finish
 
 at-asg : Keeps item (kind.Asg tagged NoRole) (named AsgName (perhaps asg-block ∷ []))
-at-asg _ _ (take finish ⨾ take finish ⨾ take finish ⨾ b ⨾ nil) = expand asconfig-item₃ (expand asg-def₁ (take (expand asg-head₁ (take (take (take finish))) (optional b))) finish) finish
+at-asg _ _ (take finish ⨾ take finish ⨾ take finish ⨾ b ⨾ nil) =
+    expand asconfig-item₃ (expand asg-def₁ (take (expand asg-head₁ (take (take (take finish))) (optional b))) finish) finish
 
 at-unknown : Keeps item (kind.String tagged UnknownItem) (headed (perhaps (block top) ∷ []))
 at-unknown _ _ (take finish ⨾ h ⨾ without ⨾ nil) = expand asconfig-item₄ (expand generic-top-level-item₃ (take (first h finish)) finish) finish
@@ -185,11 +189,16 @@ at-asg-block _ _ (i ⨾ m ⨾ take finish ⨾ nil) = expand asg-body₁ (take (f
 at-inp : Keeps asg-item (kind.Inp tagged Input) (named Pvname [])
 at-inp _ _ (take finish ⨾ take finish ⨾ take finish ⨾ nil) = expand asg-body-item₁ (expand inp-config₁ (take (take (take (take finish)))) finish) finish
 
-at-rule : Keeps asg-item (kind.Rule tagged RuleWord) (mute kind.OpenParen ∷ once (token (kind.Int tagged Level)) ∷ mute kind.Comma ∷ string Permission ∷ once log-option ∷ perhaps rule-block ∷ [])
-at-rule _ _ (take finish ⨾ take finish ⨾ take finish ⨾ take finish ⨾ l ⨾ b ⨾ nil) = expand asg-body-item₂ (expand rule-config₁ (take (first l (optional b))) finish) finish
+at-rule :
+    Keeps asg-item
+    (kind.Rule tagged RuleWord)
+    (mute kind.OpenParen ∷ once (token (kind.Int tagged Level)) ∷ mute kind.Comma ∷ string Permission ∷ once log-option ∷ perhaps rule-block ∷ [])
+at-rule _ _ (take finish ⨾ take finish ⨾ take finish ⨾ take finish ⨾ l ⨾ b ⨾ nil) =
+    expand asg-body-item₂ (expand rule-config₁ (take (first l (optional b))) finish) finish
 
 at-log-option : Keeps log-option (kind.Comma tagged NoRole) (string LogOption ∷ mute kind.CloseParen ∷ [])
-at-log-option _ _ (take finish ⨾ take finish ⨾ nil) = expand rule-head₁ (take (expand rule-head-mandatory₁ (take (take (take finish))) (take (expand rule-log-option₁ (take finish) (take finish))))) finish
+at-log-option _ _ (take finish ⨾ take finish ⨾ nil) =
+    expand rule-head₁ (take (expand rule-head-mandatory₁ (take (take (take finish))) (take (expand rule-log-option₁ (take finish) (take finish))))) finish
 
 at-no-log-option : Keeps log-option (kind.CloseParen tagged NoRole) []
 at-no-log-option _ _ nil = expand rule-head₂ (take (expand rule-head-mandatory₁ (take (take (take finish))) (take finish))) finish
@@ -198,16 +207,19 @@ at-rule-block : Keeps rule-block (kind.OpenBrace tagged NoRole) (once rule-item 
 at-rule-block _ _ (i ⨾ m ⨾ take finish ⨾ nil) = expand rule-body₁ (take (expand rule-list₁ (first i (repeated m finish)) (take finish))) finish
 
 at-rule-uag : Keeps rule-item (kind.Uag tagged NoRole) (mute kind.OpenParen ∷ string-list UagNamed (mute kind.CloseParen ∷ []))
-at-rule-uag _ _ (take finish ⨾ take finish ⨾ m ⨾ take finish ⨾ nil) = expand rule-list-item₁ (take (take (expand rule-uag-list₁ (take (repeated m finish)) (take finish)))) finish
+at-rule-uag _ _ (take finish ⨾ take finish ⨾ m ⨾ take finish ⨾ nil) =
+    expand rule-list-item₁ (take (take (expand rule-uag-list₁ (take (repeated m finish)) (take finish)))) finish
 
 at-rule-hag : Keeps rule-item (kind.Hag tagged NoRole) (mute kind.OpenParen ∷ string-list HagNamed (mute kind.CloseParen ∷ []))
-at-rule-hag _ _ (take finish ⨾ take finish ⨾ m ⨾ take finish ⨾ nil) = expand rule-list-item₂ (take (take (expand rule-hag-list₁ (take (repeated m finish)) (take finish)))) finish
+at-rule-hag _ _ (take finish ⨾ take finish ⨾ m ⨾ take finish ⨾ nil) =
+    expand rule-list-item₂ (take (take (expand rule-hag-list₁ (take (repeated m finish)) (take finish)))) finish
 
 at-calc : Keeps rule-item (kind.Calc tagged CalcWord) (named Calculation [])
 at-calc _ _ (take finish ⨾ take finish ⨾ take finish ⨾ nil) = expand rule-list-item₃ (take (take (take (take finish)))) finish
 
 at-predicate : (a : Sign) → ((r : Signs) → Derives (nt rule-generic-block-elem-name end) (a ∷ r) r) → Keeps rule-item a (headed (perhaps (block inner) ∷ []))
-at-predicate _ n _ _ (take finish ⨾ h ⨾ b ⨾ nil) = expand rule-list-item₄ (expand rule-generic-block-elem₁ (first (n _) (first h (inner-block b))) finish) finish
+at-predicate _ n _ _ (take finish ⨾ h ⨾ b ⨾ nil) =
+    expand rule-list-item₄ (expand rule-generic-block-elem₁ (first (n _) (first h (inner-block b))) finish) finish
 
 at-element : (t : Kind) → Element t → Keeps element (t tagged NoRole) []
 at-element _ e _ _ nil = as-element e finish
@@ -217,7 +229,8 @@ at-next-element _ _ (e ⨾ nil) = take e
 
 at-argument : (t : Kind) → Element t → Keeps arguments (t tagged NoRole) (more-until kind.CloseParen)
 at-argument _ e _ _ (enough ⨾ take finish ⨾ nil) = expand generic-head₂ (take (as-element e (take finish))) finish
-at-argument _ e _ _ (further (take d) m ⨾ take finish ⨾ nil) = expand generic-head₃ (take (expand generic-list₁ (as-element e (take (first d (repeated m finish)))) (take finish))) finish
+at-argument _ e _ _ (further (take d) m ⨾ take finish ⨾ nil) =
+    expand generic-head₃ (take (expand generic-list₁ (as-element e (take (first d (repeated m finish)))) (take finish))) finish
 
 at-no-argument : Keeps arguments (kind.CloseParen tagged NoRole) []
 at-no-argument _ _ nil = expand generic-head₁ (take (take finish)) finish
@@ -234,10 +247,16 @@ at-one top _ _ (without ⨾ nil) t e = one (expand generic-block₁ (take (as-el
 at-one top _ _ (given d ⨾ nil) t e = two (expand generic-list-block₁ (take (as-element e (take d))) finish)
 
 at-list : (p : Depth) → Keeps (block-number p) (kind.Comma tagged NoRole) (once element ∷ more-until kind.CloseBrace)
-at-list p _ _ (d ⨾ m ⨾ take finish ⨾ nil) t e = one (expand generic-block₂ (take (expand generic-list₁ (as-element e (take (first d (repeated m finish)))) (take finish))) finish)
+at-list p _ _ (d ⨾ m ⨾ take finish ⨾ nil) t e =
+    one (expand generic-block₂ (take (expand generic-list₁ (as-element e (take (first d (repeated m finish)))) (take finish))) finish)
 
-at-elements : (p : Depth) → Keeps (block-name p) (kind.OpenParen tagged NoRole) (once arguments ∷ perhaps (block inner) ∷ often block-element ∷ mute kind.CloseBrace ∷ [])
-at-elements p _ _ (h ⨾ b ⨾ m ⨾ take finish ⨾ nil) t n = one (expand generic-block₃ (take (expand generic-block-list₁ (expand generic-block-elem₁ (as-name n (first h (inner-block b))) (repeated m finish)) (take finish))) finish)
+at-elements :
+    (p : Depth)
+    → Keeps (block-name p) (kind.OpenParen tagged NoRole) (once arguments ∷ perhaps (block inner) ∷ often block-element ∷ mute kind.CloseBrace ∷ [])
+at-elements p _ _ (h ⨾ b ⨾ m ⨾ take finish ⨾ nil) t n =
+    one
+    (expand generic-block₃
+    (take (expand generic-block-list₁ (expand generic-block-elem₁ (as-name n (first h (inner-block b))) (repeated m finish)) (take finish))) finish)
 
 at-second-block : Keeps second-block (kind.OpenBrace tagged NoRole) (once element ∷ mute kind.Comma ∷ once element ∷ more-until kind.CloseBrace)
 at-second-block _ _ (d ⨾ take finish ⨾ e ⨾ m ⨾ take finish ⨾ nil) = take (expand generic-list₁ (first d (take (first e (repeated m finish)))) (take finish))
@@ -248,7 +267,9 @@ Holds x no-rule = Unit
 Holds x (rule a l rs) = Keeps x a l × Holds x rs
 
 -- the same rule for each kind of a class, from one proof over the class
-holds-non-rules : (x : Expected) (v : Role) (l : Stack) (rs : Rules) → ((t : Kind) → Non-rule-keyword t → Keeps x (t tagged v) l) → Holds x rs → Holds x (non-rule-words v l rs)
+holds-non-rules :
+    (x : Expected) (v : Role) (l : Stack) (rs : Rules) → ((t : Kind) → Non-rule-keyword t → Keeps x (t tagged v) l) → Holds x rs
+    → Holds x (non-rule-words v l rs)
 holds-non-rules x v l rs f h = (f _ is-asg, (f _ is-rule, (f _ is-inp, h)))
 
 holds-names : (x : Expected) (l : Stack) (rs : Rules) → ((t : Kind) → Name t → Keeps x (t tagged NoRole) l) → Holds x rs → Holds x (names l rs)
@@ -265,8 +286,11 @@ holds-names x l rs f h = (
 
 holds-predicates : Holds rule-item predicates
 holds-predicates =
-    holds-non-rules rule-item UnknownPredicate (headed (perhaps (block inner) ∷ [])) (rule (kind.String tagged UnknownPredicate) (headed (perhaps (block inner) ∷ [])) no-rule)
-    (λ t n. at-predicate _ (λ r. expand rule-generic-block-elem-name₁ (as-non-rule n finish) finish)) (at-predicate _ (λ r. expand rule-generic-block-elem-name₂ (take finish) finish), tt)
+    holds-non-rules rule-item UnknownPredicate
+    (headed (perhaps (block inner) ∷ []))
+    (rule (kind.String tagged UnknownPredicate) (headed (perhaps (block inner) ∷ [])) no-rule)
+    (λ t n. at-predicate _ (λ r. expand rule-generic-block-elem-name₁ (as-non-rule n finish) finish))
+    (at-predicate _ (λ r. expand rule-generic-block-elem-name₂ (take finish) finish), tt)
 
 -- every rule of every part keeps its meaning
 holds : (x : Expected) → Holds x (rules x)
@@ -282,10 +306,21 @@ holds rule-block = (at-rule-block, tt)
 holds rule-item = (at-rule-uag, (at-rule-hag, (at-calc, holds-predicates)))
 holds element = holds-names element [] (numbers [] no-rule) (λ t n. at-element t (is-name n)) (at-element _ is-int, (at-element _ is-float, tt))
 holds next-element = (at-next-element, tt)
-holds arguments = holds-names arguments (more-until kind.CloseParen) (numbers (more-until kind.CloseParen) (rule (kind.CloseParen tagged NoRole) [] no-rule)) (λ t n. at-argument t (is-name n)) (at-argument _ is-int, (at-argument _ is-float, (at-no-argument, tt)))
+holds arguments =
+    holds-names arguments
+    (more-until kind.CloseParen)
+    (numbers (more-until kind.CloseParen) (rule (kind.CloseParen tagged NoRole) [] no-rule))
+    (λ t n. at-argument t (is-name n))
+    (at-argument _ is-int, (at-argument _ is-float, (at-no-argument, tt)))
 holds block-element = holds-names block-element (headed (perhaps (block inner) ∷ [])) no-rule at-block-element tt
 holds (block p) = (at-only {x = block-inside p}, tt)
-holds (block-inside p) = holds-names (block-inside p) (once (block-name p) ∷ []) (numbers (once (block-number p) ∷ []) no-rule) (λ t n s r q. at-only {x = block-name p} s r q t n) (λ s r q. at-only {x = block-number p} s r q _ is-int, (λ s r q. at-only {x = block-number p} s r q _ is-float, tt))
+holds (block-inside p) =
+    holds-names
+    (block-inside p)
+    (once (block-name p) ∷ [])
+    (numbers (once (block-number p) ∷ []) no-rule)
+    (λ t n s r q. at-only {x = block-name p} s r q t n)
+    (λ s r q. at-only {x = block-number p} s r q _ is-int, (λ s r q. at-only {x = block-number p} s r q _ is-float, tt))
 holds (block-name p) = (λ s r q t n. at-one p s r q t (is-name n), (λ s r q t n. at-list p s r q t (is-name n), (at-elements p, tt)))
 holds (block-number p) = (at-one p, (at-list p, tt))
 holds second-block = (at-second-block, tt)
@@ -345,7 +380,10 @@ no-words (often x ∷ k) c = enough ⨾ no-words k c
 
 -- the kind of a number
 decoded : ℕ → Kind
-decoded n = getD (kind.Uag ∷ kind.Hag ∷ kind.Asg ∷ kind.Rule ∷ kind.Calc ∷ kind.Inp ∷ kind.Int ∷ kind.Float ∷ kind.String ∷ kind.OpenParen ∷ kind.CloseParen ∷ kind.OpenBrace ∷ kind.CloseBrace ∷ kind.Comma ∷ []) n kind.Comma
+decoded n =
+    getD
+    (kind.Uag ∷ kind.Hag ∷ kind.Asg ∷ kind.Rule ∷ kind.Calc ∷ kind.Inp ∷ kind.Int ∷ kind.Float ∷ kind.String ∷ kind.OpenParen ∷ kind.CloseParen ∷
+    kind.OpenBrace ∷ kind.CloseBrace ∷ kind.Comma ∷ []) n kind.Comma
 
 decoded-number : (t : Kind) → decoded (kind-number t) ≡ t
 unfolding decoded
@@ -400,9 +438,22 @@ pub step-sound : (k j : Stack) (t : Kind) (v : Role) (s r : Signs) → step k t 
 step-sound [] j t v s r e q = never e
 step-sound (once x ∷ k) j t v s r e q = find-sound x k j t v s r q (Seq (once x ∷ k) (t tagged v ∷ s) r) (λ u m z. m ⨾ z) halt never (rules x) (holds x) e
 step-sound (perhaps x ∷ k) j t v s r e q =
-    find-sound x k j t v s r q (Seq (perhaps x ∷ k) (t tagged v ∷ s) r) (λ u m z. given m ⨾ z) (step k t) (λ f. without ⨾ step-sound k j t v s r f q) (rules x) (holds x) e
+    find-sound x k j t v s r q
+    (Seq (perhaps x ∷ k) (t tagged v ∷ s) r)
+    (λ u m z. given m ⨾ z)
+    (step k t)
+    (λ f. without ⨾ step-sound k j t v s r f q)
+    (rules x)
+    (holds x) e
 step-sound (often x ∷ k) j t v s r e q =
-    find-sound x (often x ∷ k) j t v s r q (Seq (often x ∷ k) (t tagged v ∷ s) r) (λ u m z. once-more m z) (step k t) (λ f. enough ⨾ step-sound k j t v s r f q) (rules x) (holds x) e
+    find-sound x
+    (often x ∷ k) j t v s r q
+    (Seq (often x ∷ k) (t tagged v ∷ s) r)
+    (λ u m z. once-more m z)
+    (step k t)
+    (λ f. enough ⨾ step-sound k j t v s r f q)
+    (rules x)
+    (holds x) e
 
 -- what the reader starts with stands for an acf_file
 pub file : {s : Signs} → Seq start s [] → Acf-file s
@@ -431,7 +482,8 @@ onward-said (go v j) t f xs e = split (f j) refl e
     split (stopped p) g h = said-not-stopped (sym h)
 
 -- what the reader says, in the tokens' places, is what the stack stands for
-pub read-from-sound : (k : Stack) (ts : List Token) (n : ℕ) (xs : List Tagged) → read-from k ts n ≡ parsed xs → (map (λ x. x .token) xs ≡ ts) × Seq k (map sign xs) []
+pub read-from-sound :
+    (k : Stack) (ts : List Token) (n : ℕ) (xs : List Tagged) → read-from k ts n ≡ parsed xs → (map (λ x. x .token) xs ≡ ts) × Seq k (map sign xs) []
 read-from-sound k [] n xs e = ends (may-end k) refl e
   where
     ends : (b : Bool) → may-end k ≡ b → cond b (parsed []) (stopped n) ≡ parsed xs → (map (λ x. x .token) xs ≡ []) × Seq k (map sign xs) []
@@ -440,4 +492,7 @@ read-from-sound k [] n xs e = ends (may-end k) refl e
 read-from-sound k (t ∷ ts) n xs e =
     let o = onward-said (step k (t .kind)) t (λ j. read-from j ts n) xs e in
     let z = read-from-sound (o .stack) ts n (o .rest) (o .later) in
-    subst (λ ys. (map (λ x. x .token) ys ≡ t ∷ ts) × Seq k (map sign ys) []) (o .all) (ap (λ l. t ∷ l) (z .0), step-sound k (o .stack) (t .kind) (o .role) (map sign (o .rest)) [] (o .stepped) (z .1))
+    subst
+    (λ ys. (map (λ x. x .token) ys ≡ t ∷ ts) × Seq k (map sign ys) [])
+    (o .all)
+    (ap (λ l. t ∷ l) (z .0), step-sound k (o .stack) (t .kind) (o .role) (map sign (o .rest)) [] (o .stepped) (z .1))

@@ -31,7 +31,13 @@ live k = let w = words k in record { rest = map kind-of (w .0); signs = w .0; sp
 -- one step earlier
 module _ {k j : Stack} {t : Kind} {v : Role} (e : step k t ≡ go v j) where
   live-on : {ks : List Kind} → Live j ks → Live k (t ∷ ks)
-  live-on l = record { rest = l .rest; signs = t tagged v ∷ l .signs; spelled = ap (λ us. t ∷ us) (l .spelled); means = step-sound k j t v (l .signs) [] e (l .means) }
+  live-on l =
+      record {
+        rest = l .rest;
+        signs = t tagged v ∷ l .signs;
+        spelled = ap (λ us. t ∷ us) (l .spelled);
+        means = step-sound k j t v (l .signs) [] e (l .means);
+      }
 
   unread-on : {ks : List Kind} → Unread j ks → Unread k (t ∷ ks)
   unread-on u _ q (done c) = let z : _≡_ {A = ℕ} 0 1 = cc in omega arith
@@ -42,7 +48,9 @@ module _ {k j : Stack} {t : Kind} {v : Role} (e : step k t ≡ go v j) where
 
 -- Stops, from the stack k on
 pub data Halts (k : Stack) (ts : List Token) (n : ℕ) : ℕ → Type 0 where
-  halts-at : (before : List Token) (t : Token) (behind : List Token) → ts ≡ before ++ (t ∷ behind) → Live k (kinds before) → ((rest : List Kind) → Unread k (kinds before ++ (t .kind ∷ rest))) → Halts k ts n (t .place)
+  halts-at :
+      (before : List Token) (t : Token) (behind : List Token) → ts ≡ before ++ (t ∷ behind) → Live k (kinds before)
+      → ((rest : List Kind) → Unread k (kinds before ++ (t .kind ∷ rest))) → Halts k ts n (t .place)
   halts-end : Live k (kinds ts) → Unread k (kinds ts) → Halts k ts n n
 
 -- the same place, one step earlier
@@ -74,7 +82,9 @@ read-from-halts k [] n p e = ends (may-end k) refl e
     ends false c h = let same : n ≡ p = cc in subst (Halts k [] n) same (halts-end (live k) (unfinished c))
 read-from-halts k (t ∷ ts) n p e = steps (step k (t .kind)) refl (λ j. read-from-halts j ts n p) e
   where
-    steps : (s : Step) → step k (t .kind) ≡ s → ((j : Stack) → read-from j ts n ≡ stopped p → Halts j ts n p) → onward s t (λ j. read-from j ts n) ≡ stopped p → Halts k (t ∷ ts) n p
+    steps :
+        (s : Step) → step k (t .kind) ≡ s → ((j : Stack) → read-from j ts n ≡ stopped p → Halts j ts n p) → onward s t (λ j. read-from j ts n) ≡ stopped p
+        → Halts k (t ∷ ts) n p
     steps halt f ih h = let same : t .place ≡ p = cc in subst (Halts k (t ∷ ts) n) same (halts-at [] t ts refl (live k) (refused f))
     steps (go v j) f ih h = later t f (ih j (joined-stopped _ _ h))
 

@@ -66,8 +66,12 @@ module _ {A : Type 0} where
   first-is p (y ∷ ys) x e = go (p y) refl (first-is p ys x) e
     where
       go : (b : Bool) → p y ≡ b → (first p ys ≡ some x → First p ys x) → first-if b y (first p ys) ≡ some x → First p (y ∷ ys) x
-      go true h f g = let same : y ≡ x = cc in record { earlier = []; later = ys; among = ap (λ (z : A). z ∷ ys) same; fail = nil; pass = subst (λ (z : A). p z ≡ true) same h }
-      go false h f g = let w = f g in record { earlier = y ∷ w .earlier; later = w .later; among = ap (λ (zs : List A). y ∷ zs) (w .among); fail = cons h (w .fail); pass = w .pass }
+      go true h f g =
+          let same : y ≡ x = cc in
+          record { earlier = []; later = ys; among = ap (λ (z : A). z ∷ ys) same; fail = nil; pass = subst (λ (z : A). p z ≡ true) same h }
+      go false h f g =
+          let w = f g in
+          record { earlier = y ∷ w .earlier; later = w .later; among = ap (λ (zs : List A). y ∷ zs) (w .among); fail = cons h (w .fail); pass = w .pass }
 
   pub none-first : (p : A → Bool) {xs : List A} → Every (λ x. p x ≡ false) xs → first p xs ≡ none
   none-first p nil = refl

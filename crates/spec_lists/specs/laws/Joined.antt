@@ -27,7 +27,8 @@ module _ {A : Type 0} where
   part-runs pre (x ∷ xs) post =
       ap₂
       (λ (y : List A) (ys : List (List A)). y ∷ ys)
-      (ap (λ (l : List A). part (record { first = length pre; count = length x }) (pre ++ l)) (append-assoc x (joined xs) post) ∙ part-seam pre x (joined xs ++ post))
+      (ap (λ (l : List A). part (record { first = length pre; count = length x }) (pre ++ l)) (append-assoc x (joined xs) post)
+      ∙ part-seam pre x (joined xs ++ post))
       (subst
       (λ (l : List A). map (λ r. part r l) (runs (length pre + length x) xs) ≡ xs)
       moved
@@ -88,7 +89,10 @@ module _ {A B : Type 0} where
   pub runs-map : (f : A → B) (n : ℕ) (xs : List (List A)) → runs n (map (map f) xs) ≡ runs n xs
   runs-map f n [] = refl
   runs-map f n (x ∷ xs) =
-      ap₂ (λ (a : ℕ) (rs : List Run). record { first = n; count = a } ∷ rs) (length-map x f) (ap (λ (a : ℕ). runs (n + a) (map (map f) xs)) (length-map x f) ∙ runs-map f (n + length x) xs)
+      ap₂
+      (λ (a : ℕ) (rs : List Run). record { first = n; count = a } ∷ rs)
+      (length-map x f)
+      (ap (λ (a : ℕ). runs (n + a) (map (map f) xs)) (length-map x f) ∙ runs-map f (n + length x) xs)
 
 module _ {A B C : Type 0} where
   pub map-map : (g : B → C) (f : A → B) (xs : List A) → map g (map f xs) ≡ map (λ x. g (f x)) xs

@@ -25,11 +25,15 @@ module _ (f : ℕ → ℕ) where
       go true e = e
       go false e = refl
 
-  at : (a b : List ℕ) (i : ℕ) → i < length a → i < length b → same (map f (drop i a)) (drop i b) ≡ eqb (f (getD a i 0)) (getD b i 0) && same (map f (drop (i + 1) a)) (drop (i + 1) b)
+  at :
+      (a b : List ℕ) (i : ℕ) → i < length a → i < length b
+      → same (map f (drop i a)) (drop i b) ≡ eqb (f (getD a i 0)) (getD b i 0) && same (map f (drop (i + 1) a)) (drop (i + 1) b)
   at a b i h l = rw (add-one i, drop-cons a i 0 h, drop-cons b i 0 l)
 
   -- the bytes at i are the same, so the rest decides; they differ; nothing is left
-  pub same-on : (a b : List ℕ) (i : ℕ) → i < length a → i < length b → f (getD a i 0) ≡ getD b i 0 → same (map f (drop i a)) (drop i b) ≡ same (map f (drop (i + 1) a)) (drop (i + 1) b)
+  pub same-on :
+      (a b : List ℕ) (i : ℕ) → i < length a → i < length b → f (getD a i 0) ≡ getD b i 0
+      → same (map f (drop i a)) (drop i b) ≡ same (map f (drop (i + 1) a)) (drop (i + 1) b)
   same-on a b i h l e = at a b i h l ∙ rw (eq-eqb (f (getD a i 0)) (getD b i 0) e)
 
   pub same-off : (a b : List ℕ) (i : ℕ) → i < length a → i < length b → (f (getD a i 0) ≡ getD b i 0 → ⊥) → same (map f (drop i a)) (drop i b) ≡ false

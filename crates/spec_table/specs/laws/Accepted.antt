@@ -127,7 +127,9 @@ module _ (xs : List Tagged) where
 
     -- a rule's references to user groups, then those to host groups
     sum-references :
-        sum (λ p. sum (λ q. sum-of (has-role UagNamed) m (q .body) + (sum-of (has-role HagNamed) m (q .body) + 0)) (clauses RuleWord (p .body))) (clauses AsgName xs)
+        sum
+        (λ p. sum (λ q. sum-of (has-role UagNamed) m (q .body) + (sum-of (has-role HagNamed) m (q .body) + 0)) (clauses RuleWord (p .body)))
+        (clauses AsgName xs)
         ≤ sum-of (has-role UagNamed) m xs + sum-of (has-role HagNamed) m xs
     sum-references = omega (arith, both xs, sum-deep RuleWord (λ ys. weighed UagNamed ys + (weighed HagNamed ys + 0)) weight (λ ys. omega (arith, both ys)))
       where
@@ -141,7 +143,9 @@ module _ (xs : List Tagged) where
         both = sum-plus (λ x. cond (has-role UagNamed x) (m x) 0) (λ x. cond (has-role HagNamed x) (m x) 0)
 
   -- the first token that says u of each part
-  sum-first : (r u : Role) → sum (λ p. sum (λ q. length (Option·getD (head-of (texts u (q .body))) [])) (clauses r (p .body))) (clauses AsgName xs) ≤ sum-of (has-role u) size xs
+  sum-first :
+      (r u : Role)
+      → sum (λ p. sum (λ q. length (Option·getD (head-of (texts u (q .body))) [])) (clauses r (p .body))) (clauses AsgName xs) ≤ sum-of (has-role u) size xs
   sum-first r u = sum-deep r (λ ys. length (Option·getD (head-of (texts u ys)) [])) _ (λ ys. omega (arith, first-text (texts u ys), sum-texts u length ys))
 
   -- all strings together are no longer than all tokens
@@ -174,7 +178,10 @@ accepted-fits xs h b letters =
     record {
       uag-count = simp (length-sum, sums) (omega (arith, sum-heads UagName one xs, counted user-groups (UagName ∷ []) (λ x. once x .user-group)));
       hag-count = simp (length-sum, sums) (omega (arith, sum-heads HagName one xs, counted host-groups (HagName ∷ []) (λ x. once x .host-group)));
-      member-count = simp (length-sum, sums) (omega (arith, sum-each xs one UagName User, sum-each xs one HagName Host, counted members (User ∷ Host ∷ []) (λ x. once x .member)));
+      member-count =
+          simp
+          (length-sum, sums)
+          (omega (arith, sum-each xs one UagName User, sum-each xs one HagName Host, counted members (User ∷ Host ∷ []) (λ x. once x .member)));
       asg-count = simp (length-sum, sums) (omega (arith, sum-heads AsgName one xs, counted access-groups (AsgName ∷ []) (λ x. once x .access-group)));
       input-count = simp (length-sum, sums) (omega (arith, sum-inner xs one Input, counted inputs (Input ∷ []) (λ x. once x .input)));
       rule-count = simp (length-sum, sums) (omega (arith, sum-inner xs one RuleWord, counted rules (RuleWord ∷ []) (λ x. once x .rule)));
@@ -191,7 +198,9 @@ accepted-fits xs h b letters =
           (cons (every-map _ (every-map _ (heads-short AsgName refl)))
           (cons (every-map _ (every-link all-short (λ p w. first-short (texts-short Pvname refl (w .body)))))
           (cons (every-map _ (every-joined (every-joined (every-map _ (every-rule all-short (λ p w. cons (every-map _ (texts-short UagNamed refl (w .body))) (cons (every-map _ (texts-short HagNamed refl (w .body))) nil))))))) nil)))));
-      calculations = every-rule short-and-calculated (λ p w. first-calculation (every-texts Calculation (λ x s k. (short-by longest-calculation Calculation refl x s (k .0), k .1 s)) (w .body)));
+      calculations =
+          every-rule short-and-calculated
+          (λ p w. first-calculation (every-texts Calculation (λ x s k. (short-by longest-calculation Calculation refl x s (k .0), k .1 s)) (w .body)));
       letters = every-link letters (λ p w. w .head (w .said));
       levels = every-rule letters (λ p w. level-small (texts Level (p .body)));
     }
@@ -228,7 +237,12 @@ pub fits : (s : List ℕ) (xs : List Tagged) → verdict s ≡ accept xs → Fit
 fits s xs e =
     let a = accepted-is s xs e in
     let t = a .says .reading .tokens in
-    accepted-fits xs (unanswered (contexts xs) (a .uncaused)) (bound a) (every-both inputs (reads-inputs (a .says .spelled) xs (a .says .reading)) (from-tokens xs (subst (Every Spelled) (sym t) (scanned-inputs s (a .says .spelled) (a .says .spelling)))))
+    accepted-fits xs
+    (unanswered (contexts xs) (a .uncaused))
+    (bound a)
+    (every-both inputs
+    (reads-inputs (a .says .spelled) xs (a .says .reading))
+    (from-tokens xs (subst (Every Spelled) (sym t) (scanned-inputs s (a .says .spelled) (a .says .spelling)))))
   where
     Spelled : Token → Type 0
     Spelled t = t .kind ≡ Inp → link-letter (t .text) ≤ greatest-letter
@@ -236,8 +250,14 @@ fits s xs e =
     bound : (a : Acceptable s xs) → total (map (λ x. length (x .token .text)) xs) ≤ most-bytes
     bound a =
         let b = scanned-bytes s (a .says .spelled) (a .says .spelling) in
-        let m = sym (map-map (λ (t : Token). length (t .text)) (λ (x : Tagged). x .token) xs) ∙ ap (map (λ (t : Token). length (t .text))) (a .says .reading .tokens) in
+        let m =
+        sym (map-map (λ (t : Token). length (t .text)) (λ (x : Tagged). x .token) xs)
+        ∙ ap (map (λ (t : Token). length (t .text))) (a .says .reading .tokens) in
         rw m (let c = a .short in omega arith)
 
     inputs : (x : Tagged) → may-say (x .token .kind) (x .role) ≡ true → Spelled (x .token) → has-role Input x ≡ true → link-letter (text x) ≤ greatest-letter
-    inputs x m sp i = sp (same-kind (x .token .kind) Inp (subst (λ (b : Bool). lib.Dec.T b) (sym (subst (λ (b : Bool). cond b (eqb (kind-number (x .token .kind)) (kind-number Inp)) true ≡ true) i m)) tt))
+    inputs x m sp i =
+        sp
+        (same-kind
+        (x .token .kind) Inp
+        (subst (λ (b : Bool). lib.Dec.T b) (sym (subst (λ (b : Bool). cond b (eqb (kind-number (x .token .kind)) (kind-number Inp)) true ≡ true) i m)) tt))

@@ -87,7 +87,9 @@ module _ (c : Content) (ok : Sound c) where
       (every-implies (λ r h. first-word r h) (runs-within 65535 header-bytes (blocks c) (omega arith)))))
     where
       few : (s : Section) → Word (length (c .records s))
-      few s = omega (arith, ok .count s, each (λ s. most s ≤ 1024) (omega arith) (omega arith) (omega arith) (omega arith) (omega arith) (omega arith) (omega arith) s)
+      few s =
+          omega
+          (arith, ok .count s, each (λ s. most s ≤ 1024) (omega arith) (omega arith) (omega arith) (omega arith) (omega arith) (omega arith) (omega arith) s)
 
       first-word : (r : Run) → Within 65535 r → Word (r .first)
       first-word r h = omega arith
@@ -122,7 +124,9 @@ module _ (c : Content) (ok : Sound c) where
       ∙ ap (λ (b : List ℕ). map (λ r. part r b) (runs header-bytes (blocks c))) (laid rest)
       ∙ part-runs (spelled-out (header c)) (blocks c) rest
 
-  records-back : (rest : List ℕ) (s : Section) → records-of (width s) (count-of (layout c ++ rest) (order s)) (words (part (extent (layout c ++ rest) s) (layout c ++ rest))) ≡ c .records s
+  records-back :
+      (rest : List ℕ) (s : Section)
+      → records-of (width s) (count-of (layout c ++ rest) (order s)) (words (part (extent (layout c ++ rest) s) (layout c ++ rest))) ≡ c .records s
   records-back rest s =
       ap₂
       (λ (n : ℕ) (l : List ℕ). records-of (width s) n (words l))
@@ -150,7 +154,8 @@ module _ (c : Content) (ok : Sound c) where
       (eq-eqb (form-of (layout c ++ rest)) form (form-back rest))
       (ap₂
       _&&_
-      (ap₂ (λ (rs : List Run) (e : ℕ). in-turn header-bytes rs e) (extents-back rest) (total-back rest) ∙ in-turn-runs header-bytes (length (layout c)) (blocks c) (sym sized))
+      (ap₂ (λ (rs : List Run) (e : ℕ). in-turn header-bytes rs e) (extents-back rest) (total-back rest)
+      ∙ in-turn-runs header-bytes (length (layout c)) (blocks c) (sym sized))
       (le-leb (total-of (layout c ++ rest)) (length (layout c ++ rest)) (omega (arith, total-back rest)))))
 
   -- such bytes are a table if what they hold is

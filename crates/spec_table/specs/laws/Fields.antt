@@ -68,7 +68,8 @@ taken-from c (suc f) (suc n) [] h = refl
 taken-from c (suc f) (suc n) (x ∷ l) h = taken-from c f n l (omega arith)
 
 -- a part of a part
-pub part-part : (r q : Run) (b : List ℕ) → r .first + r .count ≤ q .count → part r (part q b) ≡ part (record { first = q .first + r .first; count = r .count }) b
+pub part-part :
+    (r q : Run) (b : List ℕ) → r .first + r .count ≤ q .count → part r (part q b) ≡ part (record { first = q .first + r .first; count = r .count }) b
 part-part r q b h = taken-from (r .count) (r .first) (q .count) (drop (q .first) b) h ∙ ap (take (r .count)) (drop-drop (r .first) (q .first) b)
 
 in-turn-end : (n e : ℕ) (rs : List Run) → in-turn n rs e ≡ true → n ≤ e
@@ -89,8 +90,20 @@ in-turn-between n e (r ∷ rs) h =
 
 -- the runs of eight sections, one by one
 inside-each : (b : List ℕ) (e : ℕ) → e ≤ length b → Between header-bytes e (extents b) → ((s : Section) → Inside b (extent b s)) × Inside b (strings-extent b)
-inside-each b e l (one-between a₁ b₁ (one-between a₂ b₂ (one-between a₃ b₃ (one-between a₄ b₄ (one-between a₅ b₅ (one-between a₆ b₆ (one-between a₇ b₇ (one-between a₈ b₈ none-between)))))))) =
-    (each (λ s. Inside b (extent b s)) (in-side a₁ b₁) (in-side a₂ b₂) (in-side a₃ b₃) (in-side a₄ b₄) (in-side a₅ b₅) (in-side a₆ b₆) (in-side a₇ b₇), in-side a₈ b₈)
+inside-each b e l
+    (one-between a₁ b₁
+    (one-between a₂ b₂ (one-between a₃ b₃ (one-between a₄ b₄ (one-between a₅ b₅ (one-between a₆ b₆ (one-between a₇ b₇ (one-between a₈ b₈ none-between)))))))) = (
+      each
+          (λ s. Inside b (extent b s))
+          (in-side a₁ b₁)
+          (in-side a₂ b₂)
+          (in-side a₃ b₃)
+          (in-side a₄ b₄)
+          (in-side a₅ b₅)
+          (in-side a₆ b₆)
+          (in-side a₇ b₇),
+      in-side a₈ b₈,
+    )
   where
     in-side : {r : Run} → header-bytes ≤ r .first → r .first + r .count ≤ e → Inside b r
     in-side {r} x y = record { behind-header = x; ends = omega arith }
@@ -109,7 +122,10 @@ module _ (b : List ℕ) (h : sections-stand b ≡ true) where
       (z .0, leb-true (total-of b) (length b) (z .1))
 
   pub has-header : header-bytes ≤ length b
-  has-header = leb-true header-bytes (length b) (both (leb header-bytes (length b)) (eqb (form-of b) form && (in-turn header-bytes (extents b) (total-of b) && leb (total-of b) (length b))) h .0)
+  has-header =
+      leb-true header-bytes
+      (length b)
+      (both (leb header-bytes (length b)) (eqb (form-of b) form && (in-turn header-bytes (extents b) (total-of b) && leb (total-of b) (length b))) h .0)
 
   pub section-inside : (s : Section) → Inside b (extent b s)
   section-inside = inside-each b (total-of b) (sections-of .1) (in-turn-between header-bytes (total-of b) (extents b) (sections-of .0)) .0
@@ -141,6 +157,8 @@ module _ (b : List ℕ) (h : sections-stand b ≡ true) where
   strings-count = part-length (strings-extent b) b (strings-inside .ends)
 
   -- a string is a part of the bytes
-  pub string-at : (r : Run) → r .first + r .count ≤ count-of b strings-order → part r (view b .strings) ≡ part (record { first = offset-of b strings-order + r .first; count = r .count }) b
+  pub string-at :
+      (r : Run) → r .first + r .count ≤ count-of b strings-order
+      → part r (view b .strings) ≡ part (record { first = offset-of b strings-order + r .first; count = r .count }) b
   unfolding view
   string-at r l = part-part r (strings-extent b) b l

@@ -59,7 +59,9 @@ module _ {G H W : Type 0} (name-of : G → List ℕ) (name-of′ : H → List �
   answering-kept [] gs hs es vs = named-kept default-name gs hs es vs
   answering-kept (b ∷ n) gs hs es vs = go (named name-of (b ∷ n) gs) (named name-of′ (b ∷ n) hs) (named-kept (b ∷ n) gs hs es vs)
     where
-      go : (o : Option G) (o′ : Option H) → Option·map val o ≡ Option·map val′ o′ → Option·map val (or-default name-of o gs) ≡ Option·map val′ (or-default name-of′ o′ hs)
+      go :
+          (o : Option G) (o′ : Option H) → Option·map val o ≡ Option·map val′ o′
+          → Option·map val (or-default name-of o gs) ≡ Option·map val′ (or-default name-of′ o′ hs)
       go none none p = named-kept default-name gs hs es vs
       go none (some h) p = cc
       go (some g) none p = cc
@@ -117,8 +119,18 @@ module _ (c : Content) (sec : Section) (val : Option Group → List (List ℕ)) 
     where
       here : referred c sec (n ∷ []) ≡ val (some g)
       here =
-          rw
-          (ne-eqb n undefined-number (λ q. omega arith), ← List·getD-map (members-of c) (c .records sec) n [], ← add-zero n, ← getD-drop n (map (members-of c) (c .records sec)) 0 (members-of c []), e)
+          rw (
+            ne-eqb n undefined-number
+                (λ q. omega arith),
+            ← List·getD-map
+                (members-of c)
+                (c .records sec) n [],
+            ← add-zero n,
+            ← getD-drop n
+                (map (members-of c) (c .records sec)) 0
+                (members-of c []),
+            e,
+          )
 
       go :
           (b : Bool) → referred c sec (number-of (n + 1) s gs ∷ []) ≡ val (named (λ x. x .name) s gs)
@@ -159,7 +171,8 @@ module _ (f : File) where
       (λ name run. run-words name ++ run-words run)
       (members-of (content f))
       (λ r. part r (joined (member-lists f)))
-      (λ x r. map-part (name (content f) members) r (records f members) ∙ ap (part r) (map-map (name (content f) members) run-words (spots f 2) ∙ strings-kept 2))
+      (λ x r.
+      map-part (name (content f) members) r (records f members) ∙ ap (part r) (map-map (name (content f) members) run-words (spots f 2) ∙ strings-kept 2))
       (spots f n)
       rs
       (spots-length n ∙ l)
@@ -216,7 +229,14 @@ module _ (f : File) (fits : Fits f) (no-empty : tree-of [] ≡ none) where
         trap = (ap set-bit (bits .2) ∙ set-flag (r .trap)) i;
         switched-off = (ap set-bit (bits .3) ∙ set-flag (switched-off r)) i;
         uags = referred-read (content f) user-groups members-in refl (f .uags) (uags-kept f) (omega (arith, fits .uag-count)) u (r .uags) us i;
-        hags = referred-read (content f) host-groups (λ o. map lowered (members-in o)) refl (f .hags) (hags-kept f) (omega (arith, fits .hag-count)) h (r .hags) hs i;
+        hags =
+            referred-read
+            (content f) host-groups
+            (λ o. map lowered (members-in o)) refl
+            (f .hags)
+            (hags-kept f)
+            (omega (arith, fits .hag-count)) h
+            (r .hags) hs i;
         calculation = calculation-read (content f) no-empty (r .calculation) q fit s i;
       }
 
@@ -224,7 +244,8 @@ module _ (f : File) (fits : Fits f) (no-empty : tree-of [] ≡ none) where
       {rs : List Rule-text} {xs qs : List Run} → Every (λ r. Calculation-fits (r .calculation)) rs → Every (λ r. r .level ≤ 1) rs
       → Alike (Numbers f) xs (joined (map (λ r. references-to (f .uags) (r .uags) ∷ references-to (f .hags) (r .hags) ∷ []) rs))
       → Alike (λ q r. string (content f) q ≡ Option·getD (r .calculation) []) qs rs
-      → map (rule-of (content f)) (beside₃ (λ r refs calc. flags r ∷ (refs ++ calculation-words (r .calculation) calc)) rs (two-runs xs) qs) ≡ map (rule-in f) rs
+      → map (rule-of (content f)) (beside₃ (λ r refs calc. flags r ∷ (refs ++ calculation-words (r .calculation) calc)) rs (two-runs xs) qs)
+      ≡ map (rule-in f) rs
   rows-kept nil nil nil₂ nil₂ = refl
   rows-kept (cons {x = r} c cs) (cons l ls) (cons₂ {x = u} us (cons₂ {x = h} hs refs)) (cons₂ {x = q} s ss) =
       cc (rule-kept r u h q c l us hs s, rows-kept cs ls refs ss)
@@ -264,7 +285,9 @@ link-of c row = record { letter = letter-field row; name = name c inputs row }
 abbrev pub links-of : Content → List ℕ → List Link
 links-of c row = map (link-of c) (part (inputs-run row) (c .records inputs))
 
-input-rows-kept : (f : File) {ls : List Link} {qs : List Run} → Alike (λ q l. string (content f) q ≡ l .name) qs ls → map (link-of (content f)) (beside (λ i name. i .letter ∷ run-words name) ls qs) ≡ ls
+input-rows-kept :
+    (f : File) {ls : List Link} {qs : List Run} → Alike (λ q l. string (content f) q ≡ l .name) qs ls
+    → map (link-of (content f)) (beside (λ i name. i .letter ∷ run-words name) ls qs) ≡ ls
 input-rows-kept f nil₂ = refl
 input-rows-kept f (cons₂ {y = l} e es) = ap₂ (λ (n : List ℕ) (ls : List Link). record { letter = l .letter; name = n } ∷ ls) e (input-rows-kept f es)
 
@@ -274,7 +297,12 @@ input-records-kept f = input-rows-kept f (alike (string (content f)) (λ l. l .n
 -- the access groups have their names
 pub names-kept : (f : File) → map (name (content f) access-groups) (records f access-groups) ≡ map (λ a. a .name) (f .asgs)
 names-kept f =
-    asgs-kept f (name (content f) access-groups) (λ a. a .name) (λ n i r a s t u. s) (runs-alike (λ a. a .inputs) (f .asgs)) (runs-alike (λ a. a .rules) (f .asgs))
+    asgs-kept f
+    (name (content f) access-groups)
+    (λ a. a .name)
+    (λ n i r a s t u. s)
+    (runs-alike (λ a. a .inputs) (f .asgs))
+    (runs-alike (λ a. a .rules) (f .asgs))
 
 -- and their rules
 pub rules-kept :
@@ -328,4 +356,12 @@ pub answering-links :
     → Option·map (links-of (content f)) (answering (name (content f) access-groups) g (records f access-groups))
     ≡ Option·map (λ a. a .inputs) (answering (λ a. a .name) g (f .asgs))
 answering-links f g =
-    answering-kept (name (content f) access-groups) (λ a. a .name) (links-of (content f)) (λ a. a .inputs) g (records f access-groups) (f .asgs) (names-kept f) (links-kept f)
+    answering-kept
+    (name (content f) access-groups)
+    (λ a. a .name)
+    (links-of (content f))
+    (λ a. a .inputs) g
+    (records f access-groups)
+    (f .asgs)
+    (names-kept f)
+    (links-kept f)

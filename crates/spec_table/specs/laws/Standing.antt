@@ -45,7 +45,9 @@ module _ {A : Type 0} (d : A) {n e : ℕ} where
   run-within f (x ∷ xs) (suc i) (one-between p q b) l = run-within f xs i b (omega arith)
 
   -- two runs of each record, one behind the other
-  runs-within : (f g : A → Run) (xs : List A) (i : ℕ) → Between n e (joined (map (λ x. f x ∷ g x ∷ []) xs)) → i < length xs → Within e (f (getD xs i d)) × Within e (g (getD xs i d))
+  runs-within :
+      (f g : A → Run) (xs : List A) (i : ℕ) → Between n e (joined (map (λ x. f x ∷ g x ∷ []) xs)) → i < length xs
+      → Within e (f (getD xs i d)) × Within e (g (getD xs i d))
   runs-within f g [] i b l = absurd (omega arith)
   runs-within f g (x ∷ xs) zero (one-between p q (one-between u v b)) l = (q, v)
   runs-within f g (x ∷ xs) (suc i) (one-between p q (one-between u v b)) l = runs-within f g xs i b (omega arith)
@@ -92,7 +94,10 @@ module _ (c : Content) (w : well-formed c ≡ true) where
       leb-true
       (r .first + r .count)
       (length (c .strings))
-      (both (leb (r .first + r .count) (length (c .strings))) (leb (r .count) longest-name) (all-at (λ q. string-fits c longest-name (name-run s q)) (c .records s) i [] h l) .0)
+      (both
+      (leb (r .first + r .count) (length (c .strings)))
+      (leb (r .count) longest-name)
+      (all-at (λ q. string-fits c longest-name (name-run s q)) (c .records s) i [] h l) .0)
 
   at-section : (n : ℕ) → n < 6 → names-in c (getD named-sections n user-groups) ≡ true
   at-section n l = all-at (names-in c) named-sections n user-groups (conditions .1) l
@@ -104,7 +109,11 @@ module _ (c : Content) (w : well-formed c ≡ true) where
       let m = not (missing (tree-of (part r (c .strings)))) in
       ⊎-elim
       (λ e. let z = both (eqb (r .first) 0) (eqb (r .count) 0) e in omega (arith, eqb-true (r .first) 0 (z .0), eqb-true (r .count) 0 (z .1)))
-      (λ e. leb-true (r .first + r .count) (length (c .strings)) (both (leb (r .first + r .count) (length (c .strings))) (leb (r .count) longest-calculation) (both f m e .0) .0))
+      (λ e.
+      leb-true
+      (r .first + r .count)
+      (length (c .strings))
+      (both (leb (r .first + r .count) (length (c .strings))) (leb (r .count) longest-calculation) (both f m e .0) .0))
       (either (no-calculation r) (f && m) (rule-parts i l .0))
 
   pub name-within : (s : Section) (i : ℕ) → i < length (c .records s) → Within (length (c .strings)) (name-run s (row c s i))
@@ -136,9 +145,13 @@ module _ (c : Content) (w : well-formed c ≡ true) where
       let z = both r f (y .1) in
       (x .0, y .0, z .0, z .1)
 
-  member-runs : (i : ℕ) → i < length (c .records user-groups ++ c .records host-groups) → Within (length (c .records members)) (members-run (getD (c .records user-groups ++ c .records host-groups) i []))
+  member-runs :
+      (i : ℕ) → i < length (c .records user-groups ++ c .records host-groups)
+      → Within (length (c .records members)) (members-run (getD (c .records user-groups ++ c .records host-groups) i []))
   member-runs i l =
-      run-within [] members-run (c .records user-groups ++ c .records host-groups) i (in-turn-between 0 (length (c .records members)) (map members-run (c .records user-groups ++ c .records host-groups)) (in-runs .0)) l
+      run-within [] members-run
+      (c .records user-groups ++ c .records host-groups) i
+      (in-turn-between 0 (length (c .records members)) (map members-run (c .records user-groups ++ c .records host-groups)) (in-runs .0)) l
 
   pub users-members : (i : ℕ) → i < length (c .records user-groups) → Within (length (c .records members)) (members-run (row c user-groups i))
   users-members i l =
@@ -151,17 +164,25 @@ module _ (c : Content) (w : well-formed c ≡ true) where
       rw (← getD-append-add (c .records user-groups) (c .records host-groups) i []) (member-runs (length (c .records user-groups) + i) (omega arith))
 
   pub inputs-within : (i : ℕ) → i < length (c .records access-groups) → Within (length (c .records inputs)) (inputs-run (row c access-groups i))
-  inputs-within i l = run-within [] inputs-run (c .records access-groups) i (in-turn-between 0 (length (c .records inputs)) (map inputs-run (c .records access-groups)) (in-runs .1)) l
+  inputs-within i l =
+      run-within [] inputs-run
+      (c .records access-groups) i
+      (in-turn-between 0 (length (c .records inputs)) (map inputs-run (c .records access-groups)) (in-runs .1)) l
 
   pub rules-within : (i : ℕ) → i < length (c .records access-groups) → Within (length (c .records rules)) (rules-run (row c access-groups i))
-  rules-within i l = run-within [] rules-run (c .records access-groups) i (in-turn-between 0 (length (c .records rules)) (map rules-run (c .records access-groups)) (in-runs .2)) l
+  rules-within i l =
+      run-within [] rules-run
+      (c .records access-groups) i
+      (in-turn-between 0 (length (c .records rules)) (map rules-run (c .records access-groups)) (in-runs .2)) l
 
   -- the user references of a rule, and its host references
   pub references-within :
       (i : ℕ) → i < length (c .records rules)
       → Within (length (c .records references)) (users-run (row c rules i)) × Within (length (c .records references)) (hosts-run (row c rules i))
   references-within i l =
-      runs-within [] users-run hosts-run (c .records rules) i (in-turn-between 0 (length (c .records references)) (joined (map (λ r. users-run r ∷ hosts-run r ∷ []) (c .records rules))) (in-runs .3)) l
+      runs-within [] users-run hosts-run
+      (c .records rules) i
+      (in-turn-between 0 (length (c .records references)) (joined (map (λ r. users-run r ∷ hosts-run r ∷ []) (c .records rules))) (in-runs .3)) l
 
   -- ---- numbers
 

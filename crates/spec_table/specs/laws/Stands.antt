@@ -178,7 +178,9 @@ module _ (f : File) where
       ∙ ap
       (all fits)
       (map-part number-field r (records f references)
-      ∙ ap (part r) (beside-left (λ x name. x .number ∷ run-words name) number-field (λ x. x .number) (λ x name. refl) (joined (reference-lists f)) (spots f 5) (simp sizes))
+      ∙ ap
+      (part r)
+      (beside-left (λ x name. x .number ∷ run-words name) number-field (λ x. x .number) (λ x name. refl) (joined (reference-lists f)) (spots f 5) (simp sizes))
       ∙ sym (map-part (λ x. x .number) r (joined (reference-lists f)))
       ∙ ap (map (λ x. x .number)) e)
       ∙ every-all
@@ -203,13 +205,21 @@ module _ (f : File) where
   rules-good n m (r ∷ rs) (cons l ls) (cons a c) (cons p (cons q ps)) (cons t ts) d e =
       let bits = flags-right r l in
       cons (
-        word {w = flags r} (omega arith) (row-append (row-append p q) (calculation-row (r .calculation) (record { first = m; count = length (Option·getD (r .calculation) []) }) (t .0))),
+        word
+            {w = flags r}
+            (omega arith)
+            (row-append (row-append p q) (calculation-row (r .calculation) (record { first = m; count = length (Option·getD (r .calculation) []) }) (t .0))),
         ap₂
             _&&_
             (ap₂ _&&_ (lt-ltb (permission-bits (flags r)) 3 (bits .0)) (lt-ltb (bits-from-4 (flags r)) 2 (bits .1)))
             (ap₂
             _&&_
-            (calculation-right (content f) (r .calculation) (record { first = m; count = length (Option·getD (r .calculation) []) }) a (t .1) (head-eq-of-cons-eq e))
+            (calculation-right
+            (content f)
+            (r .calculation)
+            (record { first = m; count = length (Option·getD (r .calculation) []) }) a
+            (t .1)
+            (head-eq-of-cons-eq e))
             (ap₂
             _&&_
             (numbers-right user-groups (f .uags) refl (record { first = n; count = length (users r) }) (r .uags) (head-eq-of-cons-eq d))
@@ -280,7 +290,9 @@ module _ (f : File) (ok : Fits f) where
       s)
 
   named-runs : (m : ℕ) {rs : List Run} → Every (Within (length (strings f))) rs → Every (λ r. r .count ≤ m) rs → Every (Named (content f) m) rs
-  named-runs m e d = every-both (λ r p q. (pair r (omega (arith, ok .string-bytes)), ap₂ _&&_ (le-leb (r .first + r .count) (length (strings f)) p) (le-leb (r .count) m q))) e d
+  named-runs m e d =
+      every-both
+      (λ r p q. (pair r (omega (arith, ok .string-bytes)), ap₂ _&&_ (le-leb (r .first + r .count) (length (strings f)) p) (le-leb (r .count) m q))) e d
 
   all-within : Every (Every (Within (length (strings f)))) (spread 0 (names f))
   all-within = spread-within (length (strings f)) 0 (names f) (omega arith)
@@ -290,13 +302,17 @@ module _ (f : File) (ok : Fits f) where
   named k = every-at k [] nil (every-both (λ rs. named-runs longest-name) (every-take 6 all-within) (spread-counts 0 (ok .name-lengths)))
 
   calculated : Every (Named (content f) longest-calculation) (spots f 6)
-  calculated = named-runs longest-calculation (every-at 6 [] nil all-within) (runs-counts _ (every-map (λ r. Option·getD (r .calculation) []) (every-implies (λ r. short (r .calculation)) (ok .calculations))))
+  calculated =
+      named-runs longest-calculation
+      (every-at 6 [] nil all-within)
+      (runs-counts _ (every-map (λ r. Option·getD (r .calculation) []) (every-implies (λ r. short (r .calculation)) (ok .calculations))))
     where
       short : (o : Option (List ℕ)) → Calculation-fits o → length (Option·getD o []) ≤ longest-calculation
       short none fits = omega arith
       short (some s) (allowed l t) = l
 
-  member-pairs : Every Pair (runs 0 (map (λ g. g .members) (f .uags)) ++ runs (length (joined (map (λ g. g .members) (f .uags)))) (map (λ g. g .members) (f .hags)))
+  member-pairs :
+      Every Pair (runs 0 (map (λ g. g .members) (f .uags)) ++ runs (length (joined (map (λ g. g .members) (f .uags)))) (map (λ g. g .members) (f .hags)))
   member-pairs = rw (member-runs f) (run-pairs 0 (member-lists f) (omega (arith, ok .member-count)))
 
   numbered : Every (λ r. Word (r .number)) (joined (reference-lists f))
@@ -318,7 +334,13 @@ module _ (f : File) (ok : Fits f) where
       (run-pairs 0 (map (λ a. a .inputs) (f .asgs)) (omega (arith, ok .input-count)))
       (run-pairs 0 (map (λ a. a .rules) (f .asgs)) (omega (arith, ok .rule-count))))
       (every-beside _ (λ i name p q. (word {w = i .letter} (omega arith) (q .0), q .1)) (ok .letters) (named 4))
-      (rules-good f 0 _ (all-rules f) (ok .levels) (ok .calculations) (run-pairs 0 (reference-lists f) (omega (arith, ok .reference-count))) calculated (rw append-nil at (part-runs [] (reference-lists f) [])) (ap (λ (l : List (List (List ℕ))). getD l 6 []) (rw append-nil at (part-spread [] (names f) []))))
+      (rules-good f 0 _
+      (all-rules f)
+      (ok .levels)
+      (ok .calculations)
+      (run-pairs 0 (reference-lists f) (omega (arith, ok .reference-count))) calculated
+      (rw append-nil at (part-runs [] (reference-lists f) []))
+      (ap (λ (l : List (List (List ℕ))). getD l 6 []) (rw append-nil at (part-spread [] (names f) []))))
       (every-beside {P = λ r. Word (r .number)} _ (λ r name p q. (word p (q .0), q .1)) numbered (named 5))
 
   tests : (s : Section) → all (asked (content f) s) (records f s) ≡ true
@@ -328,7 +350,10 @@ module _ (f : File) (ok : Fits f) where
   content-sound = record { rows = λ s. every-implies (λ row p. p .0) (good s); count = few; string-bytes = ok .string-bytes }
 
   counts-right : counts-fit (content f) ≡ true
-  counts-right = ap₂ _&&_ (every-all _ (every (λ s. le-leb (length (records f s)) (most s) (few s)) sections)) (le-leb (length (strings f)) most-bytes (ok .string-bytes))
+  counts-right =
+      ap₂ _&&_
+      (every-all _ (every (λ s. le-leb (length (records f s)) (most s) (few s)) sections))
+      (le-leb (length (strings f)) most-bytes (ok .string-bytes))
 
   -- runs that follow each other use up their section
   follow :

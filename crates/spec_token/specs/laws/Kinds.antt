@@ -89,7 +89,9 @@ length-after : {A : Type 0} (p : A → Bool) (xs : List A) → length (run p xs)
 length-after p [] = refl
 length-after {A} p (x ∷ xs) = go (p x) (length-after p xs)
   where
-    go : (b : Bool) → length (run p xs) + length (after p xs) ≡ length xs → length (keep-if b x (run p xs)) + length (skip-if b (after p xs) (x ∷ xs)) ≡ suc (length xs)
+    go :
+        (b : Bool) → length (run p xs) + length (after p xs) ≡ length xs
+        → length (keep-if b x (run p xs)) + length (skip-if b (after p xs) (x ∷ xs)) ≡ suc (length xs)
     go true e = omega arith
     go false e = omega arith
 
@@ -142,9 +144,15 @@ scan-kept (suc n) p (b ∷ s) =
     kept-begun (lexeme-of b)
     (kept-more (omega arith) (scan-kept n (p + 1) s))
     (kept-more (omega (arith, length-after other s)) (scan-kept n (p + 1 + length (run other s)) (after other s)))
-    (kept-quoted p (within-quoted false (p + 1) s) (λ t r h. kept-then (record { kind = String; place = p; text = t }) (omega arith) (no-input refl) (scan-kept n (p + 2 + length t) r)))
+    (kept-quoted p
+    (within-quoted false (p + 1) s)
+    (λ t r h. kept-then (record { kind = String; place = p; text = t }) (omega arith) (no-input refl) (scan-kept n (p + 2 + length t) r)))
     (kept-then (record { kind = punctuation b; place = p; text = b ∷ [] }) (omega arith) (no-input (punctuation-no-input b)) (scan-kept n (p + 1) s))
-    (kept-then (record { kind = word-kind w; place = p; text = w }) (omega (arith, length-after name-byte (b ∷ s))) (word-spelled w) (scan-kept n (p + length w) (after name-byte (b ∷ s))))
+    (kept-then
+    (record { kind = word-kind w; place = p; text = w })
+    (omega (arith, length-after name-byte (b ∷ s)))
+    (word-spelled w)
+    (scan-kept n (p + length w) (after name-byte (b ∷ s))))
     refused
 
 pub scanned-bytes : (s : List ℕ) (ts : List Token) → scanned s ≡ tokens ts → total (map (λ t. length (t .text)) ts) ≤ length s

@@ -88,5 +88,6 @@ module _ {p : ℕ → Bool} {s : List ℕ} {from to : ℕ} (d : Span p s from to
 -- a run that its first byte belongs to is not empty
 pub span-more : {p : ℕ → Bool} {s : List ℕ} {from to : ℕ} → Span p s from to → from < length s → p (getD s from 0) ≡ true → from < to
 span-more {p} {s} {from} {to} d h e =
-    let z : length (run p (drop from s)) ≡ suc (length (run p (drop (suc from) s))) = rw (drop-cons s from 0 h) (run-on p (getD s from 0) (drop (suc from) s) e) in
+    let z : length (run p (drop from s)) ≡ suc (length (run p (drop (suc from) s))) =
+    rw (drop-cons s from 0 h) (run-on p (getD s from 0) (drop (suc from) s) e) in
     omega (arith, d .ends)

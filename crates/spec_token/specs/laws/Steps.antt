@@ -89,9 +89,13 @@ steady (suc n) (suc m) p (b ∷ s) h l =
     same-begun (bad p) (lexeme-of b)
     (steady n m (p + 1) s (omega arith) (omega arith))
     (let a = after-short other s in steady n m (p + 1 + length (run other s)) (after other s) (omega arith) (omega arith))
-    (same-quoted p (rest-quoted false (p + 1) s) (λ t r k. ap (then (record { kind = String; place = p; text = t })) (steady n m (p + 2 + length t) r (omega arith) (omega arith))))
+    (same-quoted p
+    (rest-quoted false (p + 1) s)
+    (λ t r k. ap (then (record { kind = String; place = p; text = t })) (steady n m (p + 2 + length t) r (omega arith) (omega arith))))
     (ap (then (record { kind = punctuation b; place = p; text = b ∷ [] })) (steady n m (p + 1) s (omega arith) (omega arith)))
-    (λ e. let a = after-shorter b s (word-named b e) in ap (then (record { kind = word-kind w; place = p; text = w })) (steady n m (p + length w) (after name-byte (b ∷ s)) (omega arith) (omega arith)))
+    (λ e.
+    let a = after-shorter b s (word-named b e) in
+    ap (then (record { kind = word-kind w; place = p; text = w })) (steady n m (p + length w) (after name-byte (b ∷ s)) (omega arith) (omega arith)))
 
 -- ---- the tokens from a place on, by what its byte begins
 
@@ -114,7 +118,9 @@ module _ (n p b : ℕ) (s : List ℕ) where
   step-word :
       lexeme-of b ≡ word
       → scan (suc n) p (b ∷ s)
-      ≡ then (record { kind = word-kind (run name-byte (b ∷ s)); place = p; text = run name-byte (b ∷ s) }) (scan n (p + length (run name-byte (b ∷ s))) (after name-byte (b ∷ s)))
+      ≡ then
+      (record { kind = word-kind (run name-byte (b ∷ s)); place = p; text = run name-byte (b ∷ s) })
+      (scan n (p + length (run name-byte (b ∷ s))) (after name-byte (b ∷ s)))
   unfolding scan
   step-word e = rw (e, scan)
 
@@ -171,7 +177,11 @@ module _ (s : List ℕ) (at : ℕ) (h : at < length s) where
   from-word {to} e d =
       more
       ∙ step-word (length s) at (getD s at 0) (drop (at + 1) s) e
-      ∙ ap (λ (l : List ℕ). then (record { kind = word-kind (run name-byte l); place = at; text = run name-byte l }) (scan (length s) (at + length (run name-byte l)) (after name-byte l))) (sym here)
+      ∙ ap
+      (λ (l : List ℕ). then
+      (record { kind = word-kind (run name-byte l); place = at; text = run name-byte l })
+      (scan (length s) (at + length (run name-byte l)) (after name-byte l)))
+      (sym here)
       ∙ rw (← d .ends, span-run d, span-after d)
 
   pub from-wrong : lexeme-of (getD s at 0) ≡ wrong → scan-from s at ≡ bad at
