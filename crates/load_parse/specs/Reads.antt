@@ -9,8 +9,8 @@ use Rattle.load_elements.specs.declared.Cursor.{Cursor}
 use Rattle.load_elements.specs.declared.Cursor.the-variants as cursor
 use Rattle.load_elements.specs.Parse.{Parsed, parsed, stopped-at, parse}
 use Rattle.load_elements.specs.Reads.{expected}
-use Rattle.load_parse.specs.declared.Outcome.{Outcome}
-use Rattle.load_parse.specs.declared.Outcome.the-variants as outcome
+use Rattle.load_parse.specs.declared.ParseEnd.{ParseEnd}
+use Rattle.load_parse.specs.declared.ParseEnd.the-variants as outcome
 
 -- a group: its word, its name, and its part in braces, which need not come
 abbrev pub group : ℕ → ℕ → Expected → Stack
@@ -26,11 +26,11 @@ ended roles (cursor.At p) = parsed (map role-of-number roles)
 ended roles (cursor.Stopped i) = stopped-at i
 
 -- what reading answers
-abbrev pub answered : List ℕ → Outcome → Parsed
-answered roles outcome.Said = parsed (map role-of-number roles)
+abbrev pub answered : List ℕ → ParseEnd → Parsed
+answered roles outcome.File = parsed (map role-of-number roles)
 answered roles (outcome.Stopped i) = stopped-at i
 
 -- The first n kinds were read: their roles stand in the first n roles, or reading stops at a token. The other roles stay.
-pub record Answers (kinds : List ℕ) (n : ℕ) (roles roles' : List ℕ) (r : Outcome) : Type 0 where
+pub record Answers (kinds : List ℕ) (n : ℕ) (roles roles' : List ℕ) (r : ParseEnd) : Type 0 where
   pub answer : parse (take n kinds) ≡ answered (take n roles') r
   pub rest : drop n roles' ≡ drop n roles

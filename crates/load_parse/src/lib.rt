@@ -38,8 +38,8 @@ ghost use Rattle.load_strings.specs.Enclosed.{in-braces};
 ghost use Rattle.load_parse.specs.Reads.{group, Members, ended, Answers};
 
 // Every token was read and has its role, or reading stops at a token, by its index.
-pub enum Outcome {
-    Said,
+pub enum ParseEnd {
+    File,
     Stopped(usize),
 }
 
@@ -144,12 +144,12 @@ fn file(kinds: &[u8], roles: &mut [u8]) -> Cursor
 
 // What each of the first n tokens says, or where reading stops.
 // The caller, load_syntax, has both arrays as long as the text, and no text has more tokens than bytes.
-pub fn read(kinds: &[u8], n: usize, roles: &mut [u8]) -> Outcome
+pub fn read(kinds: &[u8], n: usize, roles: &mut [u8]) -> ParseEnd
     requires { ⌜ (n ≤ length (now kinds)) × (n ≤ length (now roles)) ⌝ }
     ensures { λ r. ⌜ Answers (now (kinds .entry)) n (now (roles .entry)) (now (roles .exit)) r ⌝ }
 {
     match file(&kinds[..n], &mut roles[..n]) {
-        Cursor::At(_) => Outcome::Said,
-        Cursor::Stopped(i) => Outcome::Stopped(i),
+        Cursor::At(_) => ParseEnd::File,
+        Cursor::Stopped(i) => ParseEnd::Stopped(i),
     }
 }

@@ -34,8 +34,8 @@ fn parse(kinds: &[u8], places: &[u16], n: usize, long: usize, roles: &mut [u8]) 
     match load_depth::too_deep(kinds, places, n) {
         load_depth::Deep::At(p) => Judgment::Refused(spec_file::Refusal::TooDeep, p),
         load_depth::Deep::No => match load_parse::read(kinds, n, roles) {
-            load_parse::Outcome::Said => Judgment::Tokens(n),
-            load_parse::Outcome::Stopped(i) => Judgment::Refused(
+            load_parse::ParseEnd::File => Judgment::Tokens(n),
+            load_parse::ParseEnd::Stopped(i) => Judgment::Refused(
                 spec_file::Refusal::Ungrammatical,
                 place_of(places, n, i, long),
             ),

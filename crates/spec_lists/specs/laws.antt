@@ -6,3 +6,4 @@ pub mod Runs
 pub mod Same
 pub mod Sums
 pub mod Words
+pub mod Range

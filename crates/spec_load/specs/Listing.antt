@@ -19,8 +19,8 @@ abbrev pub laid-over : List ℕ → List ℕ → List ℕ
 laid-over new old = take (length old) new ++ drop (length new) old
 
 -- how many warnings there are; the numbers and places of those behind the first `skip`, as many as there is room for
-abbrev pub told : ℕ → List ℕ → List ℕ → List Tagged → Listing
-told skip numbers places xs =
+abbrev pub warnings-written : ℕ → List ℕ → List ℕ → List Tagged → Listing
+warnings-written skip numbers places xs =
     record {
       answer = Warnings (length (warnings xs));
       numbers = laid-over (drop skip (map (λ w. number (w .warning)) (warnings xs))) numbers;
@@ -30,7 +30,7 @@ told skip numbers places xs =
 -- a text that is refused has none, and nothing is written
 abbrev pub listed-by : ℕ → List ℕ → List ℕ → Verdict → Listing
 listed-by skip numbers places (refuse n p) = record { answer = Refused n p; numbers = numbers; places = places }
-listed-by skip numbers places (accept xs) = told skip numbers places xs
+listed-by skip numbers places (accept xs) = warnings-written skip numbers places xs
 
 -- the warnings of a text
 unfoldable pub listing : ℕ → List ℕ → List ℕ → List ℕ → Listing

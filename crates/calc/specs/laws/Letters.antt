@@ -21,7 +21,7 @@ use Rattle.spec_calc.specs.Reader.{tree-of}
 use Rattle.spec_calc.specs.laws.Theorem.{says-sound}
 use Rattle.calc_symbol.specs.Scan.{syms, spelling}
 use Rattle.calc.specs.Answer.{given-letter, letter-of, letters-in, letter-begun, byte-letters, symbols-given}
-use Rattle.calc_numeral.specs.laws.Runs.{absurd-bool}
+use Rattle.spec_lists.specs.laws.Both.{absurd-bool}
 use Rattle.calc_symbol.specs.laws.Bytes.{start-by, first-all}
 
 -- ---- the bytes'

@@ -14,7 +14,8 @@ use Rattle.spec_calc.specs.Symbol.{decimal, numeral-byte, pointed, within-digit
 use Rattle.calc_numeral.specs.declared.Figure.{Figure}
 use Rattle.calc_numeral.specs.declared.Figure.the-variants.{Is, Wrong}
 use Rattle.calc_numeral.specs.Numeral.{Counted, Fraction, Numbered}
-use Rattle.calc_numeral.specs.laws.Runs.{absurd-bool, all-run, after-head, head-at, passed-inside, run-more, after-more, stops}
+use Rattle.spec_lists.specs.laws.Both.{absurd-bool}
+use Rattle.calc_numeral.specs.laws.Runs.{all-run, after-head, head-at, passed-inside, run-more, after-more, stops}
 
 -- ---- figures are digits, and then points and digits
 

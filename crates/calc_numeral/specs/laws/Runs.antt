@@ -9,10 +9,8 @@ use borrow.Author.Tests.{leb-true, leb-false}
 use lib.Dec.{leb}
 use lib.ListN.{length, getD, drop, List·getD-eq-default}
 use lib.Seq.{drop-cons, getD-drop}
+use Rattle.spec_lists.specs.laws.Both.{absurd-bool}
 use Rattle.spec_lists.specs.Select.{all, run, after, keep-if, skip-if}
-
-pub absurd-bool : {A : Type 0} → true ≡ false → A
-absurd-bool e = let z : _≡_ {A = ℕ} 0 1 = cc in absurd (omega arith)
 
 -- ---- a run from an offset on, of a test that 0 does not pass
 

@@ -1,7 +1,7 @@
 use mathlib.Core.Logic.{inl, inr, ⊎-elim}
 use mathlib.Core.Path.{refl}
 use native.Mathlib.Omega.{arith}
-use Rattle.calc_numeral.specs.laws.Range.{below, above}
+use Rattle.spec_lists.specs.laws.Range.{below, above}
 use Rattle.calc_symbol.specs.laws.Bytes.{start-figure, start-upper, start-lower, start-other}
 use borrow.Author.Needs.{needs}
 use Rattle.calc_symbol.proofs.class_of.Statement.{statement}
@@ -45,7 +45,7 @@ returns-5 : tie.Need-returns-5
 returns-5 c = (
   (λ s. start-other (c .before .before .before .before .args .b) (λ e. c .before .before .before .match .rest .0 .1 (inl e))
       (λ e. c .before .before .before .match .rest .0 .1 (inr e)) (c .before .before .before .match .rest .1) s
-      (above 48 57 (c .before .before .before .before .args .b) (omega arith) (omega arith))
+      (above 48 57 (c .before .before .before .before .args .b) (omega arith))
       (below 65 85 (c .before .before .before .before .args .b) (omega arith))
       (below 97 117 (c .before .before .before .before .args .b) (omega arith))),
   tt,
@@ -56,8 +56,8 @@ returns-6 c = (
   (λ s. start-other (c .before .before .before .before .before .before .args .b)
       (λ e. c .before .before .before .before .before .match .rest .0 .1 (inl e))
       (λ e. c .before .before .before .before .before .match .rest .0 .1 (inr e)) (c .before .before .before .before .before .match .rest .1)
-      s (above 48 57 (c .before .before .before .before .before .before .args .b) (omega arith) (omega arith))
-      (above 65 85 (c .before .before .before .before .before .before .args .b) (omega arith) (omega arith))
+      s (above 48 57 (c .before .before .before .before .before .before .args .b) (omega arith))
+      (above 65 85 (c .before .before .before .before .before .before .args .b) (omega arith))
       (below 97 117 (c .before .before .before .before .before .before .args .b) (omega arith))),
   tt,
 )
@@ -68,9 +68,9 @@ returns-7 c = (
       (λ e. c .before .before .before .before .before .before .match .rest .0 .1 (inl e))
       (λ e. c .before .before .before .before .before .before .match .rest .0 .1 (inr e))
       (c .before .before .before .before .before .before .match .rest .1) s
-      (above 48 57 (c .before .before .before .before .before .before .before .args .b) (omega arith) (omega arith))
-      (above 65 85 (c .before .before .before .before .before .before .before .args .b) (omega arith) (omega arith))
-      (above 97 117 (c .before .before .before .before .before .before .before .args .b) (omega arith) (omega arith))),
+      (above 48 57 (c .before .before .before .before .before .before .before .args .b) (omega arith))
+      (above 65 85 (c .before .before .before .before .before .before .before .args .b) (omega arith))
+      (above 97 117 (c .before .before .before .before .before .before .before .args .b) (omega arith))),
   tt,
 )
 

@@ -18,8 +18,8 @@ use Rattle.spec_calc.specs.Symbol.{figure, sign, sign-of, wrong, start, numeral
 use Rattle.calc_symbol.specs.declared.Spelled.{Spelled}
 use Rattle.calc_symbol.specs.declared.Spelled.the-variants.{As, Nothing}
 use Rattle.calc_symbol.specs.Scan.{spelling, single, Pair-ok}
-use Rattle.calc_numeral.specs.laws.Runs.{absurd-bool}
-use Rattle.calc_numeral.specs.laws.Range.{above, inside}
+use Rattle.spec_lists.specs.laws.Both.{absurd-bool}
+use Rattle.spec_lists.specs.laws.Range.{above, inside}
 
 -- what a byte begins: a blank, a number, a capital letter, a small letter, or else x
 abbrev pub start-by : Bool → Bool → Bool → Bool → ℕ → Start → Start
@@ -32,16 +32,16 @@ module _ (b : ℕ) (n9 : b ≡ 9 → ⊥) (n32 : b ≡ 32 → ⊥) where
 
   module _ (n46 : b ≡ 46 → ⊥) where
     pub start-upper : (s : List ℕ) → 65 ≤ b → b ≤ 85 → start b s ≡ sign (letter (b - 65)) 0
-    start-upper s l h = rw (ne-eqb b 32 n32, ne-eqb b 9 n9, above 48 57 b (omega arith) (omega arith), ne-eqb b 46 n46, inside 65 85 b l h)
+    start-upper s l h = rw (ne-eqb b 32 n32, ne-eqb b 9 n9, above 48 57 b (omega arith), ne-eqb b 46 n46, inside 65 85 b l h)
 
     pub start-lower : (s : List ℕ) → 97 ≤ b → b ≤ 117 → start b s ≡ sign (letter (b - 97)) 0
     start-lower s l h =
         rw (
           ne-eqb b 32 n32,
           ne-eqb b 9 n9,
-          above 48 57 b (omega arith) (omega arith),
+          above 48 57 b (omega arith),
           ne-eqb b 46 n46,
-          above 65 85 b (omega arith) (omega arith),
+          above 65 85 b (omega arith),
           inside 97 117 b l h,
         )
 

@@ -24,7 +24,7 @@ use Rattle.calc_symbol.specs.declared.Joint.{Joint}
 use Rattle.calc_symbol.specs.declared.Joint.the-variants as joint
 use Rattle.calc_symbol.specs.declared.Place.the-variants as place
 use Rattle.calc_symbol.specs.Lookahead.{from, ends-of, Begins, Joins, awaited, Mark-at, Is-end}
-use Rattle.calc_numeral.specs.laws.Runs.{absurd-bool}
+use Rattle.spec_lists.specs.laws.Both.{absurd-bool}
 use Rattle.calc_symbol.specs.laws.Bytes.{begins-with, sign-begins-with}
 use Rattle.calc_symbol.specs.laws.Scans.{Signed, no-symbol, spelled, Stands, finished, numbered, lettered, signed, at-end, is-byte, stands, past-blanks}
 

@@ -28,7 +28,8 @@ use Rattle.calc_symbol.specs.declared.Next.the-variants.{Is, Wrong}
 use Rattle.calc_symbol.specs.Scan.{syms, start-at, spelling-at, Sign-only, symbol-of, spelling, single, started, Class-ok, spelled-as, Pair-ok}
 use Rattle.calc_symbol.specs.Scan.{Symbol-at, Sign-at, Blanks-to}
 use Rattle.calc_numeral.specs.Numeral.{Numbered}
-use Rattle.calc_numeral.specs.laws.Runs.{absurd-bool, passed-inside, head-at}
+use Rattle.spec_lists.specs.laws.Both.{absurd-bool}
+use Rattle.calc_numeral.specs.laws.Runs.{passed-inside, head-at}
 use Rattle.calc_symbol.specs.laws.Bytes.{start-by, two-bytes, sign-nonzero, sign-start, not-start, differs-start}
 
 -- a byte that is not 0 stands in the text

@@ -18,7 +18,7 @@ use Rattle.load_syntax.specs.declared.Judgment.{Judgment}
 use Rattle.load_syntax.specs.declared.Judgment.the-variants as judgment
 use Rattle.load_judge.specs.Judged.{Judged}
 use Rattle.load_judge.specs.laws.Judged.{verdict-long}
-use Rattle.load_judge.specs.laws.Bounded.{arrays-of, accepted-as, refused-as}
+use Rattle.load_judge.specs.laws.Bounded.{judged-arrays, accepted-as, refused-as}
 use Rattle.load_store.specs.Stored.{Fits, Stored}
 use Rattle.load_store.specs.laws.Stored.{is-table-of}
 
@@ -26,8 +26,8 @@ module _ {s places starts ends roles : List ℕ} {r : Judgment} (f : Judged s pl
   -- no accepted file's table is too long
   pub table-fits : {n : ℕ} → r ≡ judgment.Tokens n → Fits s starts ends roles n
   table-fits {n} e =
-      let xs = tagged-from s (arrays-of f) roles 0 n in
-      subst (λ (t : List ℕ). length t ≤ greatest-table) (sym (is-table-of s (arrays-of f) roles n refl refl))
+      let xs = tagged-from s (judged-arrays f) roles 0 n in
+      subst (λ (t : List ℕ). length t ≤ greatest-table) (sym (is-table-of s (judged-arrays f) roles n refl refl))
       (table-length (file-of xs) (fits s xs (accepted-as f e)))
 
   module _ (lent : List ℕ) where
@@ -36,7 +36,7 @@ module _ {s places starts ends roles : List ℕ} {r : Judgment} (f : Judged s pl
     load-refused e = rw (refused-as f e)
 
     pub load-stored :
-        {n : ℕ} {c : List ℕ} {o : Loaded} → r ≡ judgment.Tokens n → Stored s (arrays-of f) roles n lent c o
+        {n : ℕ} {c : List ℕ} {o : Loaded} → r ≡ judgment.Tokens n → Stored s (judged-arrays f) roles n lent c o
         → record { answer = o; bytes = c } ≡ load lent s
     unfolding load
     load-stored e g = g ∙ sym (ap (by-verdict lent) (accepted-as f e))

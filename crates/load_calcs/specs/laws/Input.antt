@@ -8,6 +8,7 @@ use lib.Dec.{eqb}
 use lib.ListN.{length, getD, set, replicate, length-set, getD-replicate}
 use lib.Seq.{getD-set-same, getD-set-other}
 use borrow.Author.Tests.{eqb-true, eqb-false}
+use Rattle.spec_lists.specs.laws.Both.{or-false}
 use Rattle.spec_lists.specs.Select.{any, select, prepend-if}
 use Rattle.spec_token.specs.Word.{link-letter}
 use Rattle.spec_grammar.specs.declared.Role.the-variants.{AsgName, Input}
@@ -37,10 +38,6 @@ or-swap : (a b c : Bool) → a || (b || c) ≡ b || (a || c)
 or-swap true true c = refl
 or-swap true false c = refl
 or-swap false b c = refl
-
-or-false : (b : Bool) → b || false ≡ b
-or-false true = refl
-or-false false = refl
 
 any-middle : (p : Tagged → Bool) (xs : List Tagged) (y : Tagged) (ys : List Tagged) → any p (xs ++ (y ∷ ys)) ≡ p y || any p (xs ++ ys)
 any-middle p [] y ys = refl

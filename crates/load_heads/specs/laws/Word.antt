@@ -4,6 +4,7 @@ use mathlib.Core.Bool.{Bool, true, false, _&&_, _||_}
 use mathlib.Core.Option.{Option, none, some}
 use Prim.Native.Nat.{ℕ}
 use native.Mathlib.Omega.{arith}
+use Rattle.spec_lists.specs.laws.Both.{or-false}
 use Rattle.spec_lists.specs.Select.{missing}
 use Rattle.spec_grammar.specs.declared.Role.the-variants as role
 use Rattle.spec_grammar.specs.Codes.{same-role}
@@ -56,10 +57,6 @@ log-known o h g = ap no-log (sym g ∙ h) ∙ log-missing o
 
 -- ---- the words of a rule
 
-or-false : (b : Bool) → b ≡ b || false
-or-false true = refl
-or-false false = refl
-
 telling-permission : Role-code 10
 telling-permission = record { some = omega arith; known = omega arith }
 
@@ -70,7 +67,7 @@ telling-log = record { some = omega arith; known = omega arith }
 module _ {q : ℕ} (x y : Bool) where
   pub permission-here : q ≡ 10 → x ≡ same-role (role-of-number q) role.Permission && x || same-role (role-of-number q) role.LogOption && y
   permission-here h =
-      rw (role-same 10 telling-permission h, role-other {q = q} 11 telling-log (λ g. omega arith)) (or-false x)
+      rw (role-same 10 telling-permission h, role-other {q = q} 11 telling-log (λ g. omega arith)) (sym (or-false x))
 
   pub log-here : q ≡ 11 → y ≡ same-role (role-of-number q) role.Permission && x || same-role (role-of-number q) role.LogOption && y
   log-here h =

@@ -51,14 +51,14 @@ module _ (s : List ℕ) (a : Arrays) (roles : List ℕ) (n : ℕ) (e : verdict s
 
 module _ {s places starts ends roles : List ℕ} {r : Judgment} (f : Judged s places starts ends roles r) where
   -- the arrays with the kinds that the verdict speaks of
-  abbrev pub arrays-of : Arrays
-  arrays-of = arrays-of (f .kinds) places starts ends
+  abbrev pub judged-arrays : Arrays
+  judged-arrays = arrays-of (f .kinds) places starts ends
 
-  pub accepted-as : {n : ℕ} → r ≡ Tokens n → verdict s ≡ accept (tagged-from s arrays-of roles 0 n)
-  accepted-as e = f .same ∙ ap (final-verdict s arrays-of roles) e
+  pub accepted-as : {n : ℕ} → r ≡ Tokens n → verdict s ≡ accept (tagged-from s judged-arrays roles 0 n)
+  accepted-as e = f .same ∙ ap (final-verdict s judged-arrays roles) e
 
   pub refused-as : {k : Refusal} {p : ℕ} → r ≡ Refused k p → verdict s ≡ refuse k p
-  refused-as e = f .same ∙ ap (final-verdict s arrays-of roles) e
+  refused-as e = f .same ∙ ap (final-verdict s judged-arrays roles) e
 
   pub bounded : {n : ℕ} → r ≡ Tokens n → Bounded s places starts ends roles n
   bounded {n} e =
@@ -67,6 +67,6 @@ module _ {s places starts ends roles : List ℕ} {r : Judgment} (f : Judged s pl
       record {
         lie = rw k at (f .lie);
         has-places = rw k at (f .has-places);
-        user-groups = few-users s arrays-of roles n v;
-        host-groups = few-hosts s arrays-of roles n v;
+        user-groups = few-users s judged-arrays roles n v;
+        host-groups = few-hosts s judged-arrays roles n v;
       }

@@ -14,7 +14,7 @@ use Rattle.load_syntax.specs.declared.Judgment.{Judgment}
 use Rattle.load_syntax.specs.declared.Judgment.the-variants as judgment
 use Rattle.load_judge.specs.Judged.{Judged}
 use Rattle.load_judge.specs.laws.Judged.{verdict-long}
-use Rattle.load_judge.specs.laws.Bounded.{arrays-of, accepted-as, refused-as}
+use Rattle.load_judge.specs.laws.Bounded.{judged-arrays, accepted-as, refused-as}
 use Rattle.load_warnings.specs.Filled.{Filled, warnings-of}
 use Rattle.load_warnings.specs.laws.Kind.{warnings-kindless}
 use Rattle.load_listing.specs.laws.Over.{over}
@@ -32,13 +32,13 @@ module _ {s places starts ends roles : List ℕ} {r : Judgment} (f : Judged s pl
       → record { answer = Warnings count; numbers = c; places = d } ≡ listing skip numbers at s
   unfolding listing
   listed-warnings {n} e t =
-      let ws = warnings (tagged-from s (arrays-of f) roles 0 n) in
+      let ws = warnings (tagged-from s (judged-arrays f) roles 0 n) in
       rw (
         accepted-as f e,
         t .count,
         t .numbers,
         t .places,
-        warnings-kindless s (arrays-of f) roles n,
+        warnings-kindless s (judged-arrays f) roles n,
         over (drop skip (map (λ x. number (x .warning)) ws)) numbers,
         over (drop skip (map (λ x. x .place) ws)) at,
       )

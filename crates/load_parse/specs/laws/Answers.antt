@@ -16,8 +16,8 @@ use Rattle.load_elements.specs.Parse.{Parsed, parsed, parse-from, parse}
 use Rattle.load_elements.specs.Reads.{kind-at, parse-at, Leads}
 use Rattle.load_elements.specs.laws.Kinds.{kind-here, kind-code-low}
 use Rattle.load_elements.specs.laws.Stacks.{at-end}
-use Rattle.load_parse.specs.declared.Outcome.{Outcome}
-use Rattle.load_parse.specs.declared.Outcome.the-variants as outcome
+use Rattle.load_parse.specs.declared.ParseEnd.{ParseEnd}
+use Rattle.load_parse.specs.declared.ParseEnd.the-variants as outcome
 use Rattle.load_parse.specs.Reads.{ended, answered, Answers}
 
 -- all was read from the start on
@@ -47,15 +47,15 @@ module _ (kinds roles part : List ℕ) (n : ℕ) (h : n ≤ length roles) (l : l
   front : length part ≡ n
   front = l ∙ length-take-le n roles h
 
-  answers-as : (r : Outcome) → parse (take n kinds) ≡ answered part r → Answers kinds n roles (part ++ drop n roles) r
+  answers-as : (r : ParseEnd) → parse (take n kinds) ≡ answered part r → Answers kinds n roles (part ++ drop n roles) r
   answers-as r e = record {
     answer = e ∙ ap (λ (x : List ℕ). answered x r) (sym (take-at part (drop n roles) n front));
     rest = drop-at part (drop n roles) n front;
   }
 
   pub answers-said :
-      {s : Cursor} {p : ℕ} → parse (take n kinds) ≡ ended part s → s ≡ cursor.At p → Answers kinds n roles (part ++ drop n roles) outcome.Said
-  answers-said e q = answers-as outcome.Said (e ∙ ap (ended part) q)
+      {s : Cursor} {p : ℕ} → parse (take n kinds) ≡ ended part s → s ≡ cursor.At p → Answers kinds n roles (part ++ drop n roles) outcome.File
+  answers-said e q = answers-as outcome.File (e ∙ ap (ended part) q)
 
   pub answers-stopped :
       {s : Cursor} {i : ℕ} → parse (take n kinds) ≡ ended part s → s ≡ cursor.Stopped i

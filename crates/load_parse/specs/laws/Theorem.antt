@@ -14,8 +14,8 @@ use Rattle.spec_grammar.specs.Sentence.{Tagged}
 use Rattle.spec_grammar.specs.Reader.{Stack, Step, halt, go, step, may-end, Parse, parsed, stopped, joined-to, onward, read-from, read, start}
 use Rattle.load_tokens.specs.Arrays.{kind-of-number, role-of-number, Arrays, token-at, tokens-from, tagged-at, tagged-from}
 use Rattle.load_elements.specs.Parse.{Parsed, parsed, stopped-at, parse-step, parse-from, parse}
-use Rattle.load_parse.specs.declared.Outcome as answer
-use Rattle.load_parse.specs.declared.Outcome.the-variants as outcome
+use Rattle.load_parse.specs.declared.ParseEnd as answer
+use Rattle.load_parse.specs.declared.ParseEnd.the-variants as outcome
 use Rattle.load_parse.specs.Reads.{Answers}
 
 -- a parse that stops is no parse to the end
@@ -114,16 +114,16 @@ module _ (s : List ℕ) (a : Arrays) (m : ℕ) where
       ∙ ap (λ (l : List Tagged). tagged-at s a roles i ∷ l) (said-take roles n k (suc i) (omega arith))
 
   -- what an answer says of the kept tokens
-  abbrev pub outcome-of : ℕ → List ℕ → answer.Outcome → Parse
-  outcome-of n roles outcome.Said = parsed (tagged-from s a roles 0 n)
+  abbrev pub outcome-of : ℕ → List ℕ → answer.ParseEnd → Parse
+  outcome-of n roles outcome.File = parsed (tagged-from s a roles 0 n)
   outcome-of n roles (outcome.Stopped i) = stopped (place-of n i)
 
   -- THE CLAIM: what the function read answers is what reading the kept tokens by the grammar comes to.
   pub read-is :
-      (n : ℕ) (roles roles' : List ℕ) (r : answer.Outcome) → n ≤ length (a .kinds)
+      (n : ℕ) (roles roles' : List ℕ) (r : answer.ParseEnd) → n ≤ length (a .kinds)
       → Answers (a .kinds) n roles roles' r → read (tokens-from s a 0 n) m ≡ outcome-of n roles' r
   unfolding parse
-  read-is n roles roles' outcome.Said h v =
+  read-is n roles roles' outcome.File h v =
       read-said n start 0 [] (take n roles') refl (omega arith) (v .answer) ∙ ap parsed (said-take roles' n n 0 (omega arith))
   read-is n roles roles' (outcome.Stopped i) h v =
       read-stopped n start 0 [] i (omega arith) (v .answer) ∙ ap (λ (y : ℕ). stopped (place-of y i)) (omega arith)

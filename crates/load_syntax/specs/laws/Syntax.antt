@@ -18,8 +18,8 @@ use Rattle.load_scan.specs.Answer.{Whole}
 use Rattle.load_depth.specs.declared.Deep.{Deep}
 use Rattle.load_depth.specs.declared.Deep.the-variants.{No, At}
 use Rattle.load_depth.specs.Deep.{answer}
-use Rattle.load_parse.specs.declared.Outcome as reading
-use Rattle.load_parse.specs.declared.Outcome.the-variants as reader
+use Rattle.load_parse.specs.declared.ParseEnd as reading
+use Rattle.load_parse.specs.declared.ParseEnd.the-variants as reader
 use Rattle.load_parse.specs.Reads.{Answers}
 use Rattle.load_parse.specs.laws.Theorem.{read-is}
 use Rattle.load_syntax.specs.declared.Judgment.{Judgment}
@@ -44,12 +44,12 @@ module _ (s : List ℕ) (a : Arrays) (n m : ℕ) (roles roles′ : List ℕ) whe
   deep-parsed e g = record { same = rw (deep-of (too-deep 0 (tokens-from s a 0 n)) e g); few = omega arith }
 
   module _ {r : Deep} (e : r ≡ answer (too-deep 0 (tokens-from s a 0 n))) (g : r ≡ No) (l : n ≤ length (a .kinds)) where
-    pub whole-parsed : {o : reading.Outcome} → Answers (a .kinds) n roles roles′ o → o ≡ reader.Said → Parsed s a n m roles′ (Tokens n)
+    pub whole-parsed : {o : reading.ParseEnd} → Answers (a .kinds) n roles roles′ o → o ≡ reader.File → Parsed s a n m roles′ (Tokens n)
     whole-parsed {o} v h =
         record { same = rw (flat-of (too-deep 0 (tokens-from s a 0 n)) e g, read-is s a m n roles roles′ o l v, h); few = omega arith }
 
     pub stop-parsed :
-        {o : reading.Outcome} {i q : ℕ} → Answers (a .kinds) n roles roles′ o → o ≡ reader.Stopped i → q ≡ cond (ltb i n) (getD (a .places) i 0) m
+        {o : reading.ParseEnd} {i q : ℕ} → Answers (a .kinds) n roles roles′ o → o ≡ reader.Stopped i → q ≡ cond (ltb i n) (getD (a .places) i 0) m
         → Parsed s a n m roles′ (Refused Ungrammatical q)
     stop-parsed {o} v h k =
         record { same = rw (flat-of (too-deep 0 (tokens-from s a 0 n)) e g, read-is s a m n roles roles′ o l v, h, k); few = omega arith }

@@ -1,4 +1,5 @@
-use Rattle.prog_reading.specs.laws.Numbers.{inside, below, above, figure-byte, no-figure}
+use Rattle.spec_lists.specs.laws.Range.{inside, below, above}
+use Rattle.prog_reading.specs.laws.Numbers.{figure-byte, no-figure}
 use native.Mathlib.Omega.{arith}
 use mathlib.Core.Path.{sym}
 use Rattle.prog_reading.proofs.is_figure.Statement.{statement}

@@ -1,4 +1,4 @@
-use Rattle.prog_reading.specs.laws.Numbers.{inside, below, above}
+use Rattle.spec_lists.specs.laws.Range.{inside, below, above}
 use Rattle.prog_reading.specs.laws.Reading.{too-short, no-colon, no-letter, names, names-none}
 use native.Mathlib.Omega.{arith}
 use borrow.Author.Needs.{needs}

@@ -12,31 +12,12 @@ use lib.Ieee.{Float}
 use borrow.Author.Tests.{le-leb, lt-leb, ne-eqb}
 use Rattle.spec_lists.specs.Text.{among, within, digit}
 use Rattle.spec_lists.specs.Select.{all, run, after, keep-if, skip-if}
-use Rattle.spec_lists.specs.laws.Both.{both}
+use Rattle.spec_lists.specs.laws.Both.{both, absurd-bool}
 use Rattle.spec_calc.specs.Symbol.{numeral, numeral-byte, pointed, within-digits}
 use Rattle.calc_numeral.specs.declared.Figure.{Figure}
 use Rattle.calc_numeral.specs.declared.Figure.the-variants.{Is, Wrong}
 use Rattle.calc_numeral.specs.Numeral.{Ends, Numbered}
 use Rattle.prog_reading.specs.Reading.{number}
-
-pub clash : {A : Type 0} → true ≡ false → A
-clash e = let z : _≡_ {A = ℕ} 0 1 = cc in absurd (omega arith)
-
--- ---- a byte in a range
-
-module _ (lo hi b : ℕ) where
-  pub inside : lo ≤ b → b ≤ hi → within lo hi b ≡ true
-  inside h k = rw (le-leb lo b h, le-leb b hi k)
-
-  pub below : b < lo → within lo hi b ≡ false
-  below h = rw (lt-leb lo b h)
-
-  pub above : hi < b → within lo hi b ≡ false
-  above k = go (leb lo b)
-    where
-      go : (t : Bool) → t && leb b hi ≡ false
-      go true = lt-leb b hi k
-      go false = refl
 
 pub figure-byte : (b : ℕ) → digit b ≡ true → numeral-byte b ≡ true
 figure-byte b e = rw e
@@ -76,7 +57,7 @@ figures-pointed w (b ∷ d ∷ ds) {v} e = go (among "." b && all digit (d ∷ d
         dot : (u : Bool) → u || among "." b ≡ true
         dot true = refl
         dot false = h
-    point false h k = clash (sym k)
+    point false h k = absurd-bool (sym k)
 
     go :
         (t : Bool) → among "." b && all digit (d ∷ ds) ≡ t → cond t (within-digits w (d ∷ ds)) none ≡ some v
