@@ -4,8 +4,6 @@ use mathlib.Core.Bool.{Bool, true, false, _&&_, not}
 use mathlib.Core.List.{List, [], _∷_}
 use Prim.Native.Nat.{ℕ, _≤_}
 use lib.ListN.{length, drop}
-use Rattle.spec_lists.specs.Text.{among, digit}
-use Rattle.spec_lists.specs.Select.{nonempty, run, after}
 use Rattle.spec_token.specs.Word.{unsigned}
 
 -- the place behind the sign that may stand at a place

@@ -55,17 +55,6 @@ ends colon = 0
 ends open-paren = 0
 ends close-paren = 0
 
--- prefixes are tighter than all operators, so every symbol ends them
-pub level-bound : (o : Operator) → level o < prefix-level
-level-bound o =
-    elim o
-    [ Or ↦ omega arith | And ↦ omega arith | Less ↦ omega arith | AtMost ↦ omega arith | More ↦ omega arith | AtLeast ↦ omega arith | Equal ↦ omega arith | Differs ↦ omega arith | Plus ↦ omega arith | Minus ↦ omega arith | Times ↦ omega arith | Over ↦ omega arith ]
-
-pub ends-bound : (x : Symbol) → ends x ≤ prefix-level
-ends-bound x =
-    elim x
-    [ number v ↦ omega arith | letter i ↦ omega arith | operator o ↦ level-bound o | not-sign ↦ omega arith | question ↦ omega arith | colon ↦ omega arith | open-paren ↦ omega arith | close-paren ↦ omega arith ]
-
 -- what is begun on top of the stack, of tightness l or more, takes the tree
 unfoldable pub reduce : ℕ → Tree → Stack → Tree × Stack
 reduce l t [] = (t, [])

@@ -4,3 +4,4 @@ pub mod Readings
 pub mod Sound
 pub mod Symbols
 pub mod Theorem
+pub mod Levels

@@ -13,7 +13,6 @@ use Rattle.spec_lists.specs.Runs.{Run}
 use Rattle.spec_file.specs.Limit.{Section, order}
 use Rattle.spec_table.specs.Layout.{width, header-bytes}
 use Rattle.spec_table.specs.View.{offset-of}
-use Rattle.spec_table.specs.laws.Bytes.{each}
 
 -- the word at a byte
 abbrev pub word-at : List ℕ → ℕ → ℕ

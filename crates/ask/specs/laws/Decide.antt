@@ -7,10 +7,9 @@ use Prim.Native.Nat.{ℕ, _+_, _≤_, _<_}
 use native.Mathlib.Omega.{arith}
 use lib.ListN.{length, take}
 use borrow.Author.Tests.{le-leb, lt-leb}
-use Rattle.spec_calc.specs.declared.Reading.{Reading}
 use Rattle.spec_rule.specs.declared.Access.the-variants as access
 use Rattle.spec_rule.specs.declared.Decision.{Decision}
-use Rattle.spec_rule.specs.Question.{question-of, Question}
+use Rattle.spec_rule.specs.Question.{Question}
 use Rattle.spec_rule.specs.Decision.{no-access, decision-by}
 use Rattle.spec_rule.specs.laws.Walk.{taken-on, taken-all}
 use Rattle.spec_file.specs.Limit.{access-groups, rules}

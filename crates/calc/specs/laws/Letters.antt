@@ -11,7 +11,7 @@ use lib.ListN.{length, take, drop}
 use lib.Ieee.{Float}
 use Rattle.spec_lists.specs.Text.{same, among, within}
 use Rattle.spec_lists.specs.Select.{all, first, run, after, skip-if, holds-of}
-use Rattle.spec_lists.specs.laws.Both.{both}
+use Rattle.spec_lists.specs.laws.Both.{both, absurd-bool}
 use Rattle.spec_calc.specs.Symbol.{Symbol, number, letter, Spelling, spellings, Start, blank, figure, wrong, sign, sign-of, start, then, then-number, numeral}
 use Rattle.spec_calc.specs.Symbol.{numeral-byte, symbols-in}
 use Rattle.spec_calc.specs.Expression.{Tree, Expression, plain, conditional, Joined, tighter, join, prefixed, Operand, negated, denied, a-number, a-letter}
@@ -21,7 +21,6 @@ use Rattle.spec_calc.specs.Reader.{tree-of}
 use Rattle.spec_calc.specs.laws.Theorem.{says-sound}
 use Rattle.calc_symbol.specs.Scan.{syms, spelling}
 use Rattle.calc.specs.Answer.{given-letter, letter-of, letters-in, letter-begun, byte-letters, symbols-given}
-use Rattle.spec_lists.specs.laws.Both.{absurd-bool}
 use Rattle.calc_symbol.specs.laws.Bytes.{start-by, first-all}
 
 -- ---- the bytes'

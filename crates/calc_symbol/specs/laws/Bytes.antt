@@ -10,7 +10,7 @@ use lib.Dec.{eqb, ltb}
 use lib.ListN.{length, getD, take}
 use Rattle.spec_lists.specs.Text.{same, within, among, digit}
 use Rattle.spec_lists.specs.Select.{all, first, first-if}
-use Rattle.spec_lists.specs.laws.Both.{both}
+use Rattle.spec_lists.specs.laws.Both.{both, absurd-bool}
 use Rattle.spec_calc.specs.declared.Operator.{Operator}
 use Rattle.spec_calc.specs.declared.Operator.the-variants as op
 use Rattle.spec_calc.specs.Symbol.{Symbol, number, letter, operator, not-sign, question, colon, open-paren, close-paren, Spelling, spellings, Start, blank}
@@ -18,7 +18,6 @@ use Rattle.spec_calc.specs.Symbol.{figure, sign, sign-of, wrong, start, numeral
 use Rattle.calc_symbol.specs.declared.Spelled.{Spelled}
 use Rattle.calc_symbol.specs.declared.Spelled.the-variants.{As, Nothing}
 use Rattle.calc_symbol.specs.Scan.{spelling, single, Pair-ok}
-use Rattle.spec_lists.specs.laws.Both.{absurd-bool}
 use Rattle.spec_lists.specs.laws.Range.{above, inside}
 
 -- what a byte begins: a blank, a number, a capital letter, a small letter, or else x

@@ -1,5 +1,6 @@
 use Rattle.spec_calc.specs.Symbol.{colon, close-paren}
-use Rattle.spec_calc.specs.Reader.{wanted, minus-of, not-of, level-bound}
+use Rattle.spec_calc.specs.Reader.{wanted, minus-of, not-of}
+use Rattle.spec_calc.specs.laws.Levels.{level-bound}
 use Rattle.calc_symbol.specs.Lookahead.{Begins, Joins, Mark-at}
 use Prim.Native.Nat.{ℕ, _+_, _<_}
 use mathlib.Core.Path.{refl, subst}

@@ -14,8 +14,9 @@ use Rattle.spec_calc.specs.declared.Reading.the-variants as readings
 use Rattle.spec_calc.specs.Symbol.{Symbol, number, letter, operator, not-sign, question, colon, open-paren, close-paren}
 use Rattle.spec_calc.specs.Expression.{Tree, number-tree, letter-tree, binary, choice, level}
 use Rattle.spec_calc.specs.Value.{truth, is-true, apply, heard, reading, value}
-use Rattle.spec_calc.specs.Reader.{Begun, minus-of, not-of, left-of, else-of, ended, tightness, begun, paren, if-of, Stack, State, wanted, have, level-bound}
-use Rattle.spec_calc.specs.Reader.{ends, ends-bound, reduce, first-of, run}
+use Rattle.spec_calc.specs.Reader.{Begun, minus-of, not-of, left-of, else-of, ended, tightness, begun, paren, if-of, Stack, State, wanted, have, ends, reduce}
+use Rattle.spec_calc.specs.Reader.{first-of, run}
+use Rattle.spec_calc.specs.laws.Levels.{level-bound, ends-bound}
 use Rattle.spec_calc.specs.laws.Complete.{top}
 use Rattle.calc_value.specs.declared.Parsed.{Parsed}
 use Rattle.calc_value.specs.declared.Parsed.the-variants as parsed

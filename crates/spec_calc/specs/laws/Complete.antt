@@ -7,8 +7,9 @@ use borrow.Author.Tests.{le-leb, lt-leb}
 use Rattle.spec_calc.specs.Symbol.{Symbol}
 use Rattle.spec_calc.specs.Expression.{Tree, level, prefix-level, Expression, plain, conditional, Joined, tighter, join, prefixed, Operand, negated}
 use Rattle.spec_calc.specs.Expression.{denied, a-number, a-letter, parenthesised}
-use Rattle.spec_calc.specs.Reader.{Begun, minus-of, not-of, left-of, else-of, ended, tightness, begun, paren, if-of, Stack, wanted, have, ends}
-use Rattle.spec_calc.specs.Reader.{ends-bound, reduce, run}
+use Rattle.spec_calc.specs.Reader.{Begun, minus-of, not-of, left-of, else-of, ended, tightness, begun, paren, if-of, Stack, wanted, have, ends, reduce}
+use Rattle.spec_calc.specs.Reader.{run}
+use Rattle.spec_calc.specs.laws.Levels.{ends-bound}
 
 -- what the first symbol ends, or the end of the symbols
 abbrev pub first-ends : List Symbol → ℕ

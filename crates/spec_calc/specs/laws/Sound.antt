@@ -15,8 +15,8 @@ use Rattle.spec_calc.specs.Symbol.{Symbol, number, letter, operator, not
 use Rattle.spec_calc.specs.Expression.{Tree, level, prefix-level, Expression, plain, conditional, Joined, tighter, join, prefixed, Operand, negated}
 use Rattle.spec_calc.specs.Expression.{denied, a-number, a-letter, parenthesised}
 use Rattle.spec_calc.specs.Reader.{Begun, minus-of, not-of, left-of, else-of, ended, tightness, begun, paren, if-of, Stack, State, wanted, have, stuck}
-use Rattle.spec_calc.specs.Reader.{ends, level-bound, ends-bound, reduce, prefix, first-of, other-branch, out-of-paren, behind, step, alone, run}
-use Rattle.spec_calc.specs.Reader.{read-tree}
+use Rattle.spec_calc.specs.Reader.{ends, reduce, prefix, first-of, other-branch, out-of-paren, behind, step, alone, run, read-tree}
+use Rattle.spec_calc.specs.laws.Levels.{level-bound, ends-bound}
 
 -- the symbols s are something of that tightness or more, that says t, and then r
 abbrev At : ℕ → List Symbol → List Symbol → Tree → Type 0
