@@ -1,5 +1,5 @@
 use Rattle.prog_line.specs.laws.Question.{wrong-width, no-digit, a-digit}
-use Rattle.prog_reading.specs.laws.Numbers.{inside, below, above}
+use Rattle.spec_lists.specs.laws.Range.{inside, below, above}
 use native.Mathlib.Omega.{arith}
 use borrow.Author.Needs.{needs}
 use Rattle.prog_line.proofs.level_of.Statement.{statement}
