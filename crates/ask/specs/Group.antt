@@ -10,8 +10,7 @@ use Rattle.spec_rule.specs.Rule.{Rule}
 use Rattle.spec_rule.specs.Decision.{decision-by}
 use Rattle.spec_file.specs.Limit.{access-groups, inputs}
 use Rattle.spec_table.specs.View.{view}
-use Rattle.spec_table.specs.Policy.{rules-of}
-use Rattle.spec_table.specs.laws.Standing.{row}
+use Rattle.spec_table.specs.Policy.{rules-of, row}
 use Rattle.spec_decision.specs.LookUp.{input-of}
 use Rattle.table_read.specs.declared.Index.{Index}
 use Rattle.table_read.specs.Search.{Finds, group-for}

@@ -9,8 +9,7 @@ use Rattle.spec_lists.specs.Runs.{Run, part}
 use Rattle.spec_file.specs.Limit.{Section, user-groups, host-groups, rules, references}
 use Rattle.spec_table.specs.View.{view}
 use Rattle.spec_table.specs.Check.{run-at, number-field, undefined-number}
-use Rattle.spec_table.specs.Policy.{members-of, referred}
-use Rattle.spec_table.specs.laws.Standing.{row}
+use Rattle.spec_table.specs.Policy.{members-of, referred, row}
 use Rattle.ask_rule.specs.declared.GroupKind.{GroupKind}
 use Rattle.ask_rule.specs.declared.GroupKind.the-variants.{Users, Hosts}
 

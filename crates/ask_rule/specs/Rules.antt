@@ -13,8 +13,7 @@ use Rattle.spec_rule.specs.Decision.{grant, decision-by}
 use Rattle.spec_file.specs.Limit.{rules}
 use Rattle.spec_table.specs.View.{view}
 use Rattle.spec_table.specs.Check.{permission-bits, trap-bit}
-use Rattle.spec_table.specs.Policy.{permission, set-bit, rule-of}
-use Rattle.spec_table.specs.laws.Standing.{row}
+use Rattle.spec_table.specs.Policy.{permission, set-bit, rule-of, row}
 
 -- the i-th rule of a table
 abbrev pub rule-at : List ℕ → ℕ → Rule

@@ -117,7 +117,7 @@ fn fraction_at(s: &[u8], at: usize, left: usize, n: u64) -> Figure
     }
 }
 
-// The number that begins at an offset. calc_symbol and lines call it where they have seen a digit or a point.
+// The number that begins at an offset. calc_symbol and prog_reading call it where they have seen a digit or a point.
 pub fn number_at(s: &[u8], at: usize) -> Figure
     requires { ⌜ (at < length (now s)) × (numeral-byte (getD (now s) at 0) ≡ true) ⌝ }
     ensures { λ r. ⌜ Numbered (now (s .entry)) at r ⌝ }

@@ -8,8 +8,7 @@ use Rattle.spec_calc.specs.declared.Operator.the-variants as operators
 use Rattle.spec_lists.specs.Text.{bytes}
 use Rattle.spec_calc.specs.Symbol.{Symbol, number, letter, operator, not-sign, question, open-paren, sign, start}
 use Rattle.spec_calc.specs.Expression.{Tree, level}
-use Rattle.spec_calc.specs.Reader.{begun, paren, if-of, Stack, State, wanted, have, run}
-use Rattle.spec_calc.specs.laws.Complete.{first-ends}
+use Rattle.spec_calc.specs.Reader.{begun, paren, if-of, Stack, State, wanted, have, run, first-ends}
 use Rattle.calc_symbol.specs.declared.First.{First}
 use Rattle.calc_symbol.specs.declared.First.the-variants as first
 use Rattle.calc_symbol.specs.declared.Joint.{Joint}

@@ -8,8 +8,7 @@ use lib.Ieee.{Float}
 use Rattle.spec_calc.specs.declared.Reading.the-variants as readings
 use Rattle.spec_calc.specs.Expression.{Tree}
 use Rattle.spec_calc.specs.Value.{value}
-use Rattle.spec_calc.specs.Reader.{begun, if-of, else-of, Stack, State, wanted, have}
-use Rattle.spec_calc.specs.laws.Complete.{top}
+use Rattle.spec_calc.specs.Reader.{begun, if-of, else-of, Stack, State, wanted, have, top}
 use Rattle.calc_value.specs.declared.Parsed.{Parsed}
 use Rattle.calc_value.specs.declared.Parsed.the-variants as parsed
 use Rattle.calc_symbol.specs.Scan.{syms}

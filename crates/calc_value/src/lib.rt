@@ -102,7 +102,7 @@ fn operand(s: &[u8], vs: &[f64; 21], at: usize) -> Parsed
     }
 }
 
-// The value of a whole text, the letters having the values vs. evaluate calls it with an array of 21.
+// The value of a whole text, the letters having the values vs. calc calls it with an array of 21.
 pub fn worth_of(s: &[u8], vs: &[f64; 21]) -> Worth
     requires { ⌜ length (now vs) ≡ 21 ⌝ }
     ensures { λ r. ⌜ r ≡ worth (map Reading.Value (now (vs .entry))) (tree-of (now (s .entry))) ⌝ }

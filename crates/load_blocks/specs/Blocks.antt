@@ -5,7 +5,7 @@ use mathlib.Core.List.{List, [], _∷_, _++_}
 use Prim.Native.Nat.{ℕ, suc, _-_, _≤_}
 use lib.Dec.{eqb, leb}
 use Rattle.spec_token.specs.declared.Kind.the-variants as kind
-use Rattle.spec_grammar.specs.Reader.{Stack, once, perhaps, often, arguments, block, block-element, Depth, inner, behind, mute}
+use Rattle.spec_grammar.specs.Reader.{Stack, once, perhaps, often, arguments, block, block-element, Depth, inner, behind, no-role}
 use Rattle.load_elements.specs.declared.Cursor.{Cursor}
 use Rattle.load_elements.specs.Parse.{Parsed}
 use Rattle.load_elements.specs.Reads.{remaining, parse-at, Leads}
@@ -22,7 +22,7 @@ float-or-int x = cond (eqb x 7) 7 6
 
 -- what follows "{" NAME "("
 abbrev pub nested-elements : Stack
-nested-elements = once arguments ∷ perhaps (block inner) ∷ often block-element ∷ mute kind.CloseBrace ∷ []
+nested-elements = once arguments ∷ perhaps (block inner) ∷ often block-element ∷ no-role kind.CloseBrace ∷ []
 
 -- what the whole file comes to behind the opening of a block
 unfoldable pub parse-opened : Depth → List ℕ → List ℕ → Opened → Stack → Parsed

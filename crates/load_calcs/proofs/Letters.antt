@@ -11,7 +11,7 @@ use Rattle.spec_lists.specs.Select.{all, any, holds-of}
 use Rattle.spec_calc.specs.Expression.{Tree}
 use Rattle.spec_calc.specs.Value.{letters}
 use Rattle.spec_calc.specs.Reader.{tree-of}
-use Rattle.spec_calc.specs.laws.Theorem.{says-sound}
+use Rattle.spec_calc.specs.laws.Theorem.{parses-sound}
 use Rattle.spec_file.specs.Refusal.{letters-among}
 use Rattle.calc_symbol.specs.Scan.{syms}
 use Rattle.calc.specs.Answer.{symbols-given}
@@ -28,7 +28,7 @@ in-range-below i e = go (ltb i 21) refl
 tree-in-range : (s : List ℕ) (t : Tree) → tree-of s ≡ some t → all in-range (letters t) ≡ true
 unfolding syms
 tree-in-range s t e =
-    let y = says-sound s t e in
+    let y = parses-sound s t e in
     sym (letters-same s t e (replicate 21 true)) ∙ ap (symbols-given (replicate 21 true)) (y .spelling) ∙ rw (y .spelling) at (text-in-range s)
 
 all-agree : (p q : ℕ → Bool) → ((i : ℕ) → i < 21 → p i ≡ q i) → (ls : List ℕ) → all in-range ls ≡ true → all p ls ≡ all q ls

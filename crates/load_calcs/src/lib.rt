@@ -59,7 +59,10 @@ fn bad_calculation_at(
     i: usize,
     given: [bool; 21],
 ) -> bool
-    requires { ⌜ Spans-fit (now s) (now starts) (now ends) (now roles) n × (i < n) × Gives given (around (now s) (arrays (now starts) (now ends)) (now roles) n i) ⌝ }
+    requires { ⌜
+        Spans-fit (now s) (now starts) (now ends) (now roles) n × (i < n)
+        × Gives given (around (now s) (arrays (now starts) (now ends)) (now roles) n i)
+        ⌝ }
     ensures { λ r. ⌜ r ≡ applies-at bad-calculation (now (s .entry)) (now (starts .entry)) (now (ends .entry)) (now (roles .entry)) n i ⌝ }
 {
     if roles[i] == CALCULATION {
@@ -69,7 +72,7 @@ fn bad_calculation_at(
 }
 
 // The first calculation that is not allowed, or n.
-// The caller, load_judge, has the tokens from load_syntax.
+// The caller, load_causes, has the tokens from load_syntax.
 pub fn bad_calculation(s: &[u8], starts: &[u16], ends: &[u16], roles: &[u8], n: usize) -> usize
     requires { ⌜ Spans-fit (now s) (now starts) (now ends) (now roles) n ⌝ }
     ensures { λ r. ⌜ r ≡ first-of bad-calculation (now (s .entry)) (now (starts .entry)) (now (ends .entry)) (now (roles .entry)) n ⌝ }

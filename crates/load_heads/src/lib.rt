@@ -48,7 +48,7 @@ fn bad_level_at(s: &[u8], starts: &[u16], ends: &[u16], roles: &[u8], n: usize, 
 }
 
 // The first level that is neither 0 nor 1, or n.
-// The caller, load_judge, has the tokens from load_syntax.
+// The caller, load_causes, has the tokens from load_syntax.
 pub fn bad_level(s: &[u8], starts: &[u16], ends: &[u16], roles: &[u8], n: usize) -> usize
     requires { ⌜ Spans-fit (now s) (now starts) (now ends) (now roles) n ⌝ }
     ensures { λ r. ⌜ r ≡ first-of bad-level (now (s .entry)) (now (starts .entry)) (now (ends .entry)) (now (roles .entry)) n ⌝ }
@@ -78,7 +78,7 @@ fn unknown_at(s: &[u8], starts: &[u16], ends: &[u16], roles: &[u8], n: usize, i:
 }
 
 // The first permission or log option that is no known word, or n.
-// The caller, load_judge, has the tokens from load_syntax.
+// The caller, load_causes, has the tokens from load_syntax.
 pub fn unknown_word(s: &[u8], starts: &[u16], ends: &[u16], roles: &[u8], n: usize) -> usize
     requires { ⌜ Spans-fit (now s) (now starts) (now ends) (now roles) n ⌝ }
     ensures { λ r. ⌜ r ≡ first-of unknown-word (now (s .entry)) (now (starts .entry)) (now (ends .entry)) (now (roles .entry)) n ⌝ }

@@ -22,5 +22,5 @@ pub record Space (s places starts ends roles : List ℕ) : Type 0 where
 pub record Judged (s places starts ends roles : List ℕ) (r : Judgment) : Type 0 where
   pub kinds : List ℕ
   pub same : verdict s ≡ final-verdict s (arrays-of kinds places starts ends) roles r
-  pub lie : Spans-fit s starts ends roles (count r)
+  pub spans : Spans-fit s starts ends roles (count r)
   pub has-places : count r ≤ length places

@@ -14,7 +14,7 @@ const ANY: usize = 16384;
 
 // How long a text may be, by its role's number.
 const LIMITS: [usize; 18] = [
-    ANY, // mute
+    ANY, // no-role
     60, // a UAG's name
     60, // a user
     60, // a HAG's name
@@ -66,7 +66,7 @@ fn long_at(
 }
 
 // The first token whose text is longer than its role allows, or n.
-// The caller, load_judge, has the tokens from load_syntax.
+// The caller, load_causes, has the tokens from load_syntax.
 pub fn too_long(s: &[u8], starts: &[u16], ends: &[u16], roles: &[u8], n: usize) -> usize
     requires { ⌜ Spans-fit (now s) (now starts) (now ends) (now roles) n ⌝ }
     ensures { λ r. ⌜ r ≡ first-of too-long (now (s .entry)) (now (starts .entry)) (now (ends .entry)) (now (roles .entry)) n ⌝ }
@@ -83,7 +83,7 @@ pub fn too_long(s: &[u8], starts: &[u16], ends: &[u16], roles: &[u8], n: usize) 
 }
 
 // The first item that passes the limit of its section, or n.
-// The caller, load_judge, has the tokens from load_syntax.
+// The caller, load_causes, has the tokens from load_syntax.
 pub fn too_many(s: &[u8], starts: &[u16], ends: &[u16], roles: &[u8], n: usize) -> usize
     requires { ⌜ Spans-fit (now s) (now starts) (now ends) (now roles) n ⌝ }
     ensures { λ r. ⌜ r ≡ first-of too-many (now (s .entry)) (now (starts .entry)) (now (ends .entry)) (now (roles .entry)) n ⌝ }

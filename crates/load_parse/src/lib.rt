@@ -31,7 +31,7 @@ ghost use Prim.Native.Nat.{_≤_, _<_};
 ghost use lib.ListN.{length};
 ghost use Rattle.spec_token.specs.declared.Kind.the-variants as kind;
 ghost use Rattle.spec_grammar.specs.declared.Role.the-variants as role;
-ghost use Rattle.spec_grammar.specs.Reader.{Expected, once, perhaps, often, mute, string, named, headed, block, top, asg-block, asg-item, item};
+ghost use Rattle.spec_grammar.specs.Reader.{Expected, once, perhaps, often, no-role, string, named, headed, block, top, asg-block, asg-item, item};
 ghost use Rattle.load_elements.specs.Parse.{parse};
 ghost use Rattle.load_elements.specs.Reads.{Reads};
 ghost use Rattle.load_strings.specs.Enclosed.{in-braces};
@@ -88,7 +88,7 @@ fn asg_block(kinds: &[u8], roles: &mut [u8], s: Cursor) -> Cursor
 fn asg(kinds: &[u8], roles: &mut [u8], s: Cursor) -> Cursor
     requires { ⌜ length (now roles) ≡ length (now kinds) ⌝ }
     ensures { λ r. ⌜
-        Reads 1 (mute kind.Asg ∷ named role.AsgName (perhaps asg-block ∷ []))
+        Reads 1 (no-role kind.Asg ∷ named role.AsgName (perhaps asg-block ∷ []))
         (now (kinds .entry)) (now (roles .entry)) s (now (roles .exit)) r
         ⌝ }
 {

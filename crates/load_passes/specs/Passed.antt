@@ -13,7 +13,7 @@ use Rattle.load_passes.specs.Pass.{emits, moves, refer-emits, refer-move
 
 -- the tokens of a file, whose texts lie in s, and those that define its groups
 pub record Source (s starts ends roles : List ℕ) (n : ℕ) (uags hags : List ℕ) : Type 0 where
-  pub lie : Spans-fit s starts ends roles n
+  pub spans : Spans-fit s starts ends roles n
   pub users : Listed-spans-fit s starts ends uags
   pub hosts : Listed-spans-fit s starts ends hags
 
@@ -36,7 +36,7 @@ pass-reach = 1073741824
 
 -- what is asked where a pass starts; q: the number of the role; m: that of what belongs to each token; to: where the part ends
 pub record Start (s starts ends roles : List ℕ) (to q m : ℕ) (p : Cursor) : Type 0 where
-  pub lie : Spans-fit s starts ends roles to
+  pub spans : Spans-fit s starts ends roles to
   pub head : Role-code q
   pub part : Role-code m
   pub bounded : Bounded pass-limit p

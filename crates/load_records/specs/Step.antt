@@ -14,7 +14,7 @@ use Rattle.load_records.specs.Record.{emit, move}
 
 -- q: the number of the token's role; m: that of what belongs to it; to: where the part ends
 pub record Ready (s starts ends roles : List ℕ) (i to q m : ℕ) (p : Cursor) : Type 0 where
-  pub lie : Spans-fit s starts ends roles to
+  pub spans : Spans-fit s starts ends roles to
   pub here : i < to
   pub head : Role-code q
   pub part : Role-code m

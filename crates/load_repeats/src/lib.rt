@@ -76,7 +76,7 @@ fn name_repeated(
 }
 
 // The first name or letter given again, or n.
-// The caller, load_judge, has the tokens from load_syntax.
+// The caller, load_causes, has the tokens from load_syntax.
 pub fn given_again(
     s: &[u8],
     starts: &[u16],

@@ -5,7 +5,7 @@ use Prim.Native.Nat.{ℕ}
 use Rattle.spec_token.specs.declared.Kind.the-variants as kind
 use Rattle.spec_grammar.specs.declared.Role.the-variants as role
 use Rattle.spec_grammar.specs.Production.{_tagged_}
-use Rattle.spec_grammar.specs.Reader.{Stack, once, token, mute, string, log-option}
+use Rattle.spec_grammar.specs.Reader.{Stack, once, token, no-role, string, log-option}
 use Rattle.load_blocks.specs.Blocks.{is-name}
 
 -- the kind that a name must have, where x stands
@@ -14,8 +14,8 @@ name-or-string x = cond (is-name x) x 8
 
 -- what follows the level in a rule_head
 abbrev pub permission : Stack
-permission = mute kind.Comma ∷ string role.Permission ∷ once log-option ∷ []
+permission = no-role kind.Comma ∷ string role.Permission ∷ once log-option ∷ []
 
 -- RULE and rule_head
 abbrev pub rule-head : Stack
-rule-head = once (token (kind.Rule tagged role.RuleWord)) ∷ mute kind.OpenParen ∷ once (token (kind.Int tagged role.Level)) ∷ permission
+rule-head = once (token (kind.Rule tagged role.RuleWord)) ∷ no-role kind.OpenParen ∷ once (token (kind.Int tagged role.Level)) ∷ permission

@@ -3,8 +3,7 @@ use mathlib.Core.Path.{_≡_}
 use mathlib.Core.List.{List}
 use Prim.Native.Nat.{ℕ, _≤_, _<_}
 use lib.ListN.{length, getD}
-use Rattle.spec_token.specs.Token.{Token, Lexeme, lexeme-of, bad, then}
-use Rattle.spec_token.specs.laws.Steps.{scan-from}
+use Rattle.spec_token.specs.Token.{Token, Lexeme, lexeme-of, bad, then, scan-from}
 use Rattle.load_tokens.specs.Arrays.{kind-of-number, between}
 use Rattle.load_scan.specs.declared.Entry.{Entry}
 use Rattle.load_scan.specs.declared.Step.{Step}

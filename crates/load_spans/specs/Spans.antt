@@ -1,7 +1,6 @@
 -- Where the texts of tokens stand: spans of the file.
 use Prim.Native.Nat.{ℕ, _≤_, _<_}
 use mathlib.Core.List.{List}
-use native.Mathlib.Omega.{arith}
 use lib.ListN.{length, getD}
 use Rattle.load_tokens.specs.Arrays.{between}
 

@@ -27,6 +27,8 @@ pub fn long(s: &[u8], starts: &[u16], ends: &[u16], i: usize) -> usize
     t.len()
 }
 
+const LETTER_A: usize = 65; // b'A'
+
 // The letter of an INP word, A being 0.
 pub fn letter(s: &[u8], starts: &[u16], ends: &[u16], i: usize) -> usize
     requires { ⌜ Span-fits (now s) (now starts) (now ends) i ⌝ }
@@ -37,15 +39,18 @@ pub fn letter(s: &[u8], starts: &[u16], ends: &[u16], i: usize) -> usize
         return 0;
     }
     let b = t[3];
-    if b < 65 {
+    if b < b'A' {
         return 0;
     }
-    b as usize - 65
+    b as usize - LETTER_A
 }
 
 pub fn same_text(s: &[u8], starts: &[u16], ends: &[u16], i: usize, j: usize) -> bool
     requires { ⌜ Span-fits (now s) (now starts) (now ends) i × Span-fits (now s) (now starts) (now ends) j ⌝ }
-    ensures { λ r. ⌜ r ≡ same (text-at (now (s .entry)) (now (starts .entry)) (now (ends .entry)) i) (text-at (now (s .entry)) (now (starts .entry)) (now (ends .entry)) j) ⌝ }
+    ensures { λ r. ⌜
+        r
+        ≡ same (text-at (now (s .entry)) (now (starts .entry)) (now (ends .entry)) i) (text-at (now (s .entry)) (now (starts .entry)) (now (ends .entry)) j)
+        ⌝ }
 {
     byte_compare::equal(text(s, starts, ends, i), text(s, starts, ends, j))
 }
@@ -53,7 +58,10 @@ pub fn same_text(s: &[u8], starts: &[u16], ends: &[u16], i: usize, j: usize) -> 
 // How many of some tokens stand before the first that has a token's text.
 pub fn position(s: &[u8], starts: &[u16], ends: &[u16], names: &[u16], i: usize) -> usize
     requires { ⌜ Span-fits (now s) (now starts) (now ends) i × Listed-spans-fit (now s) (now starts) (now ends) (now names) ⌝ }
-    ensures { λ r. ⌜ r ≡ position (text-at (now (s .entry)) (now (starts .entry)) (now (ends .entry)) i) (map (text-at (now (s .entry)) (now (starts .entry)) (now (ends .entry))) (now (names .entry))) ⌝ }
+    ensures { λ r. ⌜
+        r
+        ≡ position (text-at (now (s .entry)) (now (starts .entry)) (now (ends .entry)) i) (map (text-at (now (s .entry)) (now (starts .entry)) (now (ends .entry))) (now (names .entry)))
+        ⌝ }
 {
     let mut k = 0;
     while k < names.len() {

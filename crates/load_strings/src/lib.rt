@@ -1,6 +1,6 @@
 // Strings in parentheses and braces, as groups, inputs and rules have them.
 // Each function asks that there are as many roles as kinds: load_parse::read cuts both slices to one length, and its callees hand them on.
-// The kinds that are expected are constants of the callers, load_rules and reader.
+// The kinds that are expected are constants of the callers, load_rules and load_parse.
 use load_elements::Cursor;
 use load_elements::expect;
 use load_elements::kind_at;

@@ -54,7 +54,9 @@ pub fn read(
     roles: &mut [u8],
 ) -> Judgment
     requires { ⌜ Capacity (now s) (arrays-of (now kinds) (now places) (now starts) (now ends)) (now roles) ⌝ }
-    ensures { λ r. ⌜ Read (now (s .entry)) (arrays-of (now (kinds .exit)) (now (places .exit)) (now (starts .exit)) (now (ends .exit))) (now (roles .exit)) r ⌝ }
+    ensures { λ r. ⌜
+        Read (now (s .entry)) (arrays-of (now (kinds .exit)) (now (places .exit)) (now (starts .exit)) (now (ends .exit))) (now (roles .exit)) r
+        ⌝ }
 {
     match load_scan::scan(s, kinds, places, starts, ends) {
         load_scan::Scanned::Bad(p) => Judgment::Refused(spec_file::Refusal::BadByte, p),

@@ -1,6 +1,5 @@
+// How a load keeps tokens in arrays: the codes of kinds and roles, and in specs/ what the arrays mean.
 ghost use mathlib.Core.Path.{_≡_};
-
-// How tokens are kept in arrays while a file is loaded: see specs/.
 
 // The codes of the kinds: spec_grammar/specs/Codes.antt, kind-number.
 pub const UAG: u8 = 0;

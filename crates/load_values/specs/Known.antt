@@ -11,17 +11,17 @@ use Rattle.load_values.specs.declared.Permission.the-variants as permiss
 use Rattle.load_values.specs.declared.Log.{Log}
 use Rattle.load_values.specs.declared.Log.the-variants as log
 
-abbrev pub level-told : Option ℕ → Level
-level-told none = level.No
-level-told (some n) = level.Is n
+abbrev pub known-level : Option ℕ → Level
+known-level none = level.No
+known-level (some n) = level.Is n
 
-abbrev pub permission-told : Option Access → Permission
-permission-told none = permission.No
-permission-told (some a) = permission.Is a
+abbrev pub known-permission : Option Access → Permission
+known-permission none = permission.No
+known-permission (some a) = permission.Is a
 
-abbrev pub log-told : Option Bool → Log
-log-told none = log.No
-log-told (some b) = log.Is b
+abbrev pub known-log : Option Bool → Log
+known-log none = log.No
+known-log (some b) = log.Is b
 
 -- the level of a whole number, below zero or not
 abbrev pub level-by : ℕ → Bool → Option ℕ

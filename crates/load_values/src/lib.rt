@@ -4,7 +4,7 @@ ghost use Prim.Native.Nat.{_-_, _≤_, min};
 ghost use lib.ListN.{length, drop};
 ghost use Rattle.spec_lists.specs.Text.{whole};
 ghost use Rattle.spec_file.specs.Contents.{level-of, permission-of, log-of};
-ghost use Rattle.load_values.specs.Known.{level-told, level-by, permission-told, log-told};
+ghost use Rattle.load_values.specs.Known.{known-level, level-by, known-permission, known-log};
 use spec_rule::Access;
 
 // The level that a text spells.
@@ -55,7 +55,7 @@ fn small_whole(t: &[u8], from: usize) -> usize
 // The level that a text spells from a byte on, behind its sign.
 fn level_from(t: &[u8], from: usize, negative: bool) -> Level
     requires { ⌜ from ≤ length (now t) ⌝ }
-    ensures { λ r. ⌜ r ≡ level-told (level-by (whole 0 (drop from (now (t .entry)))) negative) ⌝ }
+    ensures { λ r. ⌜ r ≡ known-level (level-by (whole 0 (drop from (now (t .entry)))) negative) ⌝ }
 {
     let v = small_whole(t, from);
     if v == 0 {
@@ -72,7 +72,7 @@ fn level_from(t: &[u8], from: usize, negative: bool) -> Level
 
 // A level counts by its value: `+1`, `01` and `-0` are levels, `-1` is not.
 pub fn level_of(t: &[u8]) -> Level
-    ensures { λ r. ⌜ r ≡ level-told (level-of (now (t .entry))) ⌝ }
+    ensures { λ r. ⌜ r ≡ known-level (level-of (now (t .entry))) ⌝ }
 {
     if t.len() == 0 {
         return Level::Is(0);
@@ -89,7 +89,7 @@ pub fn level_of(t: &[u8]) -> Level
 
 // NONE, READ or WRITE.
 pub fn permission_of(t: &[u8]) -> Permission
-    ensures { λ r. ⌜ r ≡ permission-told (permission-of (now (t .entry))) ⌝ }
+    ensures { λ r. ⌜ r ≡ known-permission (permission-of (now (t .entry))) ⌝ }
 {
     if byte_compare::equal(t, b"NONE") {
         return Permission::Is(Access::None);
@@ -105,7 +105,7 @@ pub fn permission_of(t: &[u8]) -> Permission
 
 // NOTRAPWRITE or TRAPWRITE.
 pub fn log_of(t: &[u8]) -> Log
-    ensures { λ r. ⌜ r ≡ log-told (log-of (now (t .entry))) ⌝ }
+    ensures { λ r. ⌜ r ≡ known-log (log-of (now (t .entry))) ⌝ }
 {
     if byte_compare::equal(t, b"NOTRAPWRITE") {
         return Log::Is(false);

@@ -1,7 +1,6 @@
 -- Where the sign of a number ends. 001, "Lexical tokens".
 use mathlib.Core.Path.{_≡_}
-use mathlib.Core.Bool.{Bool, true, false, _&&_, not}
-use mathlib.Core.List.{List, [], _∷_}
+use mathlib.Core.List.{List}
 use Prim.Native.Nat.{ℕ, _≤_}
 use lib.ListN.{length, drop}
 use Rattle.spec_token.specs.Word.{unsigned}

@@ -5,7 +5,7 @@ ghost use lib.ListN.{length, drop};
 ghost use Rattle.spec_lists.specs.Text.{digit};
 ghost use Rattle.spec_token.specs.Word.{name-byte, int, float, inp, word-kind, digits, exponent, fraction};
 ghost use Rattle.spec_token.specs.Token.{lexeme-of, punctuation};
-ghost use Rattle.spec_token.specs.laws.Spans.{Span};
+ghost use Rattle.spec_token.specs.Spans.{Span};
 ghost use Rattle.spec_grammar.specs.Codes.{kind-number};
 ghost use Rattle.load_word.specs.Class.{belongs};
 ghost use Rattle.load_word.specs.Start.{start-of};

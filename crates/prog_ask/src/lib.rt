@@ -19,7 +19,7 @@ fn put_refusal(a: Loaded) {
     }
 }
 
-// Answers the questions, or prints why the rules are refused. The program lends the table, and a piece: as much as is read at once.
+// Answers the questions, or prints why the rules are refused. The program lends the table, and a piece: as much as is read at once, at most 4,096 bytes.
 pub fn answer(rules: &[u8], table: &mut [u8], fd: i32, piece: &mut [u8]) {
     let loaded = load::load(rules, table);
     put_refusal(loaded);

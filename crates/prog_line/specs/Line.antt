@@ -1,10 +1,11 @@
 -- A line of the asker's input. 01, "Two programs".
-use mathlib.Core.Bool.{Bool, true, false, cond, not, _&&_}
+use mathlib.Core.Bool.{Bool, true, cond, not, _&&_}
 use mathlib.Core.List.{List, [], _∷_}
 use mathlib.Core.Option.{Option, none, some}
 use Prim.Native.Nat.{ℕ, _-_}
 use lib.Dec.{leb}
 use lib.ListN.{length, set, replicate}
+use Prim.Native.Char.{code}
 use Rattle.spec_lists.specs.Text.{bytes, same, one-of, among, digit}
 use Rattle.spec_lists.specs.Select.{nonempty}
 use Rattle.spec_calc.specs.declared.Reading.{Reading}
@@ -32,7 +33,7 @@ group-of s = cond (same s (bytes "-")) [] s
 -- 01: "one-digit level"
 abbrev pub level-of : List ℕ → Option ℕ
 level-of [] = none
-level-of (d ∷ []) = cond (digit d) (some (d - 48)) none
+level-of (d ∷ []) = cond (digit d) (some (d - code "0")) none
 level-of (d ∷ e ∷ s) = none
 
 abbrev pub and-named : Option Named → Option (List Named) → Option (List Named)

@@ -4,6 +4,7 @@ use mathlib.Core.List.{List, [], _∷_}
 use mathlib.Core.Option.{Option, none, some}
 use Prim.Native.Nat.{ℕ, _-_}
 use lib.Ieee.{Float, nan, inf, neg}
+use Prim.Native.Char.{code}
 use Rattle.spec_lists.specs.Text.{bytes, same, among, within}
 use Rattle.spec_calc.specs.declared.Reading.{Reading}
 use Rattle.spec_calc.specs.declared.Reading.the-variants.{Invalid, Value}
@@ -49,4 +50,4 @@ named-as i (some r) = some (record { letter = i; reading = r })
 unfoldable pub named : List ℕ → Option Named
 named [] = none
 named (l ∷ []) = none
-named (l ∷ c ∷ s) = cond (within 65 85 l && among ":" c) (named-as (l - 65) (reading s)) none
+named (l ∷ c ∷ s) = cond (within (code "A") (code "U") l && among ":" c) (named-as (l - code "A") (reading s)) none

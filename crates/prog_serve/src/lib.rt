@@ -31,7 +31,7 @@ fn answer_pieces(table: &[u8], fd: i32, piece: &mut [u8], buffer: &mut [u8]) -> 
     count
 }
 
-// Answers the questions of an open file. A piece is as much as is read at once.
+// Answers the questions of an open file. A piece is as much as is read at once, at most 4,096 bytes: there is room for the answers to that many.
 // The caller has loaded the table.
 pub fn serve(table: &[u8], fd: i32, piece: &mut [u8])
     requires { ⌜ is-table (now table) ≡ true ⌝ }

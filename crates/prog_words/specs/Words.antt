@@ -3,6 +3,7 @@ use mathlib.Core.Bool.{Bool, true, false, cond}
 use mathlib.Core.List.{List, [], _∷_, _++_}
 use Prim.Native.Nat.{ℕ, zero, suc, _+_, _/_, _%_}
 use lib.Dec.{ltb}
+use Prim.Native.Char.{code}
 use Rattle.spec_lists.specs.Text.{bytes}
 use Rattle.spec_rule.specs.declared.Access.{Access}
 use Rattle.spec_rule.specs.declared.Access.the-variants as access
@@ -31,7 +32,7 @@ refused-line = bytes "refused line"
 -- The digits of a number, the last by itself and those of its tenth before it. The first number bounds the steps.
 unfoldable pub digits-in : ℕ → ℕ → List ℕ
 digits-in zero n = []
-digits-in (suc f) n = cond (ltb n 10) ((48 + n) ∷ []) (digits-in f (n / 10) ++ ((48 + n % 10) ∷ []))
+digits-in (suc f) n = cond (ltb n 10) ((code "0" + n) ∷ []) (digits-in f (n / 10) ++ ((code "0" + n % 10) ∷ []))
 
 -- a number in decimal digits, no 0 before them
 unfoldable pub decimal-digits : ℕ → List ℕ

@@ -2,13 +2,14 @@
 use mathlib.Core.Bool.{true, false}
 use mathlib.Core.List.{List, [], _∷_}
 use mathlib.Core.Option.{Option, none, some}
-use Prim.Native.Nat.{ℕ, suc, _≤_, _<_}
-use native.Mathlib.Omega.{arith}
+use Prim.Native.Nat.{ℕ, suc}
 use lib.Dec.{leb}
 use Rattle.spec_calc.specs.declared.Operator.{Operator}
 use Rattle.spec_calc.specs.declared.Operator.the-variants.{Or, And, Less, AtMost, More, AtLeast, Equal, Differs, Plus, Minus, Times, Over}
 use Rattle.spec_calc.specs.Symbol.{Symbol, number, letter, operator, not-sign, question, colon, open-paren, close-paren, symbols}
 use Rattle.spec_calc.specs.Expression.{Tree, number-tree, letter-tree, minus, negation, binary, choice, level, prefix-level}
+use Rattle.spec_calc.specs.Reader.{Begun, minus-of, not-of, left-of, else-of, ended, tightness, begun, paren, if-of, Stack, wanted, have, ends, reduce}
+use Rattle.spec_calc.specs.Reader.{run, first-ends}
 
 -- a tree that lacks its last part: a prefix, an operator with its left side, a condition with its first branch
 pub data Begun : Type 0 where
@@ -141,3 +142,15 @@ read-spelled (some s) = read-tree s
 -- what a text says, if it is a calculation
 unfoldable pub tree-of : List ℕ → Option Tree
 tree-of s = read-spelled (symbols s)
+
+-- what the first symbol ends, or the end of the symbols
+abbrev pub first-ends : List Symbol → ℕ
+first-ends [] = 0
+first-ends (x ∷ s) = ends x
+
+-- the tightness of what is begun on top of the stack
+abbrev pub top : Stack → ℕ
+top [] = 0
+top (begun b ∷ k) = tightness b
+top (paren ∷ k) = 0
+top (if-of c ∷ k) = 0

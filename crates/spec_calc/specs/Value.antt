@@ -5,7 +5,6 @@ use Prim.Native.Nat.{ℕ}
 use lib.ListN.{getD}
 use lib.Ieee as Ieee
 use lib.Ieee.{Float, nan, inf, fin, binary64, ofBits}
-use mathlib.Core.Path.{_≡_, refl}
 use Rattle.spec_lists.specs.Select.{all}
 use Rattle.spec_calc.specs.declared.Operator.{Operator}
 use Rattle.spec_calc.specs.declared.Operator.the-variants.{Or, And, Less, AtMost, More, AtLeast, Equal, Differs, Plus, Minus, Times, Over}

@@ -1,12 +1,12 @@
 -- 01, "Proved and run cases": those that are proved, together as a single list. Each is computed from its text by the definitions.
-use mathlib.Core.Path.{_≡_, refl}
+use mathlib.Core.Path.{_≡_}
 use mathlib.Core.Bool.{Bool, true, false}
 use mathlib.Core.List.{List, _∷_}
 use mathlib.Core.Option.{some}
 use Prim.Native.Nat.{ℕ, _+_}
 use Prim.Native.String.{String}
 use lib.ListN.{replicate}
-use lib.Ieee.{Float, nan, ne, lt, le, eq, add, sub, mul, div, neg, ofBits, ofInt}
+use lib.Ieee.{Float, nan}
 use Rattle.spec_lists.specs.Text.{bytes}
 use Rattle.spec_token.specs.Word.{greatest-letter}
 use Rattle.spec_calc.specs.declared.Reading.{Reading}

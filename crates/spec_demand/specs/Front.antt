@@ -12,7 +12,7 @@ use Rattle.spec_demand.specs.Vocabulary.{Token, Tagged, Reads, Reading, 
 use Rattle.spec_demand.specs.Vocabulary.{file-of, Text-reads, Acceptable, Refusable, refuse, accept, verdict, is-table, table-of, greatest-table}
 use Rattle.spec_demand.specs.Vocabulary.{written, without-room, load, look-up, number, access-in, trap-in, decide, Edition, access-later, Says-no}
 use Rattle.spec_demand.specs.Vocabulary.{answer-by-file, input-by-file, name-found, Call, after-calls, is-accepted, No-accepted-load, Proved-cases}
-use Rattle.spec_demand.specs.laws.Cited.{one-reading, says-sound, says-complete, accepted-is, acceptable-is, refused-is, refusable-is, refused-leaves}
+use Rattle.spec_demand.specs.laws.Cited.{one-parse, parses-sound, parses-complete, accepted-is, acceptable-is, refused-is, refusable-is, refused-leaves}
 use Rattle.spec_demand.specs.laws.Cited.{never-above, exactly-equal, refused-grants-nothing, zeros-grant-nothing, laid-down, not-laid-down, stands}
 use Rattle.spec_demand.specs.laws.Cited.{answers-by-file, inputs-by-file, proved-cases}
 
@@ -35,7 +35,7 @@ demand-1 = record { refused-load = refused-leaves; refused-question = refused-gr
 pub record Exact : Type 0 where
   -- the grammar is 001's productions, no reader; the limits are the refusals' causes
   pub accepted : (s : List ℕ) (xs : List Tagged) → (verdict s ≡ accept xs) ↔ Acceptable s xs
-  pub one-reading : (ts : List Token) (xs ys : List Tagged) → Reads ts xs → Reads ts ys → xs ≡ ys
+  pub one-parse : (ts : List Token) (xs ys : List Tagged) → Reads ts xs → Reads ts ys → xs ≡ ys
   -- a calculation is what the productions of 01's levels derive, no reader: tree-of finds its tree, in a file, a table and a rule
   pub calculations : (s : List ℕ) (t : Tree) → (tree-of s ≡ some t) ↔ Parses s t
   -- the lowest number that applies, at its earliest place; 4 at the first token that no file could have there
@@ -57,8 +57,8 @@ pub demand-2 : Exact
 demand-2 =
     record {
       accepted = λ s xs. (accepted-is s xs, acceptable-is s xs);
-      one-reading = one-reading;
-      calculations = λ s t. (says-sound s t, says-complete s t);
+      one-parse = one-parse;
+      calculations = λ s t. (parses-sound s t, parses-complete s t);
       refused = λ s r p. (refused-is s r p, refusable-is s r p);
       table = laid-down;
       no-room = not-laid-down;

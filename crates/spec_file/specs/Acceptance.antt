@@ -24,8 +24,8 @@ pub record Text-reads (s : List ℕ) (xs : List Tagged) : Type 0 where
 -- the text s gives no cause for a refusal 1 to 10, and says xs
 pub record Acceptable (s : List ℕ) (xs : List Tagged) : Type 0 where
   pub short : length s ≤ most-bytes
-  pub says : Text-reads s xs
-  pub shallow : too-deep 0 (says .spelled) ≡ none
+  pub as-read : Text-reads s xs
+  pub shallow : too-deep 0 (as-read .spelled) ≡ none
   pub uncaused : Every (λ k. Every (λ c. k .applies c ≡ false) (contexts xs)) causes
 
 -- the first of the causes 5 to 10 that applies, at the first token to which it does

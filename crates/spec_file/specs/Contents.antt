@@ -109,7 +109,7 @@ module _ {A : Type 0} where
   value-of d f [] = d
   value-of d f (t ∷ ts) = Option·getD (f t) d
 
--- each group whose name says n, with its members, which say m
+-- each group, whose name has the role n, with its members, which have the role m
 abbrev pub groups : Role → Role → List Tagged → List Group
 groups n m xs = map (λ p. record { name = text (p .head); members = texts m (p .body) }) (clauses n xs)
 

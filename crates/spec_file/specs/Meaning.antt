@@ -1,6 +1,6 @@
 -- The rules of a file, each with the members of the groups that it names. 01, "The question"; 001, "Definitions".
-use mathlib.Core.Bool.{Bool, true, false}
-use mathlib.Core.List.{List, [], _∷_, map}
+use mathlib.Core.Bool.{Bool}
+use mathlib.Core.List.{List, [], map}
 use mathlib.Core.Option.{Option, none, some}
 use Prim.Native.Nat.{ℕ}
 use Rattle.spec_lists.specs.Text.{lowered}

@@ -1,5 +1,5 @@
 -- The causes 5 to 10 for which a load refuses a file of the grammar. 01, "Load refusals, in their order".
-use mathlib.Core.Bool.{Bool, cond, not, _&&_, _||_}
+use mathlib.Core.Bool.{Bool, not, _&&_, _||_}
 use mathlib.Core.List.{List, [], _∷_, _++_, map}
 use mathlib.Core.Option.{Option, none, some}
 use Prim.Native.Nat.{ℕ}
@@ -61,20 +61,20 @@ abbrev pub too-many : Context → Bool
 too-many c = holds-of (item-of (c .here .role)) (λ s. leb (most s) (length (select (item s) (c .backwards))))
 
 -- a token of the role q that some of the tokens xs repeat: they have its role and its text
-abbrev pub again : Role → List Tagged → Context → Bool
-again q xs c = has-role q (c .here) && any (λ x. has-role (x .role) (c .here) && same (text x) (text (c .here))) xs
+abbrev pub duplicates : Role → List Tagged → Context → Bool
+duplicates q xs c = has-role q (c .here) && any (λ x. has-role (x .role) (c .here) && same (text x) (text (c .here))) xs
 
 -- 7: "two UAG, two HAG or two ASG of one name (bytes compared)"
 abbrev pub name-again : Context → Bool
-name-again c = again UagName (c .backwards) c || (again HagName (c .backwards) c || again AsgName (c .backwards) c)
+name-again c = duplicates UagName (c .backwards) c || (duplicates HagName (c .backwards) c || duplicates AsgName (c .backwards) c)
 
 -- 7: "one INP letter twice in an ASG": the INP word has its letter in it
 abbrev pub letter-again : Context → Bool
-letter-again c = again Input (until AsgName (c .backwards)) c
+letter-again c = duplicates Input (until AsgName (c .backwards)) c
 
 -- 7: "a second CALC in a RULE"
 abbrev pub calc-again : Context → Bool
-calc-again c = again CalcWord (until RuleWord (c .backwards)) c
+calc-again c = duplicates CalcWord (until RuleWord (c .backwards)) c
 
 -- 7: "name or letter given again"
 abbrev pub given-again : Context → Bool

@@ -23,7 +23,7 @@ pub record Warned : Type 0 where
   pub warning : Warning
   pub place : ℕ
 
--- no group of the file, of those whose name says n, has the name of x
+-- no group of the file, of those whose names have the role n, has the name of x
 abbrev pub undefined : Role → List Tagged → Tagged → Bool
 undefined n file x = not (any (λ y. has-role n y && same (text y) (text x)) file)
 

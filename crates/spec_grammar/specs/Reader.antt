@@ -72,8 +72,8 @@ pub data Rules : Type 0 where
   rule : Sign → Stack → Rules → Rules
 
 -- a token that says nothing
-abbrev pub mute : Kind → Entry
-mute k = once (token (k tagged NoRole))
+abbrev pub no-role : Kind → Entry
+no-role k = once (token (k tagged NoRole))
 
 -- a STRING and what it says
 abbrev pub string : Role → Entry
@@ -81,7 +81,7 @@ string r = once (token (kind.String tagged r))
 
 -- "(" STRING ")" and then k
 abbrev pub named : Role → Stack → Stack
-named r k = mute kind.OpenParen ∷ string r ∷ mute kind.CloseParen ∷ k
+named r k = no-role kind.OpenParen ∷ string r ∷ no-role kind.CloseParen ∷ k
 
 -- STRING { "," STRING } and then k
 abbrev pub string-list : Role → Stack → Stack
@@ -89,11 +89,11 @@ string-list r k = string r ∷ often (next-string r) ∷ k
 
 -- generic_head and then k
 abbrev pub headed : Stack → Stack
-headed k = mute kind.OpenParen ∷ once arguments ∷ k
+headed k = no-role kind.OpenParen ∷ once arguments ∷ k
 
 -- "{" l "}"
 abbrev pub braced : (Stack → Stack) → Rules
-braced l = rule (kind.OpenBrace tagged NoRole) (l (mute kind.CloseBrace ∷ [])) no-rule
+braced l = rule (kind.OpenBrace tagged NoRole) (l (no-role kind.CloseBrace ∷ [])) no-rule
 
 -- the same rule for each non_rule_keyword
 abbrev pub non-rule-words : Role → Stack → Rules → Rules
@@ -123,7 +123,7 @@ behind inner = []
 
 -- { "," generic_element } and a closing token
 abbrev pub more-until : Kind → Stack
-more-until k = often next-element ∷ mute k ∷ []
+more-until k = often next-element ∷ no-role k ∷ []
 
 -- what follows "{" generic_element: "}", or "," and the rest of a generic_list, or what rs allow
 abbrev pub one-or-list : Depth → Rules → Rules
@@ -145,12 +145,12 @@ rules asg-item =
     rule (kind.Inp tagged Input) (named Pvname [])
     (rule
     (kind.Rule tagged RuleWord)
-    (mute kind.OpenParen ∷ once (token (kind.Int tagged Level)) ∷ mute kind.Comma ∷ string Permission ∷ once log-option ∷ perhaps rule-block ∷ []) no-rule)
-rules log-option = rule (kind.Comma tagged NoRole) (string LogOption ∷ mute kind.CloseParen ∷ []) (rule (kind.CloseParen tagged NoRole) [] no-rule)
+    (no-role kind.OpenParen ∷ once (token (kind.Int tagged Level)) ∷ no-role kind.Comma ∷ string Permission ∷ once log-option ∷ perhaps rule-block ∷ []) no-rule)
+rules log-option = rule (kind.Comma tagged NoRole) (string LogOption ∷ no-role kind.CloseParen ∷ []) (rule (kind.CloseParen tagged NoRole) [] no-rule)
 rules rule-block = braced (λ k. once rule-item ∷ often rule-item ∷ k)
 rules rule-item =
-    rule (kind.Uag tagged NoRole) (mute kind.OpenParen ∷ string-list UagNamed (mute kind.CloseParen ∷ []))
-    (rule (kind.Hag tagged NoRole) (mute kind.OpenParen ∷ string-list HagNamed (mute kind.CloseParen ∷ []))
+    rule (kind.Uag tagged NoRole) (no-role kind.OpenParen ∷ string-list UagNamed (no-role kind.CloseParen ∷ []))
+    (rule (kind.Hag tagged NoRole) (no-role kind.OpenParen ∷ string-list HagNamed (no-role kind.CloseParen ∷ []))
     (rule (kind.Calc tagged CalcWord) (named Calculation []) predicates))
 rules element = names [] (numbers [] no-rule)
 rules next-element = rule (kind.Comma tagged NoRole) (once element ∷ []) no-rule
@@ -160,9 +160,9 @@ rules (block p) = rule (kind.OpenBrace tagged NoRole) (once (block-inside p) ∷
 rules (block-inside p) = names (once (block-name p) ∷ []) (numbers (once (block-number p) ∷ []) no-rule)
 rules (block-name p) =
     one-or-list p
-    (rule (kind.OpenParen tagged NoRole) (once arguments ∷ perhaps (block inner) ∷ often block-element ∷ mute kind.CloseBrace ∷ []) no-rule)
+    (rule (kind.OpenParen tagged NoRole) (once arguments ∷ perhaps (block inner) ∷ often block-element ∷ no-role kind.CloseBrace ∷ []) no-rule)
 rules (block-number p) = one-or-list p no-rule
-rules second-block = rule (kind.OpenBrace tagged NoRole) (once element ∷ mute kind.Comma ∷ once element ∷ more-until kind.CloseBrace) no-rule
+rules second-block = rule (kind.OpenBrace tagged NoRole) (once element ∷ no-role kind.Comma ∷ once element ∷ more-until kind.CloseBrace) no-rule
 
 -- a token may not come, or says something and leaves a stack
 pub data Step : Type 0 where

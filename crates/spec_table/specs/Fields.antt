@@ -1,14 +1,7 @@
 -- Where the fields of a table's records and its strings stand in the bytes: one law over the section, its width and the field.
-use mathlib.Core.Path.{_≡_, refl, ap, ap₂, _∙_}
-use mathlib.Core.Bool.{true, _&&_}
 use mathlib.Core.List.{List, [], _∷_}
-use Prim.Native.Nat.{ℕ, zero, suc, _+_, _*_, _≤_, _<_}
-use native.Mathlib.Omega.{arith}
-use native.Mathlib.Nat.{mul-le-mul-right, mul-assoc, suc-mul}
-use lib.Dec.{eqb, leb}
-use lib.ListN.{length, take, drop, getD, length-take, length-drop}
-use lib.Seq.{getD-take, getD-drop, drop-drop, take-take}
-use borrow.Author.Tests.{leb-true, eqb-true}
+use Prim.Native.Nat.{ℕ, _+_, _*_, _≤_}
+use lib.ListN.{length, getD}
 use Rattle.spec_lists.specs.Runs.{Run}
 use Rattle.spec_file.specs.Limit.{Section, order}
 use Rattle.spec_table.specs.Layout.{width, header-bytes}

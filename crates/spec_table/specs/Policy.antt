@@ -58,3 +58,7 @@ rule-of c row =
 -- the rules of an access group
 abbrev pub rules-of : Content → List ℕ → List Rule
 rules-of c row = map (rule-of c) (part (rules-run row) (c .records rules))
+
+-- a record of a section, by its number
+abbrev pub row : Content → Section → ℕ → List ℕ
+row c s i = getD (c .records s) i []

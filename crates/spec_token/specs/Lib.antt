@@ -1,3 +1,4 @@
 pub mod Word
 pub mod Token
+pub mod Spans
 pub mod laws

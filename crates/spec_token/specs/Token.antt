@@ -1,13 +1,15 @@
 -- The tokens of a file with their places, or its first bad byte. 01, "Reading the text".
 use mathlib.Core.Bool.{Bool, true, false, not, cond}
 use mathlib.Core.List.{List, [], _∷_}
-use Prim.Native.Nat.{ℕ, zero, suc, _+_}
-use lib.ListN.{length}
+use Prim.Native.Nat.{ℕ, zero, suc, _+_, _-_}
+use lib.ListN.{length, drop}
 use Rattle.spec_lists.specs.Text.{among}
 use Rattle.spec_lists.specs.Select.{run, after}
 use Rattle.spec_token.specs.declared.Kind.{Kind}
 use Rattle.spec_token.specs.declared.Kind.the-variants.{String, OpenParen, CloseParen, OpenBrace, CloseBrace, Comma}
 use Rattle.spec_token.specs.Word.{blank, newline, name-byte, word-kind}
+use Rattle.spec_token.specs.Token.{Token, Tokens, tokens, bad, then, Quoted, closed, broken, unclosed, also, quoted, alone, punctuation, Lexeme}
+use Rattle.spec_token.specs.Token.{nothing, comment, quote, stop, word, wrong, lexeme-of, other, scan}
 
 -- 01: "a token's [place] is its first byte, the quote if any"; the text is that of the file, without quotes
 pub record Token : Type 0 where
@@ -90,3 +92,8 @@ scan (suc n) p (b ∷ s) =
 -- the tokens of a whole text
 abbrev pub scanned : List ℕ → Tokens
 scanned s = scan (length s) 0 s
+
+-- ---- the tokens from a place on, by what its byte begins
+
+abbrev pub scan-from : List ℕ → ℕ → Tokens
+scan-from s at = scan (length s) at (drop at s)

@@ -10,8 +10,7 @@ use Rattle.spec_rule.specs.Answering.{named, answering}
 use Rattle.spec_file.specs.Limit.{access-groups, inputs}
 use Rattle.spec_table.specs.View.{view}
 use Rattle.spec_table.specs.Check.{inputs-run, letter-field}
-use Rattle.spec_table.specs.Policy.{name}
-use Rattle.spec_table.specs.laws.Standing.{row}
+use Rattle.spec_table.specs.Policy.{name, row}
 use Rattle.table_read.specs.declared.Index.{Index}
 use Rattle.table_read.specs.declared.Index.the-variants.{At, Missing}
 

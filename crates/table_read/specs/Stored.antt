@@ -7,7 +7,7 @@ use lib.ListN.{length, getD}
 use Rattle.spec_file.specs.Limit.{Section, user-groups, host-groups, members, access-groups, inputs, rules, references, order}
 use Rattle.spec_table.specs.View.{view}
 use Rattle.spec_table.specs.Check.{is-table}
-use Rattle.spec_table.specs.laws.Standing.{row}
+use Rattle.spec_table.specs.Policy.{row}
 use Rattle.table_read.specs.declared.Section as coded
 use Rattle.table_read.specs.declared.Section.the-variants.{UserGroups, HostGroups, Members, AccessGroups, Inputs, Rules, References}
 

@@ -15,8 +15,8 @@ use Rattle.spec_rule.specs.laws.Walk.{taken-on, taken-all}
 use Rattle.spec_file.specs.Limit.{access-groups, rules}
 use Rattle.spec_table.specs.View.{view}
 use Rattle.spec_table.specs.Check.{is-table, rules-run}
-use Rattle.spec_table.specs.Policy.{rule-of}
-use Rattle.spec_table.specs.laws.Standing.{row, stands, rules-within}
+use Rattle.spec_table.specs.Policy.{rule-of, row}
+use Rattle.spec_table.specs.laws.Standing.{stands, rules-within}
 use Rattle.spec_decision.specs.declared.Answer.{Answer}
 use Rattle.spec_decision.specs.declared.Answer.the-variants as answer
 use Rattle.spec_decision.specs.Decision.{rules-in, answered, decide}

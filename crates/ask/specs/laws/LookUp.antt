@@ -7,9 +7,9 @@ use Prim.Native.Nat.{ℕ, _+_}
 use Rattle.spec_file.specs.Limit.{access-groups, inputs}
 use Rattle.spec_table.specs.View.{view, strings-extent, strings-order, offset-of}
 use Rattle.spec_table.specs.Check.{is-table, name-run}
-use Rattle.spec_table.specs.Policy.{name}
+use Rattle.spec_table.specs.Policy.{name, row}
 use Rattle.spec_table.specs.laws.Fields.{string-at, strings-count}
-use Rattle.spec_table.specs.laws.Standing.{row, stands, name-within}
+use Rattle.spec_table.specs.laws.Standing.{stands, name-within}
 use Rattle.spec_decision.specs.declared.Found.{Found}
 use Rattle.spec_decision.specs.declared.Found.the-variants as found
 use Rattle.spec_decision.specs.LookUp.{part-in, input-of, named-part, look-up}

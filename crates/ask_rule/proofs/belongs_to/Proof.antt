@@ -1,7 +1,7 @@
 use Rattle.ask_rule.specs.Members.{groups, matches, references-run}
 use Rattle.ask_rule.specs.laws.Members.{references-low, references-first, references-count, refers, kind-references, belongs-none, belongs-some}
-use Rattle.spec_table.specs.laws.Standing.{row, stands}
-use Rattle.spec_table.specs.Policy.{referred}
+use Rattle.spec_table.specs.Policy.{row, referred}
+use Rattle.spec_table.specs.laws.Standing.{stands}
 use Rattle.spec_table.specs.View.{view}
 use Rattle.spec_file.specs.Limit.{rules, references}
 use Rattle.spec_rule.specs.laws.Walk.{read-end, any-turn, any-hit, any-done}

@@ -1,5 +1,5 @@
 use Rattle.ask_rule.specs.laws.Calculation.{no-calculation-holds, calculation-decides}
-use Rattle.spec_table.specs.laws.Standing.{row}
+use Rattle.spec_table.specs.Policy.{row}
 use Rattle.spec_table.specs.View.{view}
 use Rattle.spec_file.specs.Limit.{rules}
 use Rattle.spec_rule.specs.Rule.{true-tree}

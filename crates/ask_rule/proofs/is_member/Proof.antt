@@ -1,8 +1,8 @@
 use Rattle.ask_rule.specs.Members.{groups, matches}
 use Rattle.ask_rule.specs.laws.Members.{members-within}
-use Rattle.spec_table.specs.laws.Standing.{row, stands}
+use Rattle.spec_table.specs.Policy.{row, members-of}
+use Rattle.spec_table.specs.laws.Standing.{stands}
 use Rattle.spec_table.specs.Policy as policy
-use Rattle.spec_table.specs.Policy.{members-of}
 use Rattle.spec_table.specs.Check.{members-run}
 use Rattle.spec_table.specs.View.{view}
 use Rattle.spec_file.specs.Limit.{members}

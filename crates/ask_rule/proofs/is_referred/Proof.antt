@@ -1,6 +1,6 @@
 use Rattle.ask_rule.specs.Members.{groups, matches}
 use Rattle.ask_rule.specs.laws.Members.{referred-none, referred-some}
-use Rattle.spec_table.specs.laws.Standing.{row}
+use Rattle.spec_table.specs.Policy.{row}
 use Rattle.spec_table.specs.View.{view}
 use Rattle.spec_file.specs.Limit.{references}
 use native.Mathlib.Omega.{arith}

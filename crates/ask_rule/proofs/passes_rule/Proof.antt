@@ -1,6 +1,5 @@
 use Rattle.ask_rule.specs.Rules.{question}
-use Rattle.spec_table.specs.laws.Standing.{row}
-use Rattle.spec_table.specs.Policy.{set-bit, rule-of}
+use Rattle.spec_table.specs.Policy.{row, set-bit, rule-of}
 use Rattle.spec_table.specs.View.{view}
 use Rattle.spec_file.specs.Limit.{rules}
 use Rattle.spec_rule.specs.laws.Passing.{fails-off, fails-level, fails-user, fails-host, passes-by}

@@ -15,8 +15,8 @@ use Rattle.spec_file.specs.Limit.{Section, members, rules, references}
 use Rattle.spec_table.specs.Layout.{Content}
 use Rattle.spec_table.specs.View.{view}
 use Rattle.spec_table.specs.Check.{well-formed, members-run, number-field, undefined-number}
-use Rattle.spec_table.specs.Policy.{members-of, referred}
-use Rattle.spec_table.specs.laws.Standing.{row, stands, users-members, hosts-members, references-within, user-number, host-number}
+use Rattle.spec_table.specs.Policy.{members-of, referred, row}
+use Rattle.spec_table.specs.laws.Standing.{stands, users-members, hosts-members, references-within, user-number, host-number}
 use Rattle.table_fields.specs.Field.{Word}
 use Rattle.table_read.specs.Stored.{Stored, word-of}
 use Rattle.ask_rule.specs.declared.GroupKind.{GroupKind}

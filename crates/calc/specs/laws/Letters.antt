@@ -18,7 +18,7 @@ use Rattle.spec_calc.specs.Expression.{Tree, Expression, plain, conditional, Jo
 use Rattle.spec_calc.specs.Expression.{parenthesised}
 use Rattle.spec_calc.specs.Value.{letters}
 use Rattle.spec_calc.specs.Reader.{tree-of}
-use Rattle.spec_calc.specs.laws.Theorem.{says-sound}
+use Rattle.spec_calc.specs.laws.Theorem.{parses-sound}
 use Rattle.calc_symbol.specs.Scan.{syms, spelling}
 use Rattle.calc.specs.Answer.{given-letter, letter-of, letters-in, letter-begun, byte-letters, symbols-given}
 use Rattle.calc_symbol.specs.laws.Bytes.{start-by, first-all}
@@ -213,7 +213,7 @@ mutual
 pub letters-same : (s : List ℕ) (t : Tree) → tree-of s ≡ some t → (given : List Bool) → symbols-given given (syms s 0) ≡ all (given-letter given) (letters t)
 unfolding syms letters-in
 letters-same s t e given =
-    let y = says-sound s t e in
+    let y = parses-sound s t e in
     ap (symbols-given given) (y .spelling) ∙ ap (all (given-letter given)) (expression-letters (y .derived) ∙ append-nil (letters t))
 
 pub bytes-same :
@@ -221,7 +221,7 @@ pub bytes-same :
     → all (given-letter given) (byte-letters s) ≡ all (given-letter given) (letters t)
 unfolding letters-in
 bytes-same s t e given =
-    let y = says-sound s t e in
+    let y = parses-sound s t e in
     ap (all (given-letter given))
     (sym (subst (λ (o : Option (List Symbol)). agree o s) (y .spelling) (agreed (length s) s))
     ∙ (expression-letters (y .derived) ∙ append-nil (letters t)))

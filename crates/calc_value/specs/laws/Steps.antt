@@ -15,9 +15,8 @@ use Rattle.spec_calc.specs.Symbol.{Symbol, number, letter, operator, not-sign, 
 use Rattle.spec_calc.specs.Expression.{Tree, number-tree, letter-tree, binary, choice, level}
 use Rattle.spec_calc.specs.Value.{truth, is-true, apply, heard, reading, value}
 use Rattle.spec_calc.specs.Reader.{Begun, minus-of, not-of, left-of, else-of, ended, tightness, begun, paren, if-of, Stack, State, wanted, have, ends, reduce}
-use Rattle.spec_calc.specs.Reader.{first-of, run}
+use Rattle.spec_calc.specs.Reader.{first-of, run, top}
 use Rattle.spec_calc.specs.laws.Levels.{level-bound, ends-bound}
-use Rattle.spec_calc.specs.laws.Complete.{top}
 use Rattle.calc_value.specs.declared.Parsed.{Parsed}
 use Rattle.calc_value.specs.declared.Parsed.the-variants as parsed
 use Rattle.calc_symbol.specs.Scan.{syms, Symbol-at}

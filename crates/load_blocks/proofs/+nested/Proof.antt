@@ -5,7 +5,7 @@ use Rattle.load_elements.specs.laws.Kinds.{some-remain}
 use Rattle.load_blocks.specs.laws.Blocks.{is-name-low, bound-nested, closes-one, closes-done, closes-nested}
 use Rattle.load_elements.specs.Reads.{expected, remaining}
 use Rattle.load_blocks.specs.Blocks.{is-name, nested-elements, nesting-bound}
-use Rattle.spec_grammar.specs.Reader.{inner, often, block-element, mute}
+use Rattle.spec_grammar.specs.Reader.{inner, often, block-element, no-role}
 use Rattle.spec_token.specs.declared.Kind.the-variants as kind
 use mathlib.Core.Bool.{not}
 use native.Mathlib.Omega.{arith}
@@ -78,7 +78,7 @@ nested-same-length : (t : ℕ) → nested-lts.Need-same-length (nested-claims t)
 nested-same-length t c = omega (arith, c .before .before .before .before .before .before .before .before .before .before .before .before .before .before .before .before .before .before .before .loop .inv .long, c .before .before .before .before .before .before .before .before .before .before .before .before .before .before .before .before .before .before .before .before .before .before .before .before .before .pre .1)
 
 nested-returns : (t : ℕ) → nested-lts.Need-returns (nested-claims t) (nested-at t) nested.Post nested-Inv-loop nested-μ-loop
-nested-returns t c = closes-nested (c .before .before .before .before .before .before .before .before .before .before .before .before .before .before .before .before .before .before .before .before .before .o3 .given .1) (λ k. then (c .before .before .before .before .before .before .before .before .before .before .before .before .before .before .before .before .before .before .before .loop .inv .leads k) (then (c .before .before .before .before .before .before .before .before .before .before .before .before .before .before .before .before .before .arguments .ensures .leads _) (then (then-equal (c .before .before .before .before .before .before .before .before .before .before .before .before .before .open-block .ensures .leads inner (often block-element ∷ mute kind.CloseBrace ∷ k)) (c .before .before .before .before .before .before .before .before .before .nested .ensures .same (often block-element ∷ mute kind.CloseBrace ∷ k))) (when (λ n. not (is-name n)) (λ n. expected 12 0 ∷ k) (c .before .before .before .before .before .before .kind-at .ensures) (ap not (sym (c .before .before .before .before .before .is-name .ensures) ∙ not-true _ (c .before .before .before .before .if1 .taken))) (c .before .before .expect .ensures .leads k) (tt, tt, tt, tt, tt, tt, refl, refl, tt, refl, refl, refl, refl, refl, refl))))) (omega (arith, c .before .before .before .before .before .before .before .before .before .before .before .before .before .before .before .before .before .before .before .loop .inv .less, c .before .before .before .before .before .before .before .before .before .before .before .before .before .before .before .before .before .arguments .ensures .less, c .before .before .before .before .before .before .before .before .before .before .before .before .before .open-block .ensures .less, c .before .before .before .before .before .before .before .before .before .nested .ensures .less, c .before .before .expect .ensures .less))
+nested-returns t c = closes-nested (c .before .before .before .before .before .before .before .before .before .before .before .before .before .before .before .before .before .before .before .before .before .o3 .given .1) (λ k. then (c .before .before .before .before .before .before .before .before .before .before .before .before .before .before .before .before .before .before .before .loop .inv .leads k) (then (c .before .before .before .before .before .before .before .before .before .before .before .before .before .before .before .before .before .arguments .ensures .leads _) (then (then-equal (c .before .before .before .before .before .before .before .before .before .before .before .before .before .open-block .ensures .leads inner (often block-element ∷ no-role kind.CloseBrace ∷ k)) (c .before .before .before .before .before .before .before .before .before .nested .ensures .same (often block-element ∷ no-role kind.CloseBrace ∷ k))) (when (λ n. not (is-name n)) (λ n. expected 12 0 ∷ k) (c .before .before .before .before .before .before .kind-at .ensures) (ap not (sym (c .before .before .before .before .before .is-name .ensures) ∙ not-true _ (c .before .before .before .before .if1 .taken))) (c .before .before .expect .ensures .leads k) (tt, tt, tt, tt, tt, tt, refl, refl, tt, refl, refl, refl, refl, refl, refl))))) (omega (arith, c .before .before .before .before .before .before .before .before .before .before .before .before .before .before .before .before .before .before .before .loop .inv .less, c .before .before .before .before .before .before .before .before .before .before .before .before .before .before .before .before .before .arguments .ensures .less, c .before .before .before .before .before .before .before .before .before .before .before .before .before .open-block .ensures .less, c .before .before .before .before .before .before .before .before .before .nested .ensures .less, c .before .before .expect .ensures .less))
 
 nested-expect-requires-2 : (t : ℕ) → nested-lts.Need-expect-requires-2 (nested-claims t) (nested-at t) nested.Post nested-Inv-loop nested-μ-loop
 nested-expect-requires-2 t c κs = (omega (arith, c .before .before .before .before .before .before .before .before .before .before .before .before .before .before .before .before .loop .inv .long, c .before .before .before .before .before .before .before .before .before .before .before .before .before .before .before .before .before .before .before .before .before .before .pre .1), is-name-low _ (sym (c .before .before .is-name .ensures) ∙ not-false _ (c .before .if1 .left)))
@@ -90,7 +90,7 @@ nested-loop-less : (t : ℕ) → nested-lts.Need-loop-less (nested-claims t) (ne
 nested-loop-less t c = omega (arith, c .before .before .before .before .before .before .before .before .before .before .before .before .before .before .before .before .before .before .before .before .before .before .before .loop .inv .less, c .before .before .before .before .before .before .before .before .before .before .before .before .before .before .before .before .before .before .before .before .before .arguments .ensures .less, c .before .before .before .before .before .before .before .before .before .before .before .before .before .before .before .before .before .open-block .ensures .less, c .before .before .before .before .before .before .before .before .before .before .before .before .before .nested .ensures .less, c .before .before .before .before .before .before .expect2 .ensures .less, c .before .before .expect3 .ensures .less, some-remain (c .before .before .before .before .before .before .before .before .before .before .before .before .before .before .before .before .before .before .before .before .before .before .before .before .before .before .before .before .before .args .kinds .now) (c .before .before .before .before .before .before .before .before .before .before .before .before .before .nested .result) (c .before .before .before .before .before .before .before .before .before .before .kind-at .ensures) (is-name-low _ (sym (c .before .before .before .before .before .before .before .before .before .is-name .ensures) ∙ not-false _ (c .before .before .before .before .before .before .before .before .if1 .left))))
 
 nested-loop-again : (t : ℕ) → nested-lts.Need-loop-again (nested-claims t) (nested-at t) nested.Post nested-Inv-loop nested-μ-loop
-nested-loop-again t c = record { leads = λ k. then (c .before .before .before .before .before .before .before .before .before .before .before .before .before .before .before .before .before .before .before .before .before .before .before .loop .inv .leads k) (then (c .before .before .before .before .before .before .before .before .before .before .before .before .before .before .before .before .before .before .before .before .before .arguments .ensures .leads _) (then (then-equal (c .before .before .before .before .before .before .before .before .before .before .before .before .before .before .before .before .before .open-block .ensures .leads inner (often block-element ∷ mute kind.CloseBrace ∷ k)) (c .before .before .before .before .before .before .before .before .before .before .before .before .before .nested .ensures .same (often block-element ∷ mute kind.CloseBrace ∷ k))) (when is-name (λ n. expected n 0 ∷ mute kind.OpenParen ∷ (nested-elements ++ k)) (c .before .before .before .before .before .before .before .before .before .before .kind-at .ensures) (sym (c .before .before .before .before .before .before .before .before .before .is-name .ensures) ∙ not-false _ (c .before .before .before .before .before .before .before .before .if1 .left)) (then (c .before .before .before .before .before .before .expect2 .ensures .leads _) (c .before .before .expect3 .ensures .leads _)) (refl, refl, refl, refl, refl, refl, tt, tt, refl, tt, tt, tt, tt, tt, tt)))); long = omega (arith, c .before .before .before .before .before .before .before .before .before .before .before .before .before .before .before .before .before .before .before .before .before .before .before .loop .inv .long, c .before .before .before .before .before .before .before .before .before .before .before .before .before .before .before .before .before .before .before .before .before .before .before .before .before .before .before .before .before .pre .1); less = omega (arith, c .before .before .before .before .before .before .before .before .before .before .before .before .before .before .before .before .before .before .before .before .before .before .before .loop .inv .less, c .before .before .before .before .before .before .before .before .before .before .before .before .before .before .before .before .before .before .before .before .before .arguments .ensures .less, c .before .before .before .before .before .before .before .before .before .before .before .before .before .before .before .before .before .open-block .ensures .less, c .before .before .before .before .before .before .before .before .before .before .before .before .before .nested .ensures .less, c .before .before .before .before .before .before .expect2 .ensures .less, c .before .before .expect3 .ensures .less) }
+nested-loop-again t c = record { leads = λ k. then (c .before .before .before .before .before .before .before .before .before .before .before .before .before .before .before .before .before .before .before .before .before .before .before .loop .inv .leads k) (then (c .before .before .before .before .before .before .before .before .before .before .before .before .before .before .before .before .before .before .before .before .before .arguments .ensures .leads _) (then (then-equal (c .before .before .before .before .before .before .before .before .before .before .before .before .before .before .before .before .before .open-block .ensures .leads inner (often block-element ∷ no-role kind.CloseBrace ∷ k)) (c .before .before .before .before .before .before .before .before .before .before .before .before .before .nested .ensures .same (often block-element ∷ no-role kind.CloseBrace ∷ k))) (when is-name (λ n. expected n 0 ∷ no-role kind.OpenParen ∷ (nested-elements ++ k)) (c .before .before .before .before .before .before .before .before .before .before .kind-at .ensures) (sym (c .before .before .before .before .before .before .before .before .before .is-name .ensures) ∙ not-false _ (c .before .before .before .before .before .before .before .before .if1 .left)) (then (c .before .before .before .before .before .before .expect2 .ensures .leads _) (c .before .before .expect3 .ensures .leads _)) (refl, refl, refl, refl, refl, refl, tt, tt, refl, tt, tt, tt, tt, tt, tt)))); long = omega (arith, c .before .before .before .before .before .before .before .before .before .before .before .before .before .before .before .before .before .before .before .before .before .before .before .loop .inv .long, c .before .before .before .before .before .before .before .before .before .before .before .before .before .before .before .before .before .before .before .before .before .before .before .before .before .before .before .before .before .pre .1); less = omega (arith, c .before .before .before .before .before .before .before .before .before .before .before .before .before .before .before .before .before .before .before .before .before .before .before .loop .inv .less, c .before .before .before .before .before .before .before .before .before .before .before .before .before .before .before .before .before .before .before .before .before .arguments .ensures .less, c .before .before .before .before .before .before .before .before .before .before .before .before .before .before .before .before .before .open-block .ensures .less, c .before .before .before .before .before .before .before .before .before .before .before .before .before .nested .ensures .less, c .before .before .before .before .before .before .expect2 .ensures .less, c .before .before .expect3 .ensures .less) }
 
 nested-returns-2 : (t : ℕ) → nested-lts.Need-returns-2 (nested-claims t) (nested-at t) nested.Post nested-Inv-loop nested-μ-loop
 nested-returns-2 t c = closes-one (c .before .o .given .1)

@@ -74,17 +74,17 @@ module _ (p : Context → Bool) (e : (c : Context) → p c ≡ false) where
   seek-never b [] = refl
   seek-never b (x ∷ xs) = rw (e (record { backwards = b; here = x; onwards = xs }), seek-never (x ∷ b) xs)
 
-said-length : (s : List ℕ) (a : Arrays) (roles : List ℕ) (i k : ℕ) → length (tagged-from s a roles i k) ≡ k
+tagged-length : (s : List ℕ) (a : Arrays) (roles : List ℕ) (i k : ℕ) → length (tagged-from s a roles i k) ≡ k
 unfolding tagged-from
-said-length s a roles i zero = refl
-said-length s a roles i (suc k) = ap suc (said-length s a roles (suc i) k)
+tagged-length s a roles i zero = refl
+tagged-length s a roles i (suc k) = ap suc (tagged-length s a roles (suc i) k)
 
 pub first-never :
     (p : Context → Bool) → ((c : Context) → p c ≡ false) → (s starts ends roles : List ℕ) (n : ℕ)
     → n ≡ first-of p s starts ends roles n
 first-never p e s starts ends roles n =
     let z : n - 0 ≡ n = omega arith in
-    sym (seek-never p e [] (tokens s (arrays starts ends) roles 0 n) ∙ said-length s (arrays starts ends) roles 0 (n - 0) ∙ z)
+    sym (seek-never p e [] (tokens s (arrays starts ends) roles 0 n) ∙ tagged-length s (arrays starts ends) roles 0 (n - 0) ∙ z)
 
 -- ---- a turn of the loop over the causes
 

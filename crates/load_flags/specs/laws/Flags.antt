@@ -24,7 +24,7 @@ use Rattle.load_values.specs.declared.Log.{Log}
 use Rattle.load_values.specs.declared.Log.the-variants as log
 use Rattle.load_values.specs.declared.Permission.{Permission}
 use Rattle.load_values.specs.declared.Permission.the-variants as permission
-use Rattle.load_values.specs.Known.{level-told, permission-told, log-told}
+use Rattle.load_values.specs.Known.{known-level, known-permission, known-log}
 use Rattle.load_flags.specs.Flags.{off-bits}
 use Rattle.load_flags.specs.Tokens.{size}
 
@@ -82,29 +82,29 @@ abbrev pub log-value : Log → ℕ
 log-value log.No = 0
 log-value (log.Is b) = flag b 8
 
-level-option : (o : Option ℕ) → level-value (level-told o) ≡ Option·getD o 0
+level-option : (o : Option ℕ) → level-value (known-level o) ≡ Option·getD o 0
 level-option none = refl
 level-option (some n) = refl
 
-permission-option : (o : Option Access) → permission-value (permission-told o) ≡ rank (Option·getD o access.None) * 2
+permission-option : (o : Option Access) → permission-value (known-permission o) ≡ rank (Option·getD o access.None) * 2
 permission-option none = refl
 permission-option (some a) = refl
 
-log-option : (o : Option Bool) → log-value (log-told o) ≡ flag (Option·getD o false) 8
+log-option : (o : Option Bool) → log-value (known-log o) ≡ flag (Option·getD o false) 8
 log-option none = refl
 log-option (some b) = refl
 
 module _ (ts : List (List ℕ)) (t : List ℕ) (e : t ≡ Option·getD (head-of ts) []) where
-  pub level-known : {r v : Level} → r ≡ level-told (level-of t) → r ≡ v → level-value v ≡ value-of 0 level-of ts
+  pub level-known : {r v : Level} → r ≡ known-level (level-of t) → r ≡ v → level-value v ≡ value-of 0 level-of ts
   level-known h g = ap level-value (sym g ∙ h) ∙ level-option (level-of t) ∙ ap (λ (l : List ℕ). Option·getD (level-of l) 0) e ∙ sym (level-first ts)
 
   pub permission-known :
-      {r v : Permission} → r ≡ permission-told (permission-of t) → r ≡ v → permission-value v ≡ rank (value-of access.None permission-of ts) * 2
+      {r v : Permission} → r ≡ known-permission (permission-of t) → r ≡ v → permission-value v ≡ rank (value-of access.None permission-of ts) * 2
   permission-known h g =
       ap permission-value (sym g ∙ h) ∙ permission-option (permission-of t)
       ∙ ap (λ (l : List ℕ). rank (Option·getD (permission-of l) access.None) * 2) e ∙ ap (λ (a : Access). rank a * 2) (sym (permission-first ts))
 
-  pub log-known : {r v : Log} → r ≡ log-told (log-of t) → r ≡ v → log-value v ≡ flag (value-of false log-of ts) 8
+  pub log-known : {r v : Log} → r ≡ known-log (log-of t) → r ≡ v → log-value v ≡ flag (value-of false log-of ts) 8
   log-known h g =
       ap log-value (sym g ∙ h)
       ∙ log-option (log-of t)

@@ -65,7 +65,7 @@ module _ {s places starts ends roles : List ℕ} {r : Judgment} (f : Judged s pl
       let v = accepted-as e in
       let k : count r ≡ n = ap count e in
       record {
-        lie = rw k at (f .lie);
+        spans = rw k at (f .spans);
         has-places = rw k at (f .has-places);
         user-groups = few-users s judged-arrays roles n v;
         host-groups = few-hosts s judged-arrays roles n v;

@@ -30,8 +30,8 @@ verdict-long s h = rw (lt-leb (length s) most-bytes h)
 
 module _ {s : List ℕ} {a : Arrays} {roles : List ℕ} {r : Judgment} (l : Read s a roles r) where
   -- the texts of the tokens lie in the file
-  lies : Spans-fit s (a .starts) (a .ends) roles (count r)
-  lies =
+  spans-fit-each : Spans-fit s (a .starts) (a .ends) roles (count r)
+  spans-fit-each =
       record {
         few = omega (arith, l .few, l .capacity .short);
         short = l .capacity .short;
@@ -48,7 +48,7 @@ module _ {s : List ℕ} {a : Arrays} {roles : List ℕ} {r : Judgment} (l : Read
       → Spans-fit s (a .starts) (a .ends) roles n × (n ≤ length (a .places)) × (n ≤ length seen)
   causes-ready {n} seen e h =
       let f : n ≡ count r = sym (ap count e) in
-      (spans-fit-less (omega arith) lies, omega (arith, l .few, l .capacity .room .places), omega (arith, l .few))
+      (spans-fit-less (omega arith) spans-fit-each, omega (arith, l .few, l .capacity .room .places), omega (arith, l .few))
 
   -- refused by 2 to 4
   pub refused-early : {k : Refusal} {p : ℕ} → r ≡ Refused k p → Judged s (a .places) (a .starts) (a .ends) roles (Refused k p)
@@ -56,7 +56,7 @@ module _ {s : List ℕ} {a : Arrays} {roles : List ℕ} {r : Judgment} (l : Read
       record {
         kinds = a .kinds;
         same = verdict-short s (l .capacity .short) ∙ l .same ∙ ap (open-verdict s a roles) e;
-        lie = spans-fit-less (omega arith) lies;
+        spans = spans-fit-less (omega arith) spans-fit-each;
         has-places = omega arith;
       }
 
@@ -67,6 +67,6 @@ module _ {s : List ℕ} {a : Arrays} {roles : List ℕ} {r : Judgment} (l : Read
       record {
         kinds = a .kinds;
         same = verdict-short s (l .capacity .short) ∙ l .same ∙ ap (open-verdict s a roles) e ∙ j .same;
-        lie = spans-fit-less (omega (arith, j .few)) lies;
+        spans = spans-fit-less (omega (arith, j .few)) spans-fit-each;
         has-places = omega (arith, j .few, l .few, l .capacity .room .places);
       }

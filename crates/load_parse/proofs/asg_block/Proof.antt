@@ -2,7 +2,7 @@ use Rattle.load_elements.specs.laws.Tokens.{Loops, loop-begins}
 use Rattle.load_elements.specs.laws.Stacks.{then, when}
 use Rattle.load_elements.specs.laws.Kinds.{some-remain}
 use Rattle.load_elements.specs.Reads.{expected, remaining}
-use Rattle.spec_grammar.specs.Reader.{once, often, asg-item, mute}
+use Rattle.spec_grammar.specs.Reader.{once, often, asg-item, no-role}
 use Rattle.spec_token.specs.declared.Kind.the-variants as kind
 use borrow.Author.Tests.{lt-ltb, le-leb}
 use lib.Dec.{ltb, leb}
@@ -14,7 +14,7 @@ use Rattle.load_parse.proofs.asg_block.Statement.{statement}
 use Rattle.load_parse.proofs.asg_block.Tie as tie
 
 abbrev Inv-loop : tie.InvT-loop
-Inv-loop kinds roles₀ at₀ roles at = Loops (often asg-item ∷ mute kind.CloseBrace ∷ []) kinds roles₀ at₀ roles at
+Inv-loop kinds roles₀ at₀ roles at = Loops (often asg-item ∷ no-role kind.CloseBrace ∷ []) kinds roles₀ at₀ roles at
 
 abbrev μ-loop : tie.MeasureT-loop
 μ-loop kinds roles₀ at₀ roles at = remaining kinds at
@@ -38,7 +38,7 @@ loop-less : tie.Need-loop-less Inv-loop μ-loop
 loop-less c = omega (arith, c .before .before .asg-item2 .ensures .less, some-remain (c .before .before .before .before .before .before .before .before .before .before .before .before .before .before .before .before .before .args .kinds .now) (c .before .before .before .before .before .before .loop .at) (c .before .before .before .before .before .kind-at .ensures) (omega (arith, c .before .before .before .before .if1 .taken)))
 
 loop-again : tie.Need-loop-again Inv-loop μ-loop
-loop-again c = record { leads = λ k. then (c .before .before .before .before .before .before .loop .inv .leads k) (when (λ n. ltb n 12) (λ n. once asg-item ∷ often asg-item ∷ mute kind.CloseBrace ∷ k) (c .before .before .before .before .before .kind-at .ensures) (lt-ltb _ _ (c .before .before .before .before .if1 .taken)) (c .before .before .asg-item2 .ensures .leads _) (refl, refl, refl, refl, refl, refl, refl, refl, refl, refl, refl, refl, tt, tt, tt)); long = omega (arith, c .before .before .before .before .before .before .loop .inv .long); less = omega (arith, c .before .before .before .before .before .before .loop .inv .less, c .before .before .asg-item2 .ensures .less) }
+loop-again c = record { leads = λ k. then (c .before .before .before .before .before .before .loop .inv .leads k) (when (λ n. ltb n 12) (λ n. once asg-item ∷ often asg-item ∷ no-role kind.CloseBrace ∷ k) (c .before .before .before .before .before .kind-at .ensures) (lt-ltb _ _ (c .before .before .before .before .if1 .taken)) (c .before .before .asg-item2 .ensures .leads _) (refl, refl, refl, refl, refl, refl, refl, refl, refl, refl, refl, refl, tt, tt, tt)); long = omega (arith, c .before .before .before .before .before .before .loop .inv .long); less = omega (arith, c .before .before .before .before .before .before .loop .inv .less, c .before .before .asg-item2 .ensures .less) }
 
 expect-requires-2 : tie.Need-expect-requires-2 Inv-loop μ-loop
 expect-requires-2 c κs = (omega (arith, c .before .before .before .loop .inv .long), omega arith)

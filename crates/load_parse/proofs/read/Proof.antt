@@ -1,4 +1,4 @@
-use Rattle.load_parse.specs.laws.Answers.{answers-said, answers-stopped}
+use Rattle.load_parse.specs.laws.Answers.{answers-file, answers-stopped}
 use lib.Seq.{length-take-le, length-front}
 use mathlib.Core.Path.{sym, _∙_}
 use borrow.Author.Needs.{needs}
@@ -27,7 +27,7 @@ same-length : tie.Need-same-length
 same-length c = length-front (c .before .before .before .before .before .before .before .before .before .args .roles .now) (c .before .before .before .before .file .last .1 .0) (c .before .before .before .before .before .before .before .before .before .args .n) (c .before .before .before .before .file .kept .1 .0)
 
 returns : tie.Need-returns
-returns c = answers-said _ _ _ _ (c .before .before .before .before .before .before .before .before .before .pre .1) (c .before .before .before .before .file .kept .1 .0) (c .before .before .before .before .file .ensures) (c .enum-told .given .1)
+returns c = answers-file _ _ _ _ (c .before .before .before .before .before .before .before .before .before .pre .1) (c .before .before .before .before .file .kept .1 .0) (c .before .before .before .before .file .ensures) (c .enum-told .given .1)
 
 same-length-2 : tie.Need-same-length-2
 same-length-2 c = length-front (c .before .before .before .before .before .before .before .before .before .before .args .roles .now) (c .before .before .before .before .before .file .last .1 .0) (c .before .before .before .before .before .before .before .before .before .before .args .n) (c .before .before .before .before .before .file .kept .1 .0)

@@ -53,9 +53,9 @@ module _ (kinds roles part : List ℕ) (n : ℕ) (h : n ≤ length roles) (l : l
     rest = drop-at part (drop n roles) n front;
   }
 
-  pub answers-said :
+  pub answers-file :
       {s : Cursor} {p : ℕ} → parse (take n kinds) ≡ ended part s → s ≡ cursor.At p → Answers kinds n roles (part ++ drop n roles) outcome.File
-  answers-said e q = answers-as outcome.File (e ∙ ap (ended part) q)
+  answers-file e q = answers-as outcome.File (e ∙ ap (ended part) q)
 
   pub answers-stopped :
       {s : Cursor} {i : ℕ} → parse (take n kinds) ≡ ended part s → s ≡ cursor.Stopped i

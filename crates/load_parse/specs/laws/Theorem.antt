@@ -49,18 +49,18 @@ module _ (s : List ℕ) (a : Arrays) (m : ℕ) where
   parse-part k i done n = parse-from k i done (take n (drop i (a .kinds)))
 
   -- read to the end: the roles are those that were written
-  read-said :
+  read-parsed :
       (n : ℕ) (k : Stack) (i : ℕ) (done : List Role) (roles : List ℕ) → length done ≡ i → i + n ≤ length (a .kinds)
       → parse-part k i done n ≡ parsed (map role-of-number roles) → read-from k (tokens-from s a i n) m ≡ parsed (tagged-from s a roles i n)
   unfolding parse-from tokens-from tagged-from
-  read-said zero k i done roles l h e = end (may-end k) e
+  read-parsed zero k i done roles l h e = end (may-end k) e
     where
       end : (b : Bool) → cond b (parsed done) (stopped-at i) ≡ parsed (map role-of-number roles) → cond b (parsed []) (stopped m) ≡ parsed []
       end true q = refl
       end false q = apart q
-  read-said (suc n) k i done roles l h e =
+  read-parsed (suc n) k i done roles l h e =
       by (step k (kind-of-number (getD (a .kinds) i 0))) (sym (ap (parse-from k i done) (first-of (a .kinds) i n h)) ∙ e)
-      (λ j r. read-said n j (suc i) (done ++ (r ∷ [])) roles)
+      (λ j r. read-parsed n j (suc i) (done ++ (r ∷ [])) roles)
     where
       by : (y : Step) → parse-step y i (λ j r. parse-part j (suc i) (done ++ (r ∷ [])) n) ≡ parsed (map role-of-number roles)
           → ((j : Stack) (r : Role) → length (done ++ (r ∷ [])) ≡ suc i → suc i + n ≤ length (a .kinds)
@@ -105,13 +105,13 @@ module _ (s : List ℕ) (a : Arrays) (m : ℕ) where
           ∙ ap (λ (y : ℕ). stopped (place-of y x)) c
 
   -- only the first n roles are looked at
-  said-take : (roles : List ℕ) (n k i : ℕ) → i + k ≤ n → tagged-from s a (take n roles) i k ≡ tagged-from s a roles i k
+  tagged-take : (roles : List ℕ) (n k i : ℕ) → i + k ≤ n → tagged-from s a (take n roles) i k ≡ tagged-from s a roles i k
   unfolding tagged-from
-  said-take roles n zero i h = refl
-  said-take roles n (suc k) i h =
+  tagged-take roles n zero i h = refl
+  tagged-take roles n (suc k) i h =
       ap (λ (x : ℕ). record { token = token-at s a i; role = role-of-number x } ∷ tagged-from s a (take n roles) (suc i) k)
       (getD-take n roles i 0 (omega arith))
-      ∙ ap (λ (l : List Tagged). tagged-at s a roles i ∷ l) (said-take roles n k (suc i) (omega arith))
+      ∙ ap (λ (l : List Tagged). tagged-at s a roles i ∷ l) (tagged-take roles n k (suc i) (omega arith))
 
   -- what an answer says of the kept tokens
   abbrev pub outcome-of : ℕ → List ℕ → answer.ParseEnd → Parse
@@ -124,6 +124,6 @@ module _ (s : List ℕ) (a : Arrays) (m : ℕ) where
       → Answers (a .kinds) n roles roles' r → read (tokens-from s a 0 n) m ≡ outcome-of n roles' r
   unfolding parse
   read-is n roles roles' outcome.File h v =
-      read-said n start 0 [] (take n roles') refl (omega arith) (v .answer) ∙ ap parsed (said-take roles' n n 0 (omega arith))
+      read-parsed n start 0 [] (take n roles') refl (omega arith) (v .answer) ∙ ap parsed (tagged-take roles' n n 0 (omega arith))
   read-is n roles roles' (outcome.Stopped i) h v =
       read-stopped n start 0 [] i (omega arith) (v .answer) ∙ ap (λ (y : ℕ). stopped (place-of y i)) (omega arith)

@@ -22,17 +22,17 @@ put-requires : tie.Need-put-requires Inv-loop μ-loop
 put-requires c κs =
     let pre = c .before .before .before .before .before .before .before .before .before .before .before .pre in (
       record {
-        lie = pre .0 .lie;
+        spans = pre .0 .spans;
         here = c .before .before .before .loop-test .taken;
         head = pre .0 .head;
         part = pre .0 .part;
-        bounded = bounded-more (omega (arith, pre .0 .lie .few)) (c .before .before .before .before .loop .inv .bounded);
+        bounded = bounded-more (omega (arith, pre .0 .spans .few)) (c .before .before .before .before .loop .inv .bounded);
       },
       pre .1,
     )
 
 add-i : tie.Need-add-i Inv-loop μ-loop
-add-i c = omega (arith, c .before .before .before .before .before .before .before .before .before .before .pre .0 .lie .few)
+add-i c = omega (arith, c .before .before .before .before .before .before .before .before .before .before .pre .0 .spans .few)
 
 loop-less : tie.Need-loop-less Inv-loop μ-loop
 loop-less c = omega arith
@@ -43,7 +43,7 @@ loop-again c =
     let pre = c .before .before .before .before .before .before .before .before .before .before .pre .0 in
     let go = c .before .before .loop-test .taken in
     ⊎-elim
-    (λ w. rw (w .5, w .6) (pass-hit _ _ _ _ _ _ _ _ _ _ _ _ (pre .head) (pre .lie) go (w .0 .taken) h (w .2 .ensures)))
+    (λ w. rw (w .5, w .6) (pass-hit _ _ _ _ _ _ _ _ _ _ _ _ (pre .head) (pre .spans) go (w .0 .taken) h (w .2 .ensures)))
     (λ w. rw (w .1, w .2) (pass-miss _ _ _ _ _ _ _ _ _ _ _ _ (pre .head) go (w .0 .left) h))
     (c .if1 .came)
 

@@ -28,7 +28,7 @@ returns c =
     let e = c .before .before .pass .ensures in
     record {
       emitted = e;
-      bounded = λ k h. bounded-on e (bounded-tokens (c .before .before .before .before .before .before .before .before .before .before .pre .lie) (role-of-number (a .q)) (role-of-number (a .m)) [] (a .work) (a .from) h);
+      bounded = λ k h. bounded-on e (bounded-tokens (c .before .before .before .before .before .before .before .before .before .before .pre .spans) (role-of-number (a .q)) (role-of-number (a .m)) [] (a .work) (a .from) h);
     }
 
 pub plain-pass-spec : {M : Type 1} → statement M

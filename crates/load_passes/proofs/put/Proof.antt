@@ -23,7 +23,7 @@ enum-told-2 c = search needs
 put-name-requires : tie.Need-put-name-requires
 put-name-requires c κs =
     let pre = c .before .before .before .before .before .before .before .before .before .pre in
-    (span-fits-at (pre .0 .here) (pre .0 .lie), pre .0 .bounded, omega (arith, pre .0 .lie .short))
+    (span-fits-at (pre .0 .here) (pre .0 .spans), pre .0 .bounded, omega (arith, pre .0 .spans .short))
 
 enum-told-3 : tie.Need-enum-told-3
 enum-told-3 c = search needs
@@ -49,7 +49,7 @@ enum-told-6 c = search needs
 put-reference-requires : tie.Need-put-reference-requires
 put-reference-requires c κs =
     let pre = c .before .before .before .before .before .before .before .before .before .pre in
-    (span-fits-at (pre .0 .here) (pre .0 .lie), pre .1, pre .0 .bounded, omega (arith, pre .0 .lie .short))
+    (span-fits-at (pre .0 .here) (pre .0 .spans), pre .1, pre .0 .bounded, omega (arith, pre .0 .spans .short))
 
 enum-told-7 : tie.Need-enum-told-7
 enum-told-7 c = search needs
@@ -57,14 +57,14 @@ enum-told-7 c = search needs
 text-requires : tie.Need-text-requires
 text-requires c κs =
     let pre = c .before .before .before .before .before .before .before .before .pre in
-    span-fits-at (pre .0 .here) (pre .0 .lie)
+    span-fits-at (pre .0 .here) (pre .0 .spans)
 
 put-string-requires : tie.Need-put-string-requires
 put-string-requires c κs =
     let a = c .before .before .before .before .before .before .before .before .before .before .args in
     let pre = c .before .before .before .before .before .before .before .before .before .before .pre in (
       pre .0 .bounded,
-      let h : length (c .before .text .result .now) ≤ 16384 = rw (c .before .text .ensures) (between-limit (a .s .now) (getD (a .starts .now) (a .i) 0) (getD (a .ends .now) (a .i) 0) (pre .0 .lie .short)) in omega arith,
+      let h : length (c .before .text .result .now) ≤ 16384 = rw (c .before .text .ensures) (between-limit (a .s .now) (getD (a .starts .now) (a .i) 0) (getD (a .ends .now) (a .i) 0) (pre .0 .spans .short)) in omega arith,
     )
 
 enum-told-8 : tie.Need-enum-told-8
@@ -73,14 +73,14 @@ enum-told-8 c = search needs
 text-requires-2 : tie.Need-text-requires-2
 text-requires-2 c κs =
     let pre = c .before .before .before .before .before .before .before .before .pre in
-    span-fits-at (pre .0 .here) (pre .0 .lie)
+    span-fits-at (pre .0 .here) (pre .0 .spans)
 
 put-string-requires-2 : tie.Need-put-string-requires-2
 put-string-requires-2 c κs =
     let a = c .before .before .before .before .before .before .before .before .before .before .args in
     let pre = c .before .before .before .before .before .before .before .before .before .before .pre in (
       pre .0 .bounded,
-      let h : length (c .before .text2 .result .now) ≤ 16384 = rw (c .before .text2 .ensures) (between-limit (a .s .now) (getD (a .starts .now) (a .i) 0) (getD (a .ends .now) (a .i) 0) (pre .0 .lie .short)) in omega arith,
+      let h : length (c .before .text2 .result .now) ≤ 16384 = rw (c .before .text2 .ensures) (between-limit (a .s .now) (getD (a .starts .now) (a .i) 0) (getD (a .ends .now) (a .i) 0) (pre .0 .spans .short)) in omega arith,
     )
 
 enum-told-9 : tie.Need-enum-told-9

@@ -16,18 +16,18 @@ loop-holds : tie.Need-loop-holds Inv-loop μ-loop
 loop-holds c = rules-start _ _ _ _ _ _ _ _ _ _ _ (c .before .before .before .before .before .before .before .pre .1)
 
 shared-slice-read-if1 : tie.Need-shared-slice-read-if1 Inv-loop μ-loop
-shared-slice-read-if1 c = omega (arith, c .before .before .before .before .before .before .before .before .before .before .pre .0 .lie .has-roles)
+shared-slice-read-if1 c = omega (arith, c .before .before .before .before .before .before .before .before .before .before .pre .0 .spans .has-roles)
 
 rule-references-requires : tie.Need-rule-references-requires Inv-loop μ-loop
 rule-references-requires c κs =
     let pre = c .before .before .before .before .before .before .before .before .before .before .before .before .pre in (
       pre .0,
-      bounded-more (omega (arith, pre .0 .lie .few)) (c .before .before .before .before .loop .inv .bounded),
+      bounded-more (omega (arith, pre .0 .spans .few)) (c .before .before .before .before .loop .inv .bounded),
       c .before .before .before .loop-test .taken,
     )
 
 add-i : tie.Need-add-i Inv-loop μ-loop
-add-i c = omega (arith, c .before .before .before .before .before .before .before .before .before .before .before .pre .0 .lie .few)
+add-i c = omega (arith, c .before .before .before .before .before .before .before .before .before .before .before .pre .0 .spans .few)
 
 loop-less : tie.Need-loop-less Inv-loop μ-loop
 loop-less c = omega arith
@@ -37,7 +37,7 @@ loop-again c =
     let h = c .before .before .before .loop .inv in
     let go = c .before .before .loop-test .taken in
     ⊎-elim
-    (λ w. rw (w .5, w .6) (rules-hit _ _ _ _ _ _ _ _ _ _ _ (c .before .before .before .before .before .before .before .before .before .before .before .pre .0 .lie) go (w .0 .taken) h (w .2 .ensures)))
+    (λ w. rw (w .5, w .6) (rules-hit _ _ _ _ _ _ _ _ _ _ _ (c .before .before .before .before .before .before .before .before .before .before .before .pre .0 .spans) go (w .0 .taken) h (w .2 .ensures)))
     (λ w. rw (w .1, w .2) (rules-miss _ _ _ _ _ _ _ _ _ _ _ go (w .0 .left) h))
     (c .if1 .came)
 

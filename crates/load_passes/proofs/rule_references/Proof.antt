@@ -23,9 +23,9 @@ pass-requires c κs =
     let a = c .before .before .before .before .before .before .before .before .before .args in
     let pre = c .before .before .before .before .before .before .before .before .before .pre in (
       record {
-        lie =
+        spans =
             spans-fit-less (gap-end 8 5 (a .roles .now) (a .i + 1) (a .n) (c .before .next .result) (omega (arith, pre .2)) (c .before .next .ensures))
-            (pre .0 .lie);
+            (pre .0 .spans);
         head = record { some = omega arith; known = omega arith };
         part = record { some = omega arith; known = omega arith };
         bounded = bounded-more (omega arith) (pre .1);
@@ -38,7 +38,7 @@ pass-requires-2 c κs =
     let a = c .before .before .before .before .before .before .before .before .before .before .before .before .before .args in
     let end = c .before .before .before .before .before .next in
     let pre = c .before .before .before .before .before .before .before .before .before .before .before .before .before .pre in
-    let less = spans-fit-less (gap-end 8 5 (a .roles .now) (a .i + 1) (a .n) (end .result) (omega (arith, pre .2)) (end .ensures)) (pre .0 .lie) in (record { lie = less; head = record { some = omega arith; known = omega arith }; part = record { some = omega arith; known = omega arith }; bounded = bounded-on (c .before .before .before .pass .ensures) (bounded-more (omega arith) (bounded-tokens less (role-of-number 12) (role-of-number 12) (texts-at (a .s .now) (a .starts .now) (a .ends .now) (a .uags .now)) (a .work) (a .i + 1) (pre .1))) }, pre .0 .hosts)
+    let less = spans-fit-less (gap-end 8 5 (a .roles .now) (a .i + 1) (a .n) (end .result) (omega (arith, pre .2)) (end .ensures)) (pre .0 .spans) in (record { spans = less; head = record { some = omega arith; known = omega arith }; part = record { some = omega arith; known = omega arith }; bounded = bounded-on (c .before .before .before .pass .ensures) (bounded-more (omega arith) (bounded-tokens less (role-of-number 12) (role-of-number 12) (texts-at (a .s .now) (a .starts .now) (a .ends .now) (a .uags .now)) (a .work) (a .i + 1) (pre .1))) }, pre .0 .hosts)
 
 same-length : tie.Need-same-length
 same-length c = search needs

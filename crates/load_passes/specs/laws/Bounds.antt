@@ -55,12 +55,12 @@ module _ (w : Work) (us hs : List (List ℕ)) where
 
 -- ---- the same for kept tokens
 
-module _ {s starts ends roles : List ℕ} {to : ℕ} (lie : Spans-fit s starts ends roles to) where
+module _ {s starts ends roles : List ℕ} {to : ℕ} (spans : Spans-fit s starts ends roles to) where
   pub tokens-few : (i : ℕ) → length (tokens-in s starts ends roles i to) ≤ 16384
-  tokens-few i = omega (arith, tokens-length s (arrays starts ends) roles i (to - i), lie .few)
+  tokens-few i = omega (arith, tokens-length s (arrays starts ends) roles i (to - i), spans .few)
 
   pub tokens-all-short : (i : ℕ) → Every Short (tokens-in s starts ends roles i to)
-  tokens-all-short i = tokens-short s (arrays starts ends) roles i (to - i) (lie .short)
+  tokens-all-short i = tokens-short s (arrays starts ends) roles i (to - i) (spans .short)
 
   pub bounded-tokens :
       (q m : Role) (names : List (List ℕ)) (w : Work) (i : ℕ) {k : ℕ} {p : Cursor} → Bounded k p

@@ -138,11 +138,11 @@ module _ (w : Work) (q m : ℕ) (names s starts ends roles : List ℕ) (from to 
   pub pass-hit :
       {b c : List ℕ} {p r : Cursor} {i : ℕ} → Role-code q → Spans-fit s starts ends roles to → i < to → getD roles i 0 ≡ q → Pass-head b p i
       → Step w q m names s starts ends roles i to b c p r → Pass-head c r (i + 1)
-  pass-hit {p = p} {i = i} tq lie h g l d =
-      let short = between-limit s (getD starts i 0) (getD ends i 0) (lie .short) in
+  pass-hit {p = p} {i = i} tq spans h g l d =
+      let short = between-limit s (getD starts i 0) (getD ends i 0) (spans .short) in
       let one = bounded-move (role-of-number q) (role-of-number m) (texts-at s starts ends names) w {p = p} (tagged-at s (arrays starts ends) roles i) short in
       record {
-        bounded = bounded-on d (bounded-more (omega arith) (one (tokens-all-short lie (i + 1)) (tokens-few lie (i + 1)) (l .bounded)));
+        bounded = bounded-on d (bounded-more (omega arith) (one (tokens-all-short spans (i + 1)) (tokens-few spans (i + 1)) (l .bounded)));
         head = turn-hit q pass-e pass-m s starts ends roles tq (λ x xs p. refl) h g d (l .head);
       }
 
@@ -179,9 +179,9 @@ module _ (w : Work) (s starts ends roles uags hags : List ℕ) (from to : ℕ) (
   pub rules-hit :
       {b c : List ℕ} {p r : Cursor} {i : ℕ} → Spans-fit s starts ends roles to → i < to → getD roles i 0 ≡ 8 → Rules-head b p i
       → Rule-passed w s starts ends roles uags hags i to b c p r → Rules-head c r (i + 1)
-  rules-hit {i = i} lie h g l d =
+  rules-hit {i = i} spans h g l d =
       record {
-        bounded = bounded-on d (bounded-more (omega arith) (bounded-rule w us hs (tokens-all-short lie (i + 1)) (tokens-few lie (i + 1)) (l .bounded)));
+        bounded = bounded-on d (bounded-more (omega arith) (bounded-rule w us hs (tokens-all-short spans (i + 1)) (tokens-few spans (i + 1)) (l .bounded)));
         head =
             turn-hit 8 (rule-e w us hs) (rule-m w us hs) s starts ends roles rule-word-known (λ x xs p. rule-moves-at w us hs (cut RuleWord xs) p) h g
             d (l .head);

@@ -16,7 +16,7 @@ use Rattle.load_records.proofs.put_access.Statement.{statement}
 use Rattle.load_records.proofs.put_access.Tie as tie
 
 long-requires : tie.Need-long-requires
-long-requires c κs = span-fits-at (c .before .before .before .before .before .pre .here) (c .before .before .before .before .before .pre .lie)
+long-requires c κs = span-fits-at (c .before .before .before .before .before .pre .here) (c .before .before .before .before .before .pre .spans)
 
 add-next : tie.Need-add-next
 add-next c = search needs
@@ -34,7 +34,7 @@ count-requires c κs =
     omega (
       arith,
       gap-end (a .q) (a .q) (a .roles .now) (a .i + 1) (a .to) (c .next .result) (omega (arith, pre .here)) (c .next .ensures),
-      pre .lie .has-roles,
+      pre .spans .has-roles,
     )
 
 add-count-2 : tie.Need-add-count-2
@@ -47,7 +47,7 @@ count-requires-2 c κs =
     omega (
       arith,
       gap-end (a .q) (a .q) (a .roles .now) (a .i + 1) (a .to) (c .before .next .result) (omega (arith, pre .here)) (c .before .next .ensures),
-      pre .lie .has-roles,
+      pre .spans .has-roles,
     )
 
 put-two-requires : tie.Need-put-two-requires
@@ -67,7 +67,7 @@ add-t18 c =
       arith,
       pre .bounded .string-bound,
       c .before .before .before .before .before .before .before .before .before .before .before .before .before .before .before .before .long .ensures,
-      between-limit (a .s .now) (getD (a .starts .now) (a .i) 0) (getD (a .ends .now) (a .i) 0) (pre .lie .short),
+      between-limit (a .s .now) (getD (a .starts .now) (a .i) 0) (getD (a .ends .now) (a .i) 0) (pre .spans .short),
     )
 
 add-t25 : tie.Need-add-t25
@@ -81,7 +81,7 @@ add-t25 c =
       c .before .before .before .before .before .before .before .before .before .before .before .before .before .before .before .count .ensures,
       tally-bound 6 (a .roles .now) (a .i + 1) ((end .result) - (a .i + 1)),
       gap-end (a .q) (a .q) (a .roles .now) (a .i + 1) (a .to) (end .result) (omega (arith, pre .here)) (end .ensures),
-      pre .lie .few,
+      pre .spans .few,
     )
 
 add-t26 : tie.Need-add-t26
@@ -95,7 +95,7 @@ add-t26 c =
       c .before .before .before .before .before .before .before .before .before .before .before .before .before .before .before .count2 .ensures,
       tally-bound 8 (a .roles .now) (a .i + 1) ((end .result) - (a .i + 1)),
       gap-end (a .q) (a .q) (a .roles .now) (a .i + 1) (a .to) (end .result) (omega (arith, pre .here)) (end .ensures),
-      pre .lie .few,
+      pre .spans .few,
     )
 
 same-length : tie.Need-same-length

@@ -28,7 +28,7 @@ first-text-requires : tie.Need-first-text-requires
 first-text-requires c κs =
     let a = c .before .before .before .before .before .before .args in
     let pre = c .before .before .before .before .before .before .pre in (
-      spans-fit-less (gap-end (a .q) 5 (a .roles .now) (a .i + 1) (a .to) (c .next .result) (omega (arith, pre .here)) (c .next .ensures)) (pre .lie),
+      spans-fit-less (gap-end (a .q) 5 (a .roles .now) (a .i + 1) (a .to) (c .next .result) (omega (arith, pre .here)) (c .next .ensures)) (pre .spans),
       pre .part,
     )
 
@@ -37,7 +37,7 @@ put-string-requires c κs =
     let a = c .before .before .before .before .before .before .before .before .args in
     let pre = c .before .before .before .before .before .before .before .before .pre in (
       pre .bounded,
-      let h : length (c .before .first-text .result .now) ≤ 16384 = rw (c .before .first-text .ensures) (first-short (role-of-number (a .m)) (tokens-short (a .s .now) (arrays (a .starts .now) (a .ends .now)) (a .roles .now) (a .i + 1) ((c .before .before .next .result) - (a .i + 1)) (pre .lie .short))) in omega arith,
+      let h : length (c .before .first-text .result .now) ≤ 16384 = rw (c .before .first-text .ensures) (first-short (role-of-number (a .m)) (tokens-short (a .s .now) (arrays (a .starts .now) (a .ends .now)) (a .roles .now) (a .i + 1) ((c .before .before .next .result) - (a .i + 1)) (pre .spans .short))) in omega arith,
     )
 
 same-length : tie.Need-same-length

@@ -30,14 +30,14 @@ first-text-requires : tie.Need-first-text-requires
 first-text-requires c κs =
     let a = c .before .before .before .before .before .before .args in
     let pre = c .before .before .before .before .before .before .pre in (
-      spans-fit-less (gap-end (a .q) 5 (a .roles .now) (a .i + 1) (a .to) (c .next .result) (omega (arith, pre .here)) (c .next .ensures)) (pre .lie),
+      spans-fit-less (gap-end (a .q) 5 (a .roles .now) (a .i + 1) (a .to) (c .next .result) (omega (arith, pre .here)) (c .next .ensures)) (pre .spans),
       pre .part,
     )
 
 letter-requires : tie.Need-letter-requires
 letter-requires c κs =
     let pre = c .before .before .before .before .before .before .before .before .pre in
-    span-fits-at (pre .here) (pre .lie)
+    span-fits-at (pre .here) (pre .spans)
 
 put-three-requires : tie.Need-put-three-requires
 put-three-requires c κs = search needs

@@ -33,7 +33,7 @@ count-requires c κs =
     let a = c .before .before .before .before .before .before .args in
     let pre = c .before .before .before .before .before .before .pre in
     omega
-    (arith, gap-end (a .q) 5 (a .roles .now) (a .i + 1) (a .to) (c .next .result) (omega (arith, pre .here)) (c .next .ensures), pre .lie .has-roles)
+    (arith, gap-end (a .q) 5 (a .roles .now) (a .i + 1) (a .to) (c .next .result) (omega (arith, pre .here)) (c .next .ensures), pre .spans .has-roles)
 
 add-count-2 : tie.Need-add-count-2
 add-count-2 c = search needs
@@ -45,7 +45,7 @@ count-requires-2 c κs =
     omega (
       arith,
       gap-end (a .q) 5 (a .roles .now) (a .i + 1) (a .to) (c .before .next .result) (omega (arith, pre .here)) (c .before .next .ensures),
-      pre .lie .has-roles,
+      pre .spans .has-roles,
     )
 
 add-next-2 : tie.Need-add-next-2
@@ -59,7 +59,7 @@ next-requires-2 c κs =
       arith,
       gap-end (a .q) 5 (a .roles .now) (a .i + 1) (a .to) (c .before .before .next .result) (omega (arith, pre .here))
           (c .before .before .next .ensures),
-      pre .lie .has-roles,
+      pre .spans .has-roles,
     )
 
 add-first-text : tie.Need-add-first-text
@@ -70,7 +70,7 @@ first-text-requires c κs =
     let a = c .before .before .before .before .before .before .before .before .before .args in
     let end = c .before .before .before .next in
     let pre = c .before .before .before .before .before .before .before .before .before .pre in
-    (spans-fit-less (gap-end (a .q) 5 (a .roles .now) (a .i + 1) (a .to) (end .result) (omega (arith, pre .here)) (end .ensures)) (pre .lie), pre .part)
+    (spans-fit-less (gap-end (a .q) 5 (a .roles .now) (a .i + 1) (a .to) (end .result) (omega (arith, pre .here)) (end .ensures)) (pre .spans), pre .part)
 
 add-flags-of : tie.Need-add-flags-of
 add-flags-of c = search needs
@@ -80,7 +80,7 @@ flags-of-requires c κs =
     let a = c .before .before .before .before .before .before .before .before .before .before .args in
     let end = c .before .before .before .before .next in
     let pre = c .before .before .before .before .before .before .before .before .before .before .pre in
-    spans-fit-less (gap-end (a .q) 5 (a .roles .now) (a .i + 1) (a .to) (end .result) (omega (arith, pre .here)) (end .ensures)) (pre .lie)
+    spans-fit-less (gap-end (a .q) 5 (a .roles .now) (a .i + 1) (a .to) (end .result) (omega (arith, pre .here)) (end .ensures)) (pre .spans)
 
 put-three-requires : tie.Need-put-three-requires
 put-three-requires c κs = search needs
@@ -96,7 +96,7 @@ add-put-two c =
       c .before .before .before .before .before .before .before .before .before .before .count .ensures,
       tally-bound 12 (a .roles .now) (a .i + 1) ((end .result) - (a .i + 1)),
       gap-end (a .q) 5 (a .roles .now) (a .i + 1) (a .to) (end .result) (omega (arith, pre .here)) (end .ensures),
-      pre .lie .few,
+      pre .spans .few,
     )
 
 put-two-requires : tie.Need-put-two-requires
@@ -124,7 +124,7 @@ add-t21 c =
     let a = c .before .before .before .before .before .before .before .before .before .before .before .before .before .before .before .before .before .before .before .before .before .before .before .before .before .before .args in
     let by-first-text = c .before .before .before .before .before .before .before .before .before .before .before .before .before .before .before .before .first-text in
     let pre = c .before .before .before .before .before .before .before .before .before .before .before .before .before .before .before .before .before .before .before .before .before .before .before .before .before .before .pre in
-    let h : length (by-first-text .result .now) ≤ 16384 = rw (by-first-text .ensures) (first-short (role-of-number (a .m)) (tokens-short (a .s .now) (arrays (a .starts .now) (a .ends .now)) (a .roles .now) (a .i + 1) ((c .before .before .before .before .before .before .before .before .before .before .before .before .before .before .before .before .before .before .before .before .next .result) - (a .i + 1)) (pre .lie .short))) in omega (arith, pre .bounded .string-bound)
+    let h : length (by-first-text .result .now) ≤ 16384 = rw (by-first-text .ensures) (first-short (role-of-number (a .m)) (tokens-short (a .s .now) (arrays (a .starts .now) (a .ends .now)) (a .roles .now) (a .i + 1) ((c .before .before .before .before .before .before .before .before .before .before .before .before .before .before .before .before .before .before .before .before .next .result) - (a .i + 1)) (pre .spans .short))) in omega (arith, pre .bounded .string-bound)
 
 add-t29 : tie.Need-add-t29
 add-t29 c =
@@ -137,7 +137,7 @@ add-t29 c =
       c .before .before .before .before .before .before .before .before .before .before .before .before .before .before .before .before .before .before .before .before .count .ensures,
       tally-bound 12 (a .roles .now) (a .i + 1) ((end .result) - (a .i + 1)),
       gap-end (a .q) 5 (a .roles .now) (a .i + 1) (a .to) (end .result) (omega (arith, pre .here)) (end .ensures),
-      pre .lie .few,
+      pre .spans .few,
     )
 
 add-t30 : tie.Need-add-t30
@@ -151,7 +151,7 @@ add-t30 c =
       c .before .before .before .before .before .before .before .before .before .before .before .before .before .before .before .before .before .before .before .before .count .ensures,
       tally-bound 12 (a .roles .now) (a .i + 1) ((end .result) - (a .i + 1)),
       gap-end (a .q) 5 (a .roles .now) (a .i + 1) (a .to) (end .result) (omega (arith, pre .here)) (end .ensures),
-      pre .lie .few,
+      pre .spans .few,
       c .before .before .before .before .before .before .before .before .before .before .before .before .before .before .before .before .before .before .before .count2 .ensures,
       tally-bound 13 (a .roles .now) (a .i + 1) ((end .result) - (a .i + 1)),
     )

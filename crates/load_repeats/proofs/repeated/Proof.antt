@@ -1,5 +1,5 @@
 use lib.Seq.{length-take-le}
-use Rattle.load_repeats.specs.laws.Seen.{Seen, seen-first, seen-lie, seen-found, seen-new, seen-reset, seen-on, seen-end}
+use Rattle.load_repeats.specs.laws.Seen.{Seen, seen-first, seen-spans-fit, seen-found, seen-new, seen-reset, seen-on, seen-end}
 use Rattle.load_spans.specs.laws.Spans.{span-fits-at}
 use lib.ListN.{length}
 use Prim.Native.Nat.{_-_}
@@ -29,7 +29,7 @@ slice-aggregate-position : tie.Need-slice-aggregate-position Inv-loop μ-loop
 slice-aggregate-position c = sym (length-take-le (c .before .before .before .before .loop .k) (c .before .before .before .before .loop .seen) (omega (arith, c .before .before .before .before .loop .inv .few, c .before .before .before .before .loop .inv .room)))
 
 position-requires : tie.Need-position-requires Inv-loop μ-loop
-position-requires c κs = (span-fits-at (c .before .before .before .loop-test .taken) (c .before .before .before .before .before .before .before .before .before .before .pre .0), seen-lie (c .before .before .before .before .before .before .before .before .before .before .args .s .now) (c .before .before .before .before .before .before .before .before .before .before .args .starts .now) (c .before .before .before .before .before .before .before .before .before .before .args .ends .now) (c .before .before .before .before .before .before .before .before .before .before .args .roles .now) (c .before .before .before .before .before .before .before .before .before .before .args .q) (c .before .before .before .before .before .before .before .before .before .before .args .stop) (c .before .before .before .before .before .before .before .before .before .before .args .n) (length (c .before .before .before .before .before .before .before .before .before .before .args .seen .now)) (omega (arith, c .before .before .before .before .loop .inv .few, c .before .before .before .before .loop .inv .room)) (c .before .before .before .before .before .before .before .before .before .before .pre .0) (c .before .before .before .before .loop .inv))
+position-requires c κs = (span-fits-at (c .before .before .before .loop-test .taken) (c .before .before .before .before .before .before .before .before .before .before .pre .0), seen-spans-fit (c .before .before .before .before .before .before .before .before .before .before .args .s .now) (c .before .before .before .before .before .before .before .before .before .before .args .starts .now) (c .before .before .before .before .before .before .before .before .before .before .args .ends .now) (c .before .before .before .before .before .before .before .before .before .before .args .roles .now) (c .before .before .before .before .before .before .before .before .before .before .args .q) (c .before .before .before .before .before .before .before .before .before .before .args .stop) (c .before .before .before .before .before .before .before .before .before .before .args .n) (length (c .before .before .before .before .before .before .before .before .before .before .args .seen .now)) (omega (arith, c .before .before .before .before .loop .inv .few, c .before .before .before .before .loop .inv .room)) (c .before .before .before .before .before .before .before .before .before .before .pre .0) (c .before .before .before .before .loop .inv))
 
 same-length : tie.Need-same-length Inv-loop μ-loop
 same-length c = c .before .before .before .before .before .before .loop .inv .room

@@ -101,8 +101,8 @@ module _ (s starts ends roles : List ℕ) (q stop n long : ℕ) where
         searched = search-first (wanted q stop) s starts ends roles n;
       }
 
-  pub seen-lie : {seen : List ℕ} {k i : ℕ} → k ≤ length seen → Spans-fit s starts ends roles n → Seen seen k i → Listed-spans-fit s starts ends (take k seen)
-  seen-lie {seen} {k} h l v j m =
+  pub seen-spans-fit : {seen : List ℕ} {k i : ℕ} → k ≤ length seen → Spans-fit s starts ends roles n → Seen seen k i → Listed-spans-fit s starts ends (take k seen)
+  seen-spans-fit {seen} {k} h l v j m =
       let b : j < k = omega (arith, length-take-le k seen h) in
       rw (getD-take k seen j 0 b) (span-fits-at (v .below j b) l)
 

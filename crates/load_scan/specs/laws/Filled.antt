@@ -5,8 +5,8 @@ use Prim.Native.Nat.{ℕ, _+_, _≤_, _<_}
 use native.Mathlib.Omega.{arith}
 use borrow.Author.Count.{below-more}
 use lib.ListN.{length}
-use Rattle.spec_token.specs.Token.{Token, bad, scanned}
-use Rattle.spec_token.specs.laws.Steps.{scan-from, from-end, prefixed, prefixed-more, prefixed-bad, prefixed-none}
+use Rattle.spec_token.specs.Token.{Token, bad, scanned, scan-from}
+use Rattle.spec_token.specs.laws.Steps.{from-end, prefixed, prefixed-more, prefixed-bad, prefixed-none}
 use Rattle.load_tokens.specs.Arrays.{Arrays, tokens-from}
 use Rattle.load_tokens.specs.Stores.{stored, Room, Long, Good}
 use Rattle.load_tokens.specs.laws.Stores.{long-on, stored-long, good-stored, good-other, tokens-stored}

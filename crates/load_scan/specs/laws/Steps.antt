@@ -8,10 +8,10 @@ use lib.Seq.{drop-cons}
 use Rattle.spec_token.specs.declared.Kind.{Kind}
 use Rattle.spec_token.specs.declared.Kind.the-variants as kind
 use Rattle.spec_token.specs.Word.{name-byte, word-kind}
-use Rattle.spec_token.specs.Token.{bad, punctuation, nothing, comment, quote, stop, word, wrong, other}
-use Rattle.spec_token.specs.laws.Spans.{Span, span-more}
-use Rattle.spec_token.specs.laws.Steps.{scan-from, word-named, from-nothing, from-comment, from-stop, from-word, from-wrong, from-closed, from-broken}
-use Rattle.spec_token.specs.laws.Steps.{from-unclosed}
+use Rattle.spec_token.specs.Token.{bad, punctuation, nothing, comment, quote, stop, word, wrong, other, scan-from}
+use Rattle.spec_token.specs.Spans.{Span}
+use Rattle.spec_token.specs.laws.Spans.{span-more}
+use Rattle.spec_token.specs.laws.Steps.{word-named, from-nothing, from-comment, from-stop, from-word, from-wrong, from-closed, from-broken, from-unclosed}
 use Rattle.spec_grammar.specs.Codes.{kind-number}
 use Rattle.load_tokens.specs.Arrays.{between}
 use Rattle.load_tokens.specs.laws.Arrays.{kind-back}

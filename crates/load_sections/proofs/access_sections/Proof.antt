@@ -17,7 +17,7 @@ plain-pass-requires : tie.Need-plain-pass-requires
 plain-pass-requires c κs =
     let pre = c .before .before .before .before .before .before .before .pre in
     record {
-      lie = pre .0;
+      spans = pre .0;
       head = record { some = omega arith; known = omega arith };
       part = record { some = omega arith; known = omega arith };
       bounded =
@@ -29,7 +29,7 @@ plain-pass-requires-2 : tie.Need-plain-pass-requires-2
 plain-pass-requires-2 c κs =
     let pre = c .before .before .before .before .before .before .before .before .before .before .before .pre in
     record {
-      lie = pre .0;
+      spans = pre .0;
       head = record { some = omega arith; known = omega arith };
       part = record { some = omega arith; known = omega arith };
       bounded =

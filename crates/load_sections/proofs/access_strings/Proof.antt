@@ -23,7 +23,7 @@ plain-pass-requires-2 : tie.Need-plain-pass-requires-2
 plain-pass-requires-2 c κs =
     let pre = c .before .before .before .before .before .before .before .before .before .before .before .before .before .pre in
     record {
-      lie = pre .0 .lie;
+      spans = pre .0 .spans;
       head = record { some = omega arith; known = omega arith };
       part = record { some = omega arith; known = omega arith };
       bounded = bounded-more (omega arith) (c .before .before .before .plain-pass .ensures .bounded limit-strings (pre .1));
@@ -47,10 +47,10 @@ plain-pass-requires-3 c κs =
     let four = c .before .before .before .before .before .before .before .before .before .before .before .plain-pass .ensures .bounded limit-strings (pre .1) in
     let five = c .before .before .before .before .before .before .before .plain-pass2 .ensures .bounded (limit-strings + pass-reach) four in
     record {
-      lie = pre .0 .lie;
+      spans = pre .0 .spans;
       head = record { some = omega arith; known = omega arith };
       part = record { some = omega arith; known = omega arith };
-      bounded = bounded-more (omega arith) (bounded-references (pre .0 .lie) Texts us hs (c .before .before .before .before .before .before .before .before .before .before .before .before .before .next .result) five (c .before .before .before .references .ensures));
+      bounded = bounded-more (omega arith) (bounded-references (pre .0 .spans) Texts us hs (c .before .before .before .before .before .before .before .before .before .before .before .before .before .next .result) five (c .before .before .before .references .ensures));
     }
 
 same-length : tie.Need-same-length

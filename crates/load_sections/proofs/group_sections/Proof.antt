@@ -21,7 +21,7 @@ plain-pass-requires c κs = search needs
 plain-pass-requires-2 : tie.Need-plain-pass-requires-2
 plain-pass-requires-2 c κs =
     record {
-      lie = c .before .before .before .before .before .before .before .before .before .before .before .before .pre;
+      spans = c .before .before .before .before .before .before .before .before .before .before .before .before .pre;
       head = record { some = omega arith; known = omega arith };
       part = record { some = omega arith; known = omega arith };
       bounded = bounded-more (omega arith) (c .before .before .before .plain-pass .ensures .bounded 36 bounded-start);
@@ -30,7 +30,7 @@ plain-pass-requires-2 c κs =
 plain-pass-requires-3 : tie.Need-plain-pass-requires-3
 plain-pass-requires-3 c κs =
     record {
-      lie = c .before .before .before .before .before .before .before .before .before .before .before .before .before .before .before .before .pre;
+      spans = c .before .before .before .before .before .before .before .before .before .before .before .before .before .before .before .before .pre;
       head = record { some = omega arith; known = omega arith };
       part = record { some = omega arith; known = omega arith };
       bounded =
@@ -42,7 +42,7 @@ plain-pass-requires-3 c κs =
 plain-pass-requires-4 : tie.Need-plain-pass-requires-4
 plain-pass-requires-4 c κs =
     record {
-      lie =
+      spans =
           c .before .before .before .before .before .before .before .before .before .before .before .before .before .before .before .before .before .before .before .before .pre;
       head = record { some = omega arith; known = omega arith };
       part = record { some = omega arith; known = omega arith };

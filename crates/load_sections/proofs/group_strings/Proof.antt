@@ -24,7 +24,7 @@ plain-pass-requires-2 : tie.Need-plain-pass-requires-2
 plain-pass-requires-2 c κs =
     let pre = c .before .before .before .before .before .before .before .before .before .before .before .before .pre in
     record {
-      lie = pre .0;
+      spans = pre .0;
       head = record { some = omega arith; known = omega arith };
       part = record { some = omega arith; known = omega arith };
       bounded = bounded-more (omega arith) (c .before .before .before .plain-pass .ensures .bounded limit-7 (pre .1));
@@ -34,7 +34,7 @@ plain-pass-requires-3 : tie.Need-plain-pass-requires-3
 plain-pass-requires-3 c κs =
     let pre = c .before .before .before .before .before .before .before .before .before .before .before .before .before .before .before .before .pre in
     record {
-      lie = pre .0;
+      spans = pre .0;
       head = record { some = omega arith; known = omega arith };
       part = record { some = omega arith; known = omega arith };
       bounded =
@@ -47,7 +47,7 @@ plain-pass-requires-4 : tie.Need-plain-pass-requires-4
 plain-pass-requires-4 c κs =
     let pre = c .before .before .before .before .before .before .before .before .before .before .before .before .before .before .before .before .before .before .before .before .pre in
     record {
-      lie = pre .0;
+      spans = pre .0;
       head = record { some = omega arith; known = omega arith };
       part = record { some = omega arith; known = omega arith };
       bounded =

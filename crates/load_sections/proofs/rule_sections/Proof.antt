@@ -24,30 +24,30 @@ mul-at : tie.Need-mul-at
 mul-at c =
     omega (
       arith,
-      tally-few 8 (c .before .next .result) (c .before .before .before .before .before .before .before .before .before .pre .0 .lie)
+      tally-few 8 (c .before .next .result) (c .before .before .before .before .before .before .before .before .before .pre .0 .spans)
           (c .count .ensures),
     )
 
 add-at : tie.Need-add-at
 add-at c =
     let pre = c .before .before .before .before .before .before .before .before .before .before .pre in
-    omega (arith, tally-few 8 (c .before .before .next .result) (pre .0 .lie) (c .before .count .ensures), pre .1 .at-bound)
+    omega (arith, tally-few 8 (c .before .before .next .result) (pre .0 .spans) (c .before .count .ensures), pre .1 .at-bound)
 
 references-requires : tie.Need-references-requires
 references-requires c κs =
-    let few = tally-few 8 (c .before .before .before .next .result) (c .before .before .before .before .before .before .before .before .before .before .before .pre .0 .lie) (c .before .before .count .ensures) in
+    let few = tally-few 8 (c .before .before .before .next .result) (c .before .before .before .before .before .before .before .before .before .before .before .pre .0 .spans) (c .before .before .count .ensures) in
     (c .before .before .before .before .before .before .before .before .before .before .before .pre .0, bounded-more (omega arith) (bounded-behind (c .before .before .before .before .before .before .before .before .before .before .before .pre .1) few))
 
 plain-pass-requires : tie.Need-plain-pass-requires
 plain-pass-requires c κs =
     let a = c .before .before .before .before .before .before .before .before .before .before .before .before .before .before .before .args in
     let pre = c .before .before .before .before .before .before .before .before .before .before .before .before .before .before .before .pre in
-    let few = tally-few 8 (c .before .before .before .before .before .before .before .next .result) (c .before .before .before .before .before .before .before .before .before .before .before .before .before .before .before .pre .0 .lie) (c .before .before .before .before .before .before .count .ensures) in
+    let few = tally-few 8 (c .before .before .before .before .before .before .before .next .result) (c .before .before .before .before .before .before .before .before .before .before .before .before .before .before .before .pre .0 .spans) (c .before .before .before .before .before .before .count .ensures) in
     let us = texts-at (a .s .now) (a .starts .now) (a .ends .now) (a .uags .now) in
     let hs = texts-at (a .s .now) (a .starts .now) (a .ends .now) (a .hags .now) in
-    let behind = bounded-references (pre .0 .lie) References us hs (c .before .before .before .before .before .before .before .next .result) (bounded-behind (pre .1) few) (c .before .before .before .references .ensures) in
+    let behind = bounded-references (pre .0 .spans) References us hs (c .before .before .before .before .before .before .before .next .result) (bounded-behind (pre .1) few) (c .before .before .before .references .ensures) in
     record {
-      lie = pre .0 .lie;
+      spans = pre .0 .spans;
       head = record { some = omega arith; known = omega arith };
       part = record { some = omega arith; known = omega arith };
       bounded = bounded-more {a = limit-7} (omega arith) (bounded-before (pre .1) (bounded-more (omega arith) behind));
@@ -61,7 +61,7 @@ returns c =
     let a = c .before .before .before .before .before .before .before .before .before .before .before .before .before .before .before .before .before .before .args in
     let pre = c .before .before .before .before .before .before .before .before .before .before .before .before .before .before .before .before .before .before .pre in
     let j = c .before .before .before .before .before .before .before .before .before .before .next .result in
-    let few = tally-few 8 (c .before .before .before .before .before .before .before .before .before .before .next .result) (c .before .before .before .before .before .before .before .before .before .before .before .before .before .before .before .before .before .before .pre .0 .lie) (c .before .before .before .before .before .before .before .before .before .count .ensures) in
+    let few = tally-few 8 (c .before .before .before .before .before .before .before .before .before .before .next .result) (c .before .before .before .before .before .before .before .before .before .before .before .before .before .before .before .before .before .before .pre .0 .spans) (c .before .before .before .before .before .before .before .before .before .count .ensures) in
     let us = texts-at (a .s .now) (a .starts .now) (a .ends .now) (a .uags .now) in
     let hs = texts-at (a .s .now) (a .starts .now) (a .ends .now) (a .hags .now) in
     let ar = arrays (a .starts .now) (a .ends .now) in
@@ -72,7 +72,7 @@ returns c =
     (c .before .before .before .before .before .before .before .before .before .count .result)
     (from-is (a .s .now) ar (a .roles .now) 5 (a .n) j (record { some = omega arith; known = omega arith }) (c .before .before .before .before .before .before .before .before .before .before .next .ensures))
     (c .before .before .before .before .before .before .before .before .before .count .ensures ∙ sym (tally-is (a .s .now) ar (a .roles .now) 8 j (a .n - j) rule-word-known))
-    (bounded-more (omega arith) (bounded-references (pre .0 .lie) References us hs j (bounded-behind (pre .1) few) refs))
+    (bounded-more (omega arith) (bounded-references (pre .0 .spans) References us hs j (bounded-behind (pre .1) few) refs))
     refs
     (c .before .before .plain-pass .ensures .emitted)
 

@@ -28,7 +28,7 @@ from-is s ar roles q n j t e =
 
 -- a count of tokens is no greater than that of a file's tokens
 pub tally-few : {s starts ends roles : List ℕ} {n k : ℕ} (m j : ℕ) → Spans-fit s starts ends roles n → k ≡ tally m roles j (n - j) → k ≤ 16384
-tally-few {roles = roles} {n} m j lie e = omega (arith, e, tally-bound m roles j (n - j), lie .few)
+tally-few {roles = roles} {n} m j spans e = omega (arith, e, tally-bound m roles j (n - j), spans .few)
 
 pub bounded-start : Bounded 36 (cursor 36 0 0 0)
 bounded-start = record { at-bound = omega arith; string-bound = omega arith; first-bound = omega arith; second-bound = omega arith }

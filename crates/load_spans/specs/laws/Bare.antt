@@ -16,7 +16,7 @@ use Rattle.spec_grammar.specs.Sentence.{Tagged}
 use Rattle.load_tokens.specs.Arrays.{Arrays, kind-of-number, tagged-at, tagged-from}
 use Rattle.spec_file.specs.Limit.{Section, most, item-of}
 use Rattle.spec_file.specs.Contents.{has-role, text, texts, until}
-use Rattle.spec_file.specs.Refusal.{Context, too-long, item, too-many, again, given-again, bad-level, unknown-word, letters-given, bad-calculation}
+use Rattle.spec_file.specs.Refusal.{Context, too-long, item, too-many, duplicates, given-again, bad-level, unknown-word, letters-given, bad-calculation}
 use Rattle.load_spans.specs.Roles.{arrays}
 use Rattle.load_spans.specs.Seek.{seek}
 
@@ -96,7 +96,7 @@ too-many-bare c = go (item-of (c .here .role))
     go none = refl
     go (some s) = rw (select-bare (item s) (λ x. refl) (c .backwards), length-map (select (item s) (c .backwards)) bare)
 
-again-bare : (q : Role) (xs ys : List Tagged) (c : Context) → xs ≡ map bare ys → again q xs (bare-context c) ≡ again q ys c
+again-bare : (q : Role) (xs ys : List Tagged) (c : Context) → xs ≡ map bare ys → duplicates q xs (bare-context c) ≡ duplicates q ys c
 again-bare q xs ys c e =
     let f : Tagged → Bool = λ x. has-role (x .role) (c .here) && same (text x) (text (c .here)) in
     ap (λ (b : Bool). has-role q (c .here) && b) (ap (any f) e ∙ any-map f bare ys)

@@ -117,8 +117,8 @@ listed-names {names} {list} {q} {roles} {n} {r} l h =
     ∙ ap (λ (k : ℕ). take k (indices q roles 0 n ++ drop (0 + length (indices q roles 0 n)) names)) (l .count)
     ∙ take-append-seam (indices q roles 0 n) (drop (0 + length (indices q roles 0 n)) names)
 
-pub listed-lie : {s starts ends roles : List ℕ} {n : ℕ} (q : ℕ) → Spans-fit s starts ends roles n → Listed-spans-fit s starts ends (indices q roles 0 n)
-listed-lie {roles = roles} {n = n} q l k h = span-fits-at (go (indices q roles 0 n) k h (indices-below q roles 0 n)) l
+pub listed-spans-fit : {s starts ends roles : List ℕ} {n : ℕ} (q : ℕ) → Spans-fit s starts ends roles n → Listed-spans-fit s starts ends (indices q roles 0 n)
+listed-spans-fit {roles = roles} {n = n} q l k h = span-fits-at (go (indices q roles 0 n) k h (indices-below q roles 0 n)) l
   where
     go : (xs : List ℕ) (k : ℕ) → k < length xs → Every (λ j. j < 0 + n) xs → getD xs k 0 < n
     go [] k h e = absurd (omega arith)

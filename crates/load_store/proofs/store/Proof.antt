@@ -7,7 +7,7 @@ use Prim.Native.Nat.{ℕ}
 use Rattle.load_store.specs.laws.Stored.{stored-done, stored-undone}
 use Rattle.load_tokens.specs.Stores.{arrays-of}
 use Rattle.load_spans.specs.Spans.{Listed-spans-fit}
-use Rattle.load_spans.specs.laws.Listed.{indices-length, listed-names, listed-length, listed-lie}
+use Rattle.load_spans.specs.laws.Listed.{indices-length, listed-names, listed-length, listed-spans-fit}
 use borrow.Author.Needs.{needs}
 use Rattle.load_store.proofs.store.Statement.{statement}
 use Rattle.load_store.proofs.store.Tie as tie
@@ -37,7 +37,7 @@ slice-aggregate-write-2 : tie.Need-slice-aggregate-write-2
 slice-aggregate-write-2 c = sym (length-take-le _ _ (omega (arith, c .before .before .before .collect2 .ensures .count, indices-length 3 (c .before .before .before .before .before .before .before .before .before .before .before .before .before .before .args .roles .now) 0 (c .before .before .before .before .before .before .before .before .before .before .before .before .before .before .args .n), c .before .before .before .before .before .before .before .before .before .before .before .before .before .before .pre .0 .host-groups, listed-length (c .before .before .before .collect2 .ensures))))
 
 write-requires : tie.Need-write-requires
-write-requires c κs = let u = (listed-names (c .before .before .before .before .before .before .before .collect .ensures) (omega (arith, c .before .before .before .before .before .before .before .collect .ensures .count, indices-length 1 (c .before .before .before .before .before .before .before .before .before .before .before .before .before .before .before .args .roles .now) 0 (c .before .before .before .before .before .before .before .before .before .before .before .before .before .before .before .args .n), c .before .before .before .before .before .before .before .before .before .before .before .before .before .before .before .pre .0 .user-groups))) in let h = (listed-names (c .before .before .before .before .collect2 .ensures) (omega (arith, c .before .before .before .before .collect2 .ensures .count, indices-length 3 (c .before .before .before .before .before .before .before .before .before .before .before .before .before .before .before .args .roles .now) 0 (c .before .before .before .before .before .before .before .before .before .before .before .before .before .before .before .args .n), c .before .before .before .before .before .before .before .before .before .before .before .before .before .before .before .pre .0 .host-groups))) in (record { lie = c .before .before .before .before .before .before .before .before .before .before .before .before .before .before .before .pre .0 .lie; users = subst (λ (l : List ℕ). Listed-spans-fit (c .before .before .before .before .before .before .before .before .before .before .before .before .before .before .before .args .s .now) (c .before .before .before .before .before .before .before .before .before .before .before .before .before .before .before .args .starts .now) (c .before .before .before .before .before .before .before .before .before .before .before .before .before .before .before .args .ends .now) l) (sym u) (listed-lie 1 (c .before .before .before .before .before .before .before .before .before .before .before .before .before .before .before .pre .0 .lie)); hosts = subst (λ (l : List ℕ). Listed-spans-fit (c .before .before .before .before .before .before .before .before .before .before .before .before .before .before .before .args .s .now) (c .before .before .before .before .before .before .before .before .before .before .before .before .before .before .before .args .starts .now) (c .before .before .before .before .before .before .before .before .before .before .before .before .before .before .before .args .ends .now) l) (sym h) (listed-lie 3 (c .before .before .before .before .before .before .before .before .before .before .before .before .before .before .before .pre .0 .lie)) }, rw (u, h) (c .before .before .before .before .before .before .before .before .before .before .before .before .before .before .before .pre .1))
+write-requires c κs = let u = (listed-names (c .before .before .before .before .before .before .before .collect .ensures) (omega (arith, c .before .before .before .before .before .before .before .collect .ensures .count, indices-length 1 (c .before .before .before .before .before .before .before .before .before .before .before .before .before .before .before .args .roles .now) 0 (c .before .before .before .before .before .before .before .before .before .before .before .before .before .before .before .args .n), c .before .before .before .before .before .before .before .before .before .before .before .before .before .before .before .pre .0 .user-groups))) in let h = (listed-names (c .before .before .before .before .collect2 .ensures) (omega (arith, c .before .before .before .before .collect2 .ensures .count, indices-length 3 (c .before .before .before .before .before .before .before .before .before .before .before .before .before .before .before .args .roles .now) 0 (c .before .before .before .before .before .before .before .before .before .before .before .before .before .before .before .args .n), c .before .before .before .before .before .before .before .before .before .before .before .before .before .before .before .pre .0 .host-groups))) in (record { spans = c .before .before .before .before .before .before .before .before .before .before .before .before .before .before .before .pre .0 .spans; users = subst (λ (l : List ℕ). Listed-spans-fit (c .before .before .before .before .before .before .before .before .before .before .before .before .before .before .before .args .s .now) (c .before .before .before .before .before .before .before .before .before .before .before .before .before .before .before .args .starts .now) (c .before .before .before .before .before .before .before .before .before .before .before .before .before .before .before .args .ends .now) l) (sym u) (listed-spans-fit 1 (c .before .before .before .before .before .before .before .before .before .before .before .before .before .before .before .pre .0 .spans)); hosts = subst (λ (l : List ℕ). Listed-spans-fit (c .before .before .before .before .before .before .before .before .before .before .before .before .before .before .before .args .s .now) (c .before .before .before .before .before .before .before .before .before .before .before .before .before .before .before .args .starts .now) (c .before .before .before .before .before .before .before .before .before .before .before .before .before .before .before .args .ends .now) l) (sym h) (listed-spans-fit 3 (c .before .before .before .before .before .before .before .before .before .before .before .before .before .before .before .pre .0 .spans)) }, rw (u, h) (c .before .before .before .before .before .before .before .before .before .before .before .before .before .before .before .pre .1))
 
 enum-known-size : tie.Need-enum-known-size
 enum-known-size c = search needs

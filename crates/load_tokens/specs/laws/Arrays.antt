@@ -57,10 +57,10 @@ tokens-more s a i (suc n) =
     ap (tokens-from s a i) e
     ∙ ap (λ (l : List Token). token-at s a i ∷ l) (tokens-more s a (suc i) n ∙ ap (λ (k : ℕ). tokens-from s a (suc i) n ++ (token-at s a k ∷ [])) g)
 
-pub said-tokens : (s : List ℕ) (a : Arrays) (roles : List ℕ) (i n : ℕ) → map (λ x. x .token) (tagged-from s a roles i n) ≡ tokens-from s a i n
+pub tagged-tokens : (s : List ℕ) (a : Arrays) (roles : List ℕ) (i n : ℕ) → map (λ x. x .token) (tagged-from s a roles i n) ≡ tokens-from s a i n
 unfolding tokens-from tagged-from
-said-tokens s a roles i zero = refl
-said-tokens s a roles i (suc n) = ap (λ (l : List Token). token-at s a i ∷ l) (said-tokens s a roles (suc i) n)
+tagged-tokens s a roles i zero = refl
+tagged-tokens s a roles i (suc n) = ap (λ (l : List Token). token-at s a i ∷ l) (tagged-tokens s a roles (suc i) n)
 
 -- the first of the tokens that are left
 pub tokens-step : (s : List ℕ) (a : Arrays) (i n : ℕ) → i < n → tokens-from s a i (n - i) ≡ token-at s a i ∷ tokens-from s a (i + 1) (n - (i + 1))

@@ -32,7 +32,7 @@ slice-aggregate-write-2 : tie.Need-slice-aggregate-write-2
 slice-aggregate-write-2 c = sym (length-take-le _ _ (omega (arith, c .before .before .before .collect2 .ensures .count, indices-length 3 (c .before .before .before .before .before .before .before .before .before .before .before .before .before .before .before .args .roles .now) 0 (c .before .before .before .before .before .before .before .before .before .before .before .before .before .before .before .args .n), c .before .before .before .before .before .before .before .before .before .before .before .before .before .before .before .pre .host-groups, listed-length (c .before .before .before .collect2 .ensures))))
 
 write-requires : tie.Need-write-requires
-write-requires c κs = ((c .before .before .before .before .before .before .before .before .before .before .before .before .before .before .before .before .before .pre .lie, c .before .before .before .before .before .before .before .before .before .before .before .before .before .before .before .before .before .pre .has-places), (listed-names (c .before .before .before .before .before .before .before .before .collect .ensures) (omega (arith, c .before .before .before .before .before .before .before .before .collect .ensures .count, indices-length 1 (c .before .before .before .before .before .before .before .before .before .before .before .before .before .before .before .before .before .args .roles .now) 0 (c .before .before .before .before .before .before .before .before .before .before .before .before .before .before .before .before .before .args .n), c .before .before .before .before .before .before .before .before .before .before .before .before .before .before .before .before .before .pre .user-groups)), listed-names (c .before .before .before .before .before .collect2 .ensures) (omega (arith, c .before .before .before .before .before .collect2 .ensures .count, indices-length 3 (c .before .before .before .before .before .before .before .before .before .before .before .before .before .before .before .before .before .args .roles .now) 0 (c .before .before .before .before .before .before .before .before .before .before .before .before .before .before .before .before .before .args .n), c .before .before .before .before .before .before .before .before .before .before .before .before .before .before .before .before .before .pre .host-groups))))
+write-requires c κs = ((c .before .before .before .before .before .before .before .before .before .before .before .before .before .before .before .before .before .pre .spans, c .before .before .before .before .before .before .before .before .before .before .before .before .before .before .before .before .before .pre .has-places), (listed-names (c .before .before .before .before .before .before .before .before .collect .ensures) (omega (arith, c .before .before .before .before .before .before .before .before .collect .ensures .count, indices-length 1 (c .before .before .before .before .before .before .before .before .before .before .before .before .before .before .before .before .before .args .roles .now) 0 (c .before .before .before .before .before .before .before .before .before .before .before .before .before .before .before .before .before .args .n), c .before .before .before .before .before .before .before .before .before .before .before .before .before .before .before .before .before .pre .user-groups)), listed-names (c .before .before .before .before .before .collect2 .ensures) (omega (arith, c .before .before .before .before .before .collect2 .ensures .count, indices-length 3 (c .before .before .before .before .before .before .before .before .before .before .before .before .before .before .before .before .before .args .roles .now) 0 (c .before .before .before .before .before .before .before .before .before .before .before .before .before .before .before .before .before .args .n), c .before .before .before .before .before .before .before .before .before .before .before .before .before .before .before .before .before .pre .host-groups))))
 
 same-length : tie.Need-same-length
 same-length c = search needs

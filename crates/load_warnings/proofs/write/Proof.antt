@@ -1,5 +1,5 @@
 use Rattle.load_warnings.specs.laws.Filled.{Filling, code-here-is, fill-first, fill-warning, fill-none, fill-end}
-use Rattle.load_spans.specs.laws.Listed.{listed-lie}
+use Rattle.load_spans.specs.laws.Listed.{listed-spans-fit}
 use Rattle.load_spans.specs.laws.Spans.{span-fits-at}
 use Prim.Native.Nat.{_-_}
 use mathlib.Core.Logic.{⊎-elim}
@@ -18,7 +18,7 @@ loop-holds : tie.Need-loop-holds Inv-loop μ-loop
 loop-holds c = fill-first (c .before .before .before .before .before .before .before .before .before .args .s .now) (c .before .before .before .before .before .before .before .before .before .args .places .now) (c .before .before .before .before .before .before .before .before .before .args .starts .now) (c .before .before .before .before .before .before .before .before .before .args .ends .now) (c .before .before .before .before .before .before .before .before .before .args .roles .now) (c .before .before .before .before .before .before .before .before .before .args .n) (c .before .before .before .before .before .before .before .before .before .args .skip) (c .before .before .before .before .before .before .before .before .before .args .numbers .now) (c .before .before .before .before .before .before .before .before .before .args .at .now)
 
 warning-at-requires : tie.Need-warning-at-requires Inv-loop μ-loop
-warning-at-requires c κs = ((span-fits-at (c .loop-test .taken) (c .before .before .before .before .before .before .before .before .before .before .before .pre .0 .0), omega (arith, c .before .before .before .before .before .before .before .before .before .before .before .pre .0 .0 .has-roles)), (rw (c .before .before .before .before .before .before .before .before .before .before .before .pre .1 .0) (listed-lie 1 (c .before .before .before .before .before .before .before .before .before .before .before .pre .0 .0)), rw (c .before .before .before .before .before .before .before .before .before .before .before .pre .1 .1) (listed-lie 3 (c .before .before .before .before .before .before .before .before .before .before .before .pre .0 .0))))
+warning-at-requires c κs = ((span-fits-at (c .loop-test .taken) (c .before .before .before .before .before .before .before .before .before .before .before .pre .0 .0), omega (arith, c .before .before .before .before .before .before .before .before .before .before .before .pre .0 .0 .has-roles)), (rw (c .before .before .before .before .before .before .before .before .before .before .before .pre .1 .0) (listed-spans-fit 1 (c .before .before .before .before .before .before .before .before .before .before .before .pre .0 .0)), rw (c .before .before .before .before .before .before .before .before .before .before .before .pre .1 .1) (listed-spans-fit 3 (c .before .before .before .before .before .before .before .before .before .before .before .pre .0 .0))))
 
 put-number-requires : tie.Need-put-number-requires Inv-loop μ-loop
 put-number-requires c κs = search needs

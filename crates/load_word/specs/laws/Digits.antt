@@ -11,7 +11,8 @@ use borrow.Author.Tests.{ne-eqb}
 use Rattle.spec_lists.specs.Text.{bytes, same, among, digit}
 use Rattle.spec_lists.specs.Select.{nonempty, run, after}
 use Rattle.spec_token.specs.Word.{unsigned, inp, digits, exponent, fraction}
-use Rattle.spec_token.specs.laws.Spans.{Span, span-after}
+use Rattle.spec_token.specs.Spans.{Span}
+use Rattle.spec_token.specs.laws.Spans.{span-after}
 
 some-more : (l : List ℕ) → 0 < length l → nonempty l ≡ true
 some-more [] h = absurd (omega arith)

@@ -8,11 +8,11 @@ use Rattle.load_write.proofs.table.Statement.{statement}
 use Rattle.load_write.proofs.table.Tie as tie
 
 group-sections-requires : tie.Need-group-sections-requires
-group-sections-requires c κs = c .before .before .before .before .before .before .before .before .pre .lie
+group-sections-requires c κs = c .before .before .before .before .before .before .before .before .pre .spans
 
 access-sections-requires : tie.Need-access-sections-requires
 access-sections-requires c κs = (
-  c .before .before .before .before .before .before .before .before .before .before .before .before .before .pre .lie,
+  c .before .before .before .before .before .before .before .before .before .before .before .before .before .pre .spans,
   c .before .before .before .before .group-sections .ensures .bounded,
 )
 
@@ -24,7 +24,7 @@ rule-sections-requires c κs = (
 
 group-strings-requires : tie.Need-group-strings-requires
 group-strings-requires c κs = (
-  c .before .before .before .before .before .before .before .before .before .before .before .before .before .before .before .before .before .before .before .before .before .before .before .pre .lie,
+  c .before .before .before .before .before .before .before .before .before .before .before .before .before .before .before .before .before .before .before .before .before .before .before .pre .spans,
   c .before .before .before .before .rule-sections .ensures .bounded,
 )
 
@@ -37,7 +37,7 @@ access-strings-requires c κs = (
 count-all-requires : tie.Need-count-all-requires
 count-all-requires c κs =
     let pre = c .before .before .before .before .before .before .before .before .before .before .before .before .before .before .before .before .before .before .before .before .before .before .before .before .before .before .before .before .before .before .pre in
-    (pre .lie .few, pre .lie .has-roles)
+    (pre .spans .few, pre .spans .has-roles)
 
 put-header-requires : tie.Need-put-header-requires
 put-header-requires c κs =

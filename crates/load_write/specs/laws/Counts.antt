@@ -16,7 +16,7 @@ use Rattle.spec_table.specs.Written.{two-runs, records, references-to, referenc
 use Rattle.load_flags.specs.Tokens.{size}
 use Rattle.load_sections.specs.Sections.{from}
 use Rattle.load_write.specs.laws.Flat.{flat-links, flat-rules, length-cuts}
-use Rattle.load_write.specs.laws.GroupRecords.{parts-size}
+use Rattle.load_write.specs.laws.GroupRecords.{clauses-size}
 use Rattle.load_write.specs.laws.Sections.{file-members}
 
 -- two runs for each
@@ -26,16 +26,16 @@ two-runs-of g h k (x ∷ xs) = ap suc (two-runs-of g h (k + length (g x) + lengt
 
 module _ (xs : List Tagged) where
   pub count-users : length (records (file-of xs) user-groups) ≡ size UagName xs
-  count-users = simp (beside-length, length-runs, length-map, parts-size) (omega arith)
+  count-users = simp (beside-length, length-runs, length-map, clauses-size) (omega arith)
 
   pub count-hosts : length (records (file-of xs) host-groups) ≡ size HagName xs
-  count-hosts = simp (beside-length, length-runs, length-map, parts-size) (omega arith)
+  count-hosts = simp (beside-length, length-runs, length-map, clauses-size) (omega arith)
 
   pub count-members : length (records (file-of xs) members) ≡ size User (from UagName xs) + size Host (from HagName xs)
   count-members = simp (length-runs, length-map, file-members xs, length-append)
 
   pub count-access : length (records (file-of xs) access-groups) ≡ size AsgName xs
-  count-access = simp (beside-length, length-runs, length-map, parts-size) (omega arith)
+  count-access = simp (beside-length, length-runs, length-map, clauses-size) (omega arith)
 
   pub count-inputs : length (records (file-of xs) inputs) ≡ size Input (from AsgName xs)
   count-inputs = simp (flat-links xs, beside-length, length-runs, length-map, length-cuts) (omega arith)

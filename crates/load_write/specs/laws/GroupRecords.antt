@@ -105,15 +105,15 @@ names-bytes q =
     (λ x xs p h. rw h)
 
 -- a part for each token of a role
-pub parts-size : (q : Role) (xs : List Tagged) → length (clauses q xs) ≡ size q xs
-parts-size q [] = refl
-parts-size q (x ∷ xs) = by-says q x (λ h. rw h (ap suc (parts-size q xs))) (λ h. rw h (parts-size q xs))
+pub clauses-size : (q : Role) (xs : List Tagged) → length (clauses q xs) ≡ size q xs
+clauses-size q [] = refl
+clauses-size q (x ∷ xs) = by-says q x (λ h. rw h (ap suc (clauses-size q xs))) (λ h. rw h (clauses-size q xs))
 
 links-size : (xs : List Tagged) → length (links xs) ≡ size Input xs
-links-size xs = length-map (clauses Input xs) _ ∙ parts-size Input xs
+links-size xs = length-map (clauses Input xs) _ ∙ clauses-size Input xs
 
 rules-size : (xs : List Tagged) → length (map (λ r. rule-text (r .body)) (clauses RuleWord xs)) ≡ size RuleWord xs
-rules-size xs = length-map (clauses RuleWord xs) _ ∙ parts-size RuleWord xs
+rules-size xs = length-map (clauses RuleWord xs) _ ∙ clauses-size RuleWord xs
 
 pub access-bytes :
     (xs : List Tagged) (p : Cursor)

@@ -8,20 +8,8 @@ use Rattle.spec_calc.specs.Symbol.{Symbol}
 use Rattle.spec_calc.specs.Expression.{Tree, level, prefix-level, Expression, plain, conditional, Joined, tighter, join, prefixed, Operand, negated}
 use Rattle.spec_calc.specs.Expression.{denied, a-number, a-letter, parenthesised}
 use Rattle.spec_calc.specs.Reader.{Begun, minus-of, not-of, left-of, else-of, ended, tightness, begun, paren, if-of, Stack, wanted, have, ends, reduce}
-use Rattle.spec_calc.specs.Reader.{run}
+use Rattle.spec_calc.specs.Reader.{run, first-ends, top}
 use Rattle.spec_calc.specs.laws.Levels.{ends-bound}
-
--- what the first symbol ends, or the end of the symbols
-abbrev pub first-ends : List Symbol → ℕ
-first-ends [] = 0
-first-ends (x ∷ s) = ends x
-
--- the tightness of what is begun on top of the stack
-abbrev pub top : Stack → ℕ
-top [] = 0
-top (begun b ∷ k) = tightness b
-top (paren ∷ k) = 0
-top (if-of c ∷ k) = 0
 
 first-ends-bound : (s : List Symbol) → first-ends s ≤ prefix-level
 first-ends-bound [] = omega arith

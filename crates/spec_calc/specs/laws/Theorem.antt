@@ -17,20 +17,20 @@ pub read-complete : (ss : List Symbol) (t : Tree) → Expression ss [] t → rea
 unfolding run reduce
 read-complete ss t d = expression-read d [] (omega arith) (omega arith)
 
-pub says-sound : (s : List ℕ) (t : Tree) → tree-of s ≡ some t → Parses s t
+pub parses-sound : (s : List ℕ) (t : Tree) → tree-of s ≡ some t → Parses s t
 unfolding tree-of
-says-sound s t e = go (symbols s) refl e
+parses-sound s t e = go (symbols s) refl e
   where
     go : (o : Option (List Symbol)) → symbols s ≡ o → read-spelled o ≡ some t → Parses s t
     go none p e = absurd (Option·some-ne-none t (sym e))
     go (some ss) p e = record { spelled = ss; spelling = p; derived = read-sound ss t e }
 
-pub says-complete : (s : List ℕ) (t : Tree) → Parses s t → tree-of s ≡ some t
+pub parses-complete : (s : List ℕ) (t : Tree) → Parses s t → tree-of s ≡ some t
 unfolding tree-of
-says-complete s t y = ap read-spelled (y .spelling) ∙ read-complete (y .spelled) t (y .derived)
+parses-complete s t y = ap read-spelled (y .spelling) ∙ read-complete (y .spelled) t (y .derived)
 
 pub one-tree : (s : List ℕ) (t u : Tree) → Parses s t → Parses s u → t ≡ u
-one-tree s t u y z = cc (says-complete s t y, says-complete s u z)
+one-tree s t u y z = cc (parses-complete s t y, parses-complete s u z)
 
 -- the empty text is no calculation
 pub no-empty : tree-of [] ≡ none

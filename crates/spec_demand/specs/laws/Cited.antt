@@ -1,6 +1,6 @@
 -- The laws that the front page cites, each from the file that proves it.
-pub use Rattle.spec_grammar.specs.laws.Theorem.{one-reading}
-pub use Rattle.spec_calc.specs.laws.Theorem.{says-sound, says-complete}
+pub use Rattle.spec_grammar.specs.laws.Theorem.{one-parse}
+pub use Rattle.spec_calc.specs.laws.Theorem.{parses-sound, parses-complete}
 pub use Rattle.spec_file.specs.laws.Theorem.{accepted-is, acceptable-is, refused-is, refusable-is}
 pub use Rattle.spec_demand.specs.laws.Loaded.{refused-leaves}
 pub use Rattle.spec_demand.specs.laws.Later.{never-above, exactly-equal}

@@ -18,11 +18,11 @@ use Rattle.spec_file.specs.Limit.{access-groups, inputs}
 use Rattle.spec_table.specs.Layout.{Content}
 use Rattle.spec_table.specs.View.{view}
 use Rattle.spec_table.specs.Check.{is-table, name-run, inputs-run, letter-field}
-use Rattle.spec_table.specs.Policy.{name}
+use Rattle.spec_table.specs.Policy.{name, row}
 use Rattle.spec_table.specs.Written.{content, records, table-of}
 use Rattle.spec_table.specs.laws.Fits.{Fits}
 use Rattle.spec_table.specs.laws.Fields.{strings-count, string-at}
-use Rattle.spec_table.specs.laws.Standing.{row, stands, name-within}
+use Rattle.spec_table.specs.laws.Standing.{stands, name-within}
 use Rattle.spec_table.specs.laws.Preserved.{link-of, links-of, answering-links}
 use Rattle.spec_table.specs.laws.Theorem.{viewed, is-a-table}
 use Rattle.spec_decision.specs.LookUp.{input-of, named-part, look-up}

@@ -13,14 +13,14 @@ use Rattle.spec_lists.specs.laws.Every.{every-map, every-implies}
 use Rattle.spec_token.specs.Token.{Token}
 use Rattle.spec_grammar.specs.declared.Role.the-variants.{AsgName, RuleWord, UnknownPredicate}
 use Rattle.spec_grammar.specs.Sentence.{Tagged, Reads}
-use Rattle.spec_grammar.specs.laws.Theorem.{one-reading}
+use Rattle.spec_grammar.specs.laws.Theorem.{one-parse}
 use Rattle.spec_calc.specs.declared.Reading.{Reading}
 use Rattle.spec_calc.specs.Readings.{Gone-bad}
 use Rattle.spec_rule.specs.declared.Access.the-variants as access
 use Rattle.spec_rule.specs.Question.{Question, reading-instead}
 use Rattle.spec_rule.specs.Rule.{rank}
 use Rattle.spec_rule.specs.Answering.{a-level, answering, named, or-default, default-name}
-use Rattle.spec_file.specs.laws.Counted.{every-parts}
+use Rattle.spec_file.specs.laws.Counted.{every-clauses}
 use Rattle.spec_file.specs.Contents.{has-role, place, clauses, asg, rule-text, file-of, Clause, Asg}
 use Rattle.spec_file.specs.Meaning.{rule-in}
 use Rattle.spec_file.specs.Acceptance.{Text-reads}
@@ -73,13 +73,13 @@ module _ (e : Edition) (q : Question) where
 
   rules-denied :
       (ys : List Tagged) → Says-no e q ys → Every (λ r. Every (λ p. e p q ≡ false) (r .unknown)) (map (λ r. rule-text (r .body)) (clauses RuleWord ys))
-  rules-denied ys h = every-map (λ (r : Clause). rule-text (r .body)) (every-implies (λ r w. rule-denied (r .body) (w .body)) (every-parts RuleWord h))
+  rules-denied ys h = every-map (λ (r : Clause). rule-text (r .body)) (every-implies (λ r w. rule-denied (r .body) (w .body)) (every-clauses RuleWord h))
 
   denied : (xs : List Tagged) → Says-no e q xs → (g : List ℕ) → Every (λ r. Every (λ p. e p q ≡ false) (r .unknown)) (rules-by-file (file-of xs) g)
   denied xs h g = by (answering (λ a. a .name) g (file-of xs .asgs)) (answering-given (λ (a : Asg). a .name) g asgs)
     where
       asgs : Every (λ a. Every (λ r. Every (λ p. e p q ≡ false) (r .unknown)) (a .rules)) (file-of xs .asgs)
-      asgs = every-map asg (every-implies (λ a w. rules-denied (a .body) (w .body)) (every-parts AsgName h))
+      asgs = every-map asg (every-implies (λ a w. rules-denied (a .body) (w .body)) (every-clauses AsgName h))
 
       by :
           (o : Option Asg) → Given (λ a. Every (λ r. Every (λ p. e p q ≡ false) (r .unknown)) (a .rules)) o
@@ -114,11 +114,11 @@ module _ (e : Edition) (xs : List Tagged) (q : Question) where
 -- ---- from the load to the question
 
 -- the text of an accepted load says what was accepted
-same-said : (lent s : List ℕ) (xs : List Tagged) (w : Stored lent s) → Text-reads s xs → w .said ≡ xs
-same-said lent s xs w t =
-    let a = accepted-is s (w .said) (w .accepted) .says in
+same-tagged : (lent s : List ℕ) (xs : List Tagged) (w : Stored lent s) → Text-reads s xs → w .said ≡ xs
+same-tagged lent s xs w t =
+    let a = accepted-is s (w .said) (w .accepted) .as-read in
     let same : a .spelled ≡ t .spelled = cc (a .spelling, t .spelling) in
-    one-reading (t .spelled) (w .said) xs (subst (λ (ts : List Token). Reads ts (w .said)) same (a .reading)) (t .reading)
+    one-parse (t .spelled) (w .said) xs (subst (λ (ts : List Token). Reads ts (w .said)) same (a .reading)) (t .reading)
 
 -- after an accepted load, whatever calls come before the next one, a question is answered by the rules of the text
 pub answered-by-text :
@@ -129,7 +129,7 @@ answered-by-text lent s h xs t between n q =
     let w = stored lent s h in
     ap (λ (b : List ℕ). decide b q) (calls-leave (load lent s .bytes) between n ∙ w .bytes)
     ∙ decided (file-of (w .said)) (fits s (w .said) (w .accepted)) (drop (length (table-of (file-of (w .said)))) lent) q
-    ∙ ap (λ (ys : List Tagged). answer-by-file (file-of ys) q) (same-said lent s xs w t)
+    ∙ ap (λ (ys : List Tagged). answer-by-file (file-of ys) q) (same-tagged lent s xs w t)
 
 module _
     (lent s : List ℕ) (h : is-accepted (load lent s .answer) ≡ true) (xs : List Tagged) (t : Text-reads s xs)

@@ -27,9 +27,9 @@ module _ {p : Tagged → Bool} where
   select-none (cons e c) = rw (e, select-none c)
 
 module _ (r : Role) where
-  pub parts-none : {xs : List Tagged} → Every (λ x. has-role r x ≡ false) xs → clauses r xs ≡ []
-  parts-none nil = refl
-  parts-none (cons e c) = rw (e, parts-none c)
+  pub clauses-none : {xs : List Tagged} → Every (λ x. has-role r x ≡ false) xs → clauses r xs ≡ []
+  clauses-none nil = refl
+  clauses-none (cons e c) = rw (e, clauses-none c)
 
   until-all : {xs : List Tagged} → Every (λ x. has-role r x ≡ false) xs → until r xs ≡ xs
   until-all nil = refl
@@ -96,9 +96,9 @@ module _ (r : Role) (rs : List Role) where
 
   module _ {B : Type 0} (f : Clause → B) (looks : Looks-at rs f) where
     -- the parts of two lists, one behind the other
-    pub parts-append : (xs ys : List Tagged) → Behind r rs ys → map f (clauses r (xs ++ ys)) ≡ map f (clauses r xs) ++ map f (clauses r ys)
-    parts-append [] ys b = refl
-    parts-append (x ∷ xs) ys b = go (has-role r x) (looks x (until r (xs ++ ys)) (until r xs) (until-append xs ys b)) (parts-append xs ys b)
+    pub clauses-append : (xs ys : List Tagged) → Behind r rs ys → map f (clauses r (xs ++ ys)) ≡ map f (clauses r xs) ++ map f (clauses r ys)
+    clauses-append [] ys b = refl
+    clauses-append (x ∷ xs) ys b = go (has-role r x) (looks x (until r (xs ++ ys)) (until r xs) (until-append xs ys b)) (clauses-append xs ys b)
       where
         go :
             (c : Bool) → f (record { head = x; body = until r (xs ++ ys) }) ≡ f (record { head = x; body = until r xs })
@@ -113,14 +113,14 @@ module _ (r : Role) (rs : List Role) where
         {items : List (List Tagged)} → Every (Behind r rs) items → map f (clauses r (joined items)) ≡ joined (map (λ i. map f (clauses r i)) items)
     clauses-joined nil = refl
     clauses-joined (cons {x = i} {xs = items} b c) =
-        parts-append i (joined items) (behind-joined c) ∙ ap (λ (l : List B). map f (clauses r i) ++ l) (clauses-joined c)
+        clauses-append i (joined items) (behind-joined c) ∙ ap (λ (l : List B). map f (clauses r i) ++ l) (clauses-joined c)
 
     -- tokens that say neither r nor one of rs make no difference
-    pub parts-select :
+    pub clauses-select :
         (qs : List Role) → one-of qs r ≡ true → all (one-of qs) rs ≡ true → (xs : List Tagged)
         → map f (clauses r (select (says-one-of qs) xs)) ≡ map f (clauses r xs)
-    parts-select qs o w [] = refl
-    parts-select qs o w (x ∷ xs) = go (has-role r x) refl (says-one-of qs x) refl (parts-select qs o w xs)
+    clauses-select qs o w [] = refl
+    clauses-select qs o w (x ∷ xs) = go (has-role r x) refl (says-one-of qs x) refl (clauses-select qs o w xs)
       where
         p : Tagged → Bool
         p = says-one-of qs
@@ -174,9 +174,9 @@ pub headed-never :
 headed-never q xs w d = never q xs (headed-all (λ z. not (q z)) w d)
 
 -- what is headed by h has no part headed by r, if none of it may say r
-pub other-parts :
+pub other-clauses :
     (r : Role) {h : Role} {rs : List Role} (xs : List Tagged) → apart (λ z. same-role z r) h rs ≡ true → Headed h rs (roles xs) → clauses r xs ≡ []
-other-parts r xs w d = parts-none r (headed-never (λ z. same-role z r) xs w d)
+other-clauses r xs w d = clauses-none r (headed-never (λ z. same-role z r) xs w d)
 
 -- whether what is headed by h has ts only behind r: h is r, or none of it may say one of ts
 abbrev pub behind-test : Role → List Role → Role → List Role → Bool
@@ -232,5 +232,5 @@ module _ {B : Type 0} (r : Role) (ts : List Role) (f : Clause → B) (looks : Lo
       record {
         name = x;
         named = rw (here, select-none rest) refl;
-        clauses = rw (here, parts-none r rest, until-all r rest) (ap (λ (b : B). b ∷ []) (looks x xs (x ∷ xs) (rw passed refl)));
+        clauses = rw (here, clauses-none r rest, until-all r rest) (ap (λ (b : B). b ∷ []) (looks x xs (x ∷ xs) (rw passed refl)));
       }

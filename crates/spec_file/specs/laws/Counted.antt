@@ -82,9 +82,9 @@ pub record Whole (P : Tagged → Type 0) (r : Role) (p : Clause) : Type 0 where
   pub body : Every P (p .body)
 
 module _ {P : Tagged → Type 0} where
-  pub every-parts : (r : Role) {xs : List Tagged} → Every P xs → Every (Whole P r) (clauses r xs)
-  every-parts r nil = nil
-  every-parts r (cons {x = x} {xs = xs} h c) = go (has-role r x) refl (every-parts r c)
+  pub every-clauses : (r : Role) {xs : List Tagged} → Every P xs → Every (Whole P r) (clauses r xs)
+  every-clauses r nil = nil
+  every-clauses r (cons {x = x} {xs = xs} h c) = go (has-role r x) refl (every-clauses r c)
     where
       go :
           (b : Bool) → has-role r x ≡ b → Every (Whole P r) (clauses r xs)

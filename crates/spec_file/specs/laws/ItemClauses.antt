@@ -17,8 +17,8 @@ use Rattle.spec_grammar.specs.Sentence.{Tagged}
 use Rattle.spec_grammar.specs.laws.Roles.{one-of, rule-roles, asg-roles}
 use Rattle.spec_grammar.specs.laws.Items.{Item, user-group, host-group, access-group, unknown, item, File-items, Asg-item, input, rule, asg-item, Asg-items}
 use Rattle.spec_file.specs.Contents.{text, texts, Clause, clauses, Group, Link, Rule-text, head-of, groups, links, rule-text, asg}
-use Rattle.spec_file.specs.laws.Clauses.{Looks-at, same-selected, parts-select, Behind, behind-append, behind-joined, behind-none, behind-test}
-use Rattle.spec_file.specs.laws.Clauses.{headed-behind, parts-append, clauses-joined, parts-none, says-nothing, apart, other-parts}
+use Rattle.spec_file.specs.laws.Clauses.{Looks-at, same-selected, clauses-select, Behind, behind-append, behind-joined, behind-none, behind-test}
+use Rattle.spec_file.specs.laws.Clauses.{headed-behind, clauses-append, clauses-joined, clauses-none, says-nothing, apart, other-clauses}
 
 -- ---- at which roles the definitions of Contents look
 
@@ -67,7 +67,7 @@ asg-looks x ys zs e =
         {B : Type 0} (r : Role) (rs : List Role) (f : Clause → B) → Looks-at rs f → one-of asg-roles r ≡ true → all (one-of asg-roles) rs ≡ true
         → map f (clauses r ys) ≡ map f (clauses r zs)
     same {B} r rs f looks o w =
-        sym (parts-select r rs f looks asg-roles o w ys) ∙ (ap (λ (l : List Tagged). map f (clauses r l)) e ∙ parts-select r rs f looks asg-roles o w zs)
+        sym (clauses-select r rs f looks asg-roles o w ys) ∙ (ap (λ (l : List Tagged). map f (clauses r l)) e ∙ clauses-select r rs f looks asg-roles o w zs)
 
 -- ---- what is made of the parts of an ASG, and of a file, is made of the parts of its items
 
@@ -77,15 +77,15 @@ module _ {B : Type 0} (r : Role) (rs : List Role) (f : Clause → B) (looks : Lo
   asg-item-behind a b i (input d h) = headed-behind r rs i a h
   asg-item-behind a b i (rule d h) = headed-behind r rs i b h
 
-  pub asg-parts :
+  pub asg-clauses :
       behind-test r rs Input (Pvname ∷ []) ≡ true → behind-test r rs RuleWord rule-roles ≡ true → apart (λ z. same-role z r) AsgName [] ≡ true
       → not (one-of rs NoRole) ≡ true → (xs : List Tagged) (o : Asg-items xs) → map f (clauses r xs) ≡ joined (map (λ i. map f (clauses r i)) (o .items))
-  asg-parts a b w v xs o =
+  asg-clauses a b w v xs o =
       ap of (o .whole)
-      ∙ (parts-append r rs f looks (o .opening) (inside ++ o .closing) (behind-append r rs inside (o .closing) (behind-joined r rs items) closing)
-      ∙ (ap (λ (l : List Clause). map f l ++ of (inside ++ o .closing)) (other-parts r (o .opening) w (o .opened))
-      ∙ (parts-append r rs f looks inside (o .closing) closing
-      ∙ (ap (λ (l : List Clause). of inside ++ map f l) no-parts ∙ (append-nil (of inside) ∙ clauses-joined r rs f looks items)))))
+      ∙ (clauses-append r rs f looks (o .opening) (inside ++ o .closing) (behind-append r rs inside (o .closing) (behind-joined r rs items) closing)
+      ∙ (ap (λ (l : List Clause). map f l ++ of (inside ++ o .closing)) (other-clauses r (o .opening) w (o .opened))
+      ∙ (clauses-append r rs f looks inside (o .closing) closing
+      ∙ (ap (λ (l : List Clause). of inside ++ map f l) no-clauses ∙ (append-nil (of inside) ∙ clauses-joined r rs f looks items)))))
     where
       of : List Tagged → List B
       of l = map f (clauses r l)
@@ -99,8 +99,8 @@ module _ {B : Type 0} (r : Role) (rs : List Role) (f : Clause → B) (looks : Lo
       closing : Behind r rs (o .closing)
       closing = behind-none r rs (says-nothing (one-of rs) (o .closing) v (o .closed))
 
-      no-parts : clauses r (o .closing) ≡ []
-      no-parts = parts-none r (says-nothing (λ z. same-role z r) (o .closing) (both (not (same-role NoRole r)) _ w .0) (o .closed))
+      no-clauses : clauses r (o .closing) ≡ []
+      no-clauses = clauses-none r (says-nothing (λ z. same-role z r) (o .closing) (both (not (same-role NoRole r)) _ w .0) (o .closed))
 
   item-behind :
       behind-test r rs UagName (User ∷ []) ≡ true → behind-test r rs HagName (Host ∷ []) ≡ true → behind-test r rs AsgName asg-roles ≡ true
@@ -110,11 +110,11 @@ module _ {B : Type 0} (r : Role) (rs : List Role) (f : Clause → B) (looks : Lo
   item-behind a b c d i (access-group e h) = headed-behind r rs i c h
   item-behind a b c d i (unknown e h) = headed-behind r rs i d h
 
-  pub file-parts :
+  pub file-clauses :
       behind-test r rs UagName (User ∷ []) ≡ true → behind-test r rs HagName (Host ∷ []) ≡ true → behind-test r rs AsgName asg-roles ≡ true
       → behind-test r rs UnknownItem [] ≡ true → (xs : List Tagged) (o : File-items xs)
       → map f (clauses r xs) ≡ joined (map (λ i. map f (clauses r i)) (o .items))
-  file-parts a b c d xs o =
+  file-clauses a b c d xs o =
       ap (λ (l : List Tagged). map f (clauses r l)) (sym (o .whole))
       ∙ clauses-joined r rs f looks (every-implies (λ i e. item-behind a b c d i (item i e)) (o .each))
 
@@ -122,17 +122,17 @@ module _ {B : Type 0} (r : Role) (rs : List Role) (f : Clause → B) (looks : Lo
 
 module _ (xs : List Tagged) (o : Asg-items xs) where
   pub links-by-items : links xs ≡ joined (map links (o .items))
-  links-by-items = asg-parts Input (Pvname ∷ []) link link-looks refl refl refl refl xs o
+  links-by-items = asg-clauses Input (Pvname ∷ []) link link-looks refl refl refl refl xs o
 
   pub rules-by-items : rule-texts xs ≡ joined (map rule-texts (o .items))
-  rules-by-items = asg-parts RuleWord rule-roles rule-of rule-looks refl refl refl refl xs o
+  rules-by-items = asg-clauses RuleWord rule-roles rule-of rule-looks refl refl refl refl xs o
 
 module _ (xs : List Tagged) (o : File-items xs) where
   pub uags-by-items : groups UagName User xs ≡ joined (map (groups UagName User) (o .items))
-  uags-by-items = file-parts UagName (User ∷ []) (group User) (group-looks User refl) refl refl refl refl xs o
+  uags-by-items = file-clauses UagName (User ∷ []) (group User) (group-looks User refl) refl refl refl refl xs o
 
   pub hags-by-items : groups HagName Host xs ≡ joined (map (groups HagName Host) (o .items))
-  hags-by-items = file-parts HagName (Host ∷ []) (group Host) (group-looks Host refl) refl refl refl refl xs o
+  hags-by-items = file-clauses HagName (Host ∷ []) (group Host) (group-looks Host refl) refl refl refl refl xs o
 
   pub asgs-by-items : map asg (clauses AsgName xs) ≡ joined (map (λ i. map asg (clauses AsgName i)) (o .items))
-  asgs-by-items = file-parts AsgName asg-roles asg asg-looks refl refl refl refl xs o
+  asgs-by-items = file-clauses AsgName asg-roles asg asg-looks refl refl refl refl xs o

@@ -23,7 +23,7 @@ use Rattle.spec_grammar.specs.laws.Roles.{rule-roles, asg-roles}
 use Rattle.spec_grammar.specs.laws.Items as grammar
 use Rattle.spec_grammar.specs.laws.Items.{Is, roles, Headed, File-items, file-items, Asg-items, asg-items}
 use Rattle.spec_file.specs.Contents.{text, texts, clauses, Group, Asg, File, head-of, groups, links, rule-text, asg, file-of}
-use Rattle.spec_file.specs.laws.Clauses.{apart, Named, own-clause, other-parts}
+use Rattle.spec_file.specs.laws.Clauses.{apart, Named, own-clause, other-clauses}
 use Rattle.spec_file.specs.laws.ItemClauses.{group, link, rule-of, rule-texts, group-looks, link-looks, rule-looks, asg-looks, links-by-items}
 use Rattle.spec_file.specs.laws.ItemClauses.{rules-by-items, uags-by-items, hags-by-items, asgs-by-items}
 
@@ -72,9 +72,9 @@ pub record File-by-items (xs : List Tagged) : Type 0 where
 asg-item-says : (i : List Tagged) → grammar.Asg-item i → Asg-item-says i
 asg-item-says i (grammar.input d h) =
     let o = own-clause Input (Pvname ∷ []) link link-looks i refl refl h in
-    input d (o .name) (o .named) (o .clauses) (ap (map rule-of) (other-parts RuleWord i refl h))
+    input d (o .name) (o .named) (o .clauses) (ap (map rule-of) (other-clauses RuleWord i refl h))
 asg-item-says i (grammar.rule d h) =
-    rule d (ap (map link) (other-parts Input i refl h)) (own-clause RuleWord rule-roles rule-of rule-looks i refl refl h .clauses)
+    rule d (ap (map link) (other-clauses Input i refl h)) (own-clause RuleWord rule-roles rule-of rule-looks i refl refl h .clauses)
 
 pub asg-by-items : (xs : List Tagged) → Is asg-def xs → Asg-by-items xs
 asg-by-items xs d =
@@ -96,12 +96,12 @@ same-file x y z = rw (x, y, z) refl
 -- what is headed by h says no group and no ASG, if none of it may say their names
 no-groups :
     (r m : Role) {h : Role} {rs : List Role} (i : List Tagged) → apart (λ z. same-role z r) h rs ≡ true → Headed h rs (roles i) → groups r m i ≡ []
-no-groups r m i w h = ap (map (group m)) (other-parts r i w h)
+no-groups r m i w h = ap (map (group m)) (other-clauses r i w h)
 
 no-asgs :
     {h : Role} {rs : List Role} (i : List Tagged) → apart (λ z. same-role z AsgName) h rs ≡ true → Headed h rs (roles i)
     → map asg (clauses AsgName i) ≡ []
-no-asgs i w h = ap (map asg) (other-parts AsgName i w h)
+no-asgs i w h = ap (map asg) (other-clauses AsgName i w h)
 
 item-says : (i : List Tagged) → grammar.Item i → Item-says i
 item-says i (grammar.user-group d h) =

@@ -51,7 +51,7 @@ module _ (s : List ℕ) (xs : List Tagged) where
           let same : ys ≡ xs = cc in
           record {
             short = leb-true (length s) most-bytes l;
-            says = record { spelled = ts; spelling = a; reading = read-sound ts (length s) xs (r ∙ ap parsed same) };
+            as-read = record { spelled = ts; spelling = a; reading = read-sound ts (length s) xs (r ∙ ap parsed same) };
             shallow = d;
             uncaused = applies-nowhere causes (contexts xs) (ap (λ (zs : List Tagged). refused-by causes (contexts zs)) (sym same) ∙ c);
           }
@@ -85,12 +85,12 @@ module _ (s : List ℕ) (xs : List Tagged) where
         le-leb
             (length s) most-bytes
             (a .short),
-        a .says .spelling,
+        a .as-read .spelling,
         a .shallow,
         read-complete
-            (a .says .spelled)
+            (a .as-read .spelled)
             (length s) xs
-            (a .says .reading),
+            (a .as-read .reading),
         unanswered
             (contexts xs)
             (a .uncaused),

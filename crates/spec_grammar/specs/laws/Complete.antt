@@ -30,7 +30,7 @@ use Rattle.spec_grammar.specs.Sentence.{Tagged, sign}
 use Rattle.spec_grammar.specs.Codes.{kind-number}
 use Rattle.spec_grammar.specs.Reader.{Depth, top, inner, Expected, token, item, users, hosts, next-string, asg-block, asg-item, log-option, rule-block}
 use Rattle.spec_grammar.specs.Reader.{rule-item, element, next-element, arguments, block-element, block, block-inside, block-name, block-number}
-use Rattle.spec_grammar.specs.Reader.{second-block, once, perhaps, often, Stack, Rules, no-rule, rule, mute, string, string-list, headed, names}
+use Rattle.spec_grammar.specs.Reader.{second-block, once, perhaps, often, Stack, Rules, no-rule, rule, no-role, string, string-list, headed, names}
 use Rattle.spec_grammar.specs.Reader.{numbers, behind, more-until, rules, Step, halt, go, find, step, may-end, parsed, joined-to, onward, read-from}
 use Rattle.spec_grammar.specs.Reader.{start}
 use Rattle.spec_grammar.specs.laws.Sound.{Signs, Non-rule-keyword, is-asg, is-rule, is-inp, Keyword, is-uag, is-hag, is-calc, is-other, Name}
@@ -144,8 +144,8 @@ data Elements : Stack → Stack → Type 0 where
 
 -- generic_block_elem is next, as the first of a block or not
 data Block-elements : Stack → Stack → Type 0 where
-  inside : {p : Depth} {k : Stack} → Block-elements (once (block-inside p) ∷ k) (often block-element ∷ mute kind.CloseBrace ∷ k)
-  behind-one : {k : Stack} → Block-elements (often block-element ∷ mute kind.CloseBrace ∷ k) (often block-element ∷ mute kind.CloseBrace ∷ k)
+  inside : {p : Depth} {k : Stack} → Block-elements (once (block-inside p) ∷ k) (often block-element ∷ no-role kind.CloseBrace ∷ k)
+  behind-one : {k : Stack} → Block-elements (often block-element ∷ no-role kind.CloseBrace ∷ k) (often block-element ∷ no-role kind.CloseBrace ∷ k)
 
 -- a nonterminal leads the reader from the stack i to the stack j
 abbrev Leads : Nonterminal → Stack → Stack → Type 0
@@ -153,23 +153,23 @@ Leads acf-file i j = Each item i j
 Leads asconfig i j = Each item i j
 Leads asconfig-item i j = Each item i j
 Leads uag-def i j = Each item i j
-Leads uag-head i j = step i kind.OpenParen ≡ go NoRole (string UagName ∷ mute kind.CloseParen ∷ j)
-Leads uag-body i j = step i kind.OpenBrace ≡ go NoRole (string-list User (mute kind.CloseBrace ∷ j))
+Leads uag-head i j = step i kind.OpenParen ≡ go NoRole (string UagName ∷ no-role kind.CloseParen ∷ j)
+Leads uag-body i j = step i kind.OpenBrace ≡ go NoRole (string-list User (no-role kind.CloseBrace ∷ j))
 Leads uag-user-list i j = Strings User i j
 Leads hag-def i j = Each item i j
-Leads hag-head i j = step i kind.OpenParen ≡ go NoRole (string HagName ∷ mute kind.CloseParen ∷ j)
-Leads hag-body i j = step i kind.OpenBrace ≡ go NoRole (string-list Host (mute kind.CloseBrace ∷ j))
+Leads hag-head i j = step i kind.OpenParen ≡ go NoRole (string HagName ∷ no-role kind.CloseParen ∷ j)
+Leads hag-body i j = step i kind.OpenBrace ≡ go NoRole (string-list Host (no-role kind.CloseBrace ∷ j))
 Leads hag-host-list i j = Strings Host i j
 Leads asg-def i j = Each item i j
-Leads asg-head i j = step i kind.OpenParen ≡ go NoRole (string AsgName ∷ mute kind.CloseParen ∷ j)
-Leads asg-body i j = step i kind.OpenBrace ≡ go NoRole (once asg-item ∷ often asg-item ∷ mute kind.CloseBrace ∷ j)
+Leads asg-head i j = step i kind.OpenParen ≡ go NoRole (string AsgName ∷ no-role kind.CloseParen ∷ j)
+Leads asg-body i j = step i kind.OpenBrace ≡ go NoRole (once asg-item ∷ often asg-item ∷ no-role kind.CloseBrace ∷ j)
 Leads asg-body-item i j = Each asg-item i j
 Leads inp-config i j = Each asg-item i j
 Leads rule-config i j = Each asg-item i j
-Leads rule-head i j = step i kind.OpenParen ≡ go NoRole (once (token (kind.Int tagged Level)) ∷ mute kind.Comma ∷ string Permission ∷ once log-option ∷ j)
-Leads rule-head-mandatory i j = step i kind.Int ≡ go Level (mute kind.Comma ∷ string Permission ∷ j)
+Leads rule-head i j = step i kind.OpenParen ≡ go NoRole (once (token (kind.Int tagged Level)) ∷ no-role kind.Comma ∷ string Permission ∷ once log-option ∷ j)
+Leads rule-head-mandatory i j = step i kind.Int ≡ go Level (no-role kind.Comma ∷ string Permission ∷ j)
 Leads rule-log-option i j = step i kind.String ≡ go LogOption j
-Leads rule-body i j = step i kind.OpenBrace ≡ go NoRole (once rule-item ∷ often rule-item ∷ mute kind.CloseBrace ∷ j)
+Leads rule-body i j = step i kind.OpenBrace ≡ go NoRole (once rule-item ∷ often rule-item ∷ no-role kind.CloseBrace ∷ j)
 Leads rule-list i j = Each rule-item i j
 Leads rule-list-item i j = Each rule-item i j
 Leads rule-uag-list i j = Strings UagNamed i j
@@ -277,7 +277,7 @@ trace generic-block-elem₁ inside = by-part (opens-block _ _ .name) (trace-head
 trace generic-block-elem₁ (behind-one {k = k}) =
     by-part
     {x = generic-block-elem-name}
-    (λ t. found-name (headed (perhaps (block inner) ∷ [])) no-rule (often block-element ∷ mute kind.CloseBrace ∷ k) (step (mute kind.CloseBrace ∷ k) t) t)
+    (λ t. found-name (headed (perhaps (block inner) ∷ [])) no-rule (often block-element ∷ no-role kind.CloseBrace ∷ k) (step (no-role kind.CloseBrace ∷ k) t) t)
     (trace-headed _ refl refl)
 trace generic-block-elem-name₁ e = by-part {x = keyword} (λ t w. e t (is-keyword w)) over
 trace generic-block-elem-name₂ e = by-token (e _ is-string) over

@@ -30,9 +30,9 @@ use Rattle.spec_grammar.specs.Sentence.{Tagged, sign}
 use Rattle.spec_grammar.specs.Codes.{kind-number}
 use Rattle.spec_grammar.specs.Reader.{Depth, top, inner, Expected, token, item, users, hosts, next-string, asg-block, asg-item, log-option, rule-block}
 use Rattle.spec_grammar.specs.Reader.{rule-item, element, next-element, arguments, block-element, block, block-inside, block-name, block-number}
-use Rattle.spec_grammar.specs.Reader.{second-block, Entry, once, perhaps, often, Stack, Rules, no-rule, rule, mute, string, named, string-list, headed}
-use Rattle.spec_grammar.specs.Reader.{non-rule-words, names, predicates, numbers, behind, more-until, rules, Step, halt, go, find, step, may-end, Parse}
-use Rattle.spec_grammar.specs.Reader.{parsed, stopped, joined-to, onward, read-from, start}
+use Rattle.spec_grammar.specs.Reader.{second-block, Entry, once, perhaps, often, Stack, Rules, no-rule, rule, no-role, string, named, string-list}
+use Rattle.spec_grammar.specs.Reader.{headed, non-rule-words, names, predicates, numbers, behind, more-until, rules, Step, halt, go, find, step}
+use Rattle.spec_grammar.specs.Reader.{may-end, Parse, parsed, stopped, joined-to, onward, read-from, start}
 
 abbrev pub Signs : Type 0
 Signs = List Sign
@@ -174,16 +174,16 @@ at-unknown _ _ (take finish ⨾ h ⨾ without ⨾ nil) = expand asconfig-item₄
 at-unknown _ _ (take finish ⨾ h ⨾ given (one b) ⨾ nil) = expand asconfig-item₄ (expand generic-top-level-item₂ (take (first h b)) finish) finish
 at-unknown _ _ (take finish ⨾ h ⨾ given (two b) ⨾ nil) = expand asconfig-item₄ (expand generic-top-level-item₁ (take (first h b)) finish) finish
 
-at-users : Keeps users (kind.OpenBrace tagged NoRole) (string-list User (mute kind.CloseBrace ∷ []))
+at-users : Keeps users (kind.OpenBrace tagged NoRole) (string-list User (no-role kind.CloseBrace ∷ []))
 at-users _ _ (take finish ⨾ m ⨾ take finish ⨾ nil) = expand uag-body₁ (take (expand uag-user-list₁ (take (repeated m finish)) (take finish))) finish
 
-at-hosts : Keeps hosts (kind.OpenBrace tagged NoRole) (string-list Host (mute kind.CloseBrace ∷ []))
+at-hosts : Keeps hosts (kind.OpenBrace tagged NoRole) (string-list Host (no-role kind.CloseBrace ∷ []))
 at-hosts _ _ (take finish ⨾ m ⨾ take finish ⨾ nil) = expand hag-body₁ (take (expand hag-host-list₁ (take (repeated m finish)) (take finish))) finish
 
 at-next-string : (x : Role) → Keeps (next-string x) (kind.Comma tagged NoRole) (string x ∷ [])
 at-next-string x _ _ (take finish ⨾ nil) = take (take finish)
 
-at-asg-block : Keeps asg-block (kind.OpenBrace tagged NoRole) (once asg-item ∷ often asg-item ∷ mute kind.CloseBrace ∷ [])
+at-asg-block : Keeps asg-block (kind.OpenBrace tagged NoRole) (once asg-item ∷ often asg-item ∷ no-role kind.CloseBrace ∷ [])
 at-asg-block _ _ (i ⨾ m ⨾ take finish ⨾ nil) = expand asg-body₁ (take (first i (repeated m (take finish)))) finish
 
 at-inp : Keeps asg-item (kind.Inp tagged Input) (named Pvname [])
@@ -192,25 +192,25 @@ at-inp _ _ (take finish ⨾ take finish ⨾ take finish ⨾ nil) = expand asg-bo
 at-rule :
     Keeps asg-item
     (kind.Rule tagged RuleWord)
-    (mute kind.OpenParen ∷ once (token (kind.Int tagged Level)) ∷ mute kind.Comma ∷ string Permission ∷ once log-option ∷ perhaps rule-block ∷ [])
+    (no-role kind.OpenParen ∷ once (token (kind.Int tagged Level)) ∷ no-role kind.Comma ∷ string Permission ∷ once log-option ∷ perhaps rule-block ∷ [])
 at-rule _ _ (take finish ⨾ take finish ⨾ take finish ⨾ take finish ⨾ l ⨾ b ⨾ nil) =
     expand asg-body-item₂ (expand rule-config₁ (take (first l (optional b))) finish) finish
 
-at-log-option : Keeps log-option (kind.Comma tagged NoRole) (string LogOption ∷ mute kind.CloseParen ∷ [])
+at-log-option : Keeps log-option (kind.Comma tagged NoRole) (string LogOption ∷ no-role kind.CloseParen ∷ [])
 at-log-option _ _ (take finish ⨾ take finish ⨾ nil) =
     expand rule-head₁ (take (expand rule-head-mandatory₁ (take (take (take finish))) (take (expand rule-log-option₁ (take finish) (take finish))))) finish
 
 at-no-log-option : Keeps log-option (kind.CloseParen tagged NoRole) []
 at-no-log-option _ _ nil = expand rule-head₂ (take (expand rule-head-mandatory₁ (take (take (take finish))) (take finish))) finish
 
-at-rule-block : Keeps rule-block (kind.OpenBrace tagged NoRole) (once rule-item ∷ often rule-item ∷ mute kind.CloseBrace ∷ [])
+at-rule-block : Keeps rule-block (kind.OpenBrace tagged NoRole) (once rule-item ∷ often rule-item ∷ no-role kind.CloseBrace ∷ [])
 at-rule-block _ _ (i ⨾ m ⨾ take finish ⨾ nil) = expand rule-body₁ (take (expand rule-list₁ (first i (repeated m finish)) (take finish))) finish
 
-at-rule-uag : Keeps rule-item (kind.Uag tagged NoRole) (mute kind.OpenParen ∷ string-list UagNamed (mute kind.CloseParen ∷ []))
+at-rule-uag : Keeps rule-item (kind.Uag tagged NoRole) (no-role kind.OpenParen ∷ string-list UagNamed (no-role kind.CloseParen ∷ []))
 at-rule-uag _ _ (take finish ⨾ take finish ⨾ m ⨾ take finish ⨾ nil) =
     expand rule-list-item₁ (take (take (expand rule-uag-list₁ (take (repeated m finish)) (take finish)))) finish
 
-at-rule-hag : Keeps rule-item (kind.Hag tagged NoRole) (mute kind.OpenParen ∷ string-list HagNamed (mute kind.CloseParen ∷ []))
+at-rule-hag : Keeps rule-item (kind.Hag tagged NoRole) (no-role kind.OpenParen ∷ string-list HagNamed (no-role kind.CloseParen ∷ []))
 at-rule-hag _ _ (take finish ⨾ take finish ⨾ m ⨾ take finish ⨾ nil) =
     expand rule-list-item₂ (take (take (expand rule-hag-list₁ (take (repeated m finish)) (take finish)))) finish
 
@@ -252,13 +252,13 @@ at-list p _ _ (d ⨾ m ⨾ take finish ⨾ nil) t e =
 
 at-elements :
     (p : Depth)
-    → Keeps (block-name p) (kind.OpenParen tagged NoRole) (once arguments ∷ perhaps (block inner) ∷ often block-element ∷ mute kind.CloseBrace ∷ [])
+    → Keeps (block-name p) (kind.OpenParen tagged NoRole) (once arguments ∷ perhaps (block inner) ∷ often block-element ∷ no-role kind.CloseBrace ∷ [])
 at-elements p _ _ (h ⨾ b ⨾ m ⨾ take finish ⨾ nil) t n =
     one
     (expand generic-block₃
     (take (expand generic-block-list₁ (expand generic-block-elem₁ (as-name n (first h (inner-block b))) (repeated m finish)) (take finish))) finish)
 
-at-second-block : Keeps second-block (kind.OpenBrace tagged NoRole) (once element ∷ mute kind.Comma ∷ once element ∷ more-until kind.CloseBrace)
+at-second-block : Keeps second-block (kind.OpenBrace tagged NoRole) (once element ∷ no-role kind.Comma ∷ once element ∷ more-until kind.CloseBrace)
 at-second-block _ _ (d ⨾ take finish ⨾ e ⨾ m ⨾ take finish ⨾ nil) = take (expand generic-list₁ (first d (take (first e (repeated m finish)))) (take finish))
 
 -- every rule of a list keeps the meaning of x
@@ -460,8 +460,8 @@ pub file : {s : Signs} → Seq start s [] → Acf-file s
 file (i ⨾ m ⨾ nil) = expand acf-file₁ (expand asconfig₁ (first i (repeated m finish)) finish) finish
 
 -- a text that is read is none that stops
-pub said-not-stopped : {A : Type 0} {xs : List Tagged} {p : ℕ} → parsed xs ≡ stopped p → A
-said-not-stopped e = let z : _≡_ {A = ℕ} 0 1 = cc in absurd (omega arith)
+pub parsed-not-stopped : {A : Type 0} {xs : List Tagged} {p : ℕ} → parsed xs ≡ stopped p → A
+parsed-not-stopped e = let z : _≡_ {A = ℕ} 0 1 = cc in absurd (omega arith)
 
 -- a token that the reader took, the stack and the outcome behind it
 record Onward (s : Step) (t : Token) (f : Stack → Parse) (xs : List Tagged) : Type 0 where
@@ -473,13 +473,13 @@ record Onward (s : Step) (t : Token) (f : Stack → Parse) (xs : List Tagged) : 
   all : record { token = t; role = role } ∷ rest ≡ xs
 
 -- reading goes on where all is read
-onward-said : (s : Step) (t : Token) (f : Stack → Parse) (xs : List Tagged) → onward s t f ≡ parsed xs → Onward s t f xs
-onward-said halt t f xs e = said-not-stopped (sym e)
-onward-said (go v j) t f xs e = split (f j) refl e
+onward-parsed : (s : Step) (t : Token) (f : Stack → Parse) (xs : List Tagged) → onward s t f ≡ parsed xs → Onward s t f xs
+onward-parsed halt t f xs e = parsed-not-stopped (sym e)
+onward-parsed (go v j) t f xs e = split (f j) refl e
   where
     split : (o : Parse) → f j ≡ o → joined-to (record { token = t; role = v }) o ≡ parsed xs → Onward (go v j) t f xs
     split (parsed ys) g h = record { role = v; stack = j; rest = ys; stepped = refl; later = g; all = cc }
-    split (stopped p) g h = said-not-stopped (sym h)
+    split (stopped p) g h = parsed-not-stopped (sym h)
 
 -- what the reader says, in the tokens' places, is what the stack stands for
 pub read-from-sound :
@@ -488,9 +488,9 @@ read-from-sound k [] n xs e = ends (may-end k) refl e
   where
     ends : (b : Bool) → may-end k ≡ b → cond b (parsed []) (stopped n) ≡ parsed xs → (map (λ x. x .token) xs ≡ []) × Seq k (map sign xs) []
     ends true c h = let nothing : [] ≡ xs = cc in subst (λ ys. (map (λ x. x .token) ys ≡ []) × Seq k (map sign ys) []) nothing (refl, no-words k (rw c tt))
-    ends false c h = said-not-stopped (sym h)
+    ends false c h = parsed-not-stopped (sym h)
 read-from-sound k (t ∷ ts) n xs e =
-    let o = onward-said (step k (t .kind)) t (λ j. read-from j ts n) xs e in
+    let o = onward-parsed (step k (t .kind)) t (λ j. read-from j ts n) xs e in
     let z = read-from-sound (o .stack) ts n (o .rest) (o .later) in
     subst
     (λ ys. (map (λ x. x .token) ys ≡ t ∷ ts) × Seq k (map sign ys) [])

@@ -10,7 +10,7 @@ use Rattle.spec_grammar.specs.declared.Role.{Role}
 use Rattle.spec_grammar.specs.Production.{_tagged_}
 use Rattle.spec_grammar.specs.Sentence.{Tagged, kind-of, kinds, Viable, Sentence, Stops, at-token, at-end}
 use Rattle.spec_grammar.specs.Reader.{Stack, Step, halt, go, step, may-end, Parse, parsed, stopped, joined-to, onward, read-from, start}
-use Rattle.spec_grammar.specs.laws.Sound.{Signs, Seq, words, step-sound, file, said-not-stopped}
+use Rattle.spec_grammar.specs.laws.Sound.{Signs, Seq, words, step-sound, file, parsed-not-stopped}
 use Rattle.spec_grammar.specs.laws.Complete.{Follows, done, took, follows}
 
 -- the kinds ks begin something that the stack k stands for
@@ -60,7 +60,7 @@ later t e (halts-end l d) = halts-end (live-on e l) (unread-on e d)
 
 -- what stops behind a token stops
 joined-stopped : (x : Tagged) (o : Parse) {p : ℕ} → joined-to x o ≡ stopped p → o ≡ stopped p
-joined-stopped x (parsed xs) e = said-not-stopped e
+joined-stopped x (parsed xs) e = parsed-not-stopped e
 joined-stopped x (stopped p) e = e
 
 -- where something must come, nothing is no end
@@ -78,7 +78,7 @@ pub read-from-halts : (k : Stack) (ts : List Token) (n p : ℕ) → read-from k 
 read-from-halts k [] n p e = ends (may-end k) refl e
   where
     ends : (b : Bool) → may-end k ≡ b → cond b (parsed []) (stopped n) ≡ stopped p → Halts k [] n p
-    ends true c h = said-not-stopped h
+    ends true c h = parsed-not-stopped h
     ends false c h = let same : n ≡ p = cc in subst (Halts k [] n) same (halts-end (live k) (unfinished c))
 read-from-halts k (t ∷ ts) n p e = steps (step k (t .kind)) refl (λ j. read-from-halts j ts n p) e
   where

@@ -34,7 +34,7 @@ use Rattle.spec_file.specs.Acceptance.{Acceptable}
 use Rattle.spec_file.specs.Load.{accept, verdict}
 use Rattle.spec_file.specs.laws.Theorem.{accepted-is, unanswered}
 use Rattle.spec_lists.specs.laws.Sums.{sum, sum-nil, sum-cons, sum-total, sum-plus, sum-append, sum-joined, sum-map, length-sum, length-joined}
-use Rattle.spec_file.specs.laws.Counted.{sum-of, sum-select, sum-texts, sum-heads, sum-bodies, Whole, every-parts, every-texts, every-here, Clear, clear}
+use Rattle.spec_file.specs.laws.Counted.{sum-of, sum-select, sum-texts, sum-heads, sum-bodies, Whole, every-clauses, every-texts, every-here, Clear, clear}
 use Rattle.spec_file.specs.laws.Counted.{string-roles, says-among, once, role-is, sum-roles, counted-roles}
 use Rattle.spec_table.specs.Written.{all-links, all-rules, names}
 use Rattle.spec_table.specs.laws.Fits.{Calculation-fits, no-calculation, allowed, Fits}
@@ -102,12 +102,12 @@ module _ {P : Tagged → Type 0} {xs : List Tagged} (e : Every P xs) where
   every-link : {Q : Link → Type 0} → ((p : Clause) → Whole P Input p → Q (link p)) → Every Q (all-links (file-of xs))
   every-link f =
       every-joined
-      (every-map _ (every-map _ (every-implies (λ p w. every-map _ (every-implies f (every-parts Input (w .body)))) (every-parts AsgName e))))
+      (every-map _ (every-map _ (every-implies (λ p w. every-map _ (every-implies f (every-clauses Input (w .body)))) (every-clauses AsgName e))))
 
   every-rule : {Q : Rule-text → Type 0} → ((p : Clause) → Whole P RuleWord p → Q (rule-text (p .body))) → Every Q (all-rules (file-of xs))
   every-rule f =
       every-joined
-      (every-map _ (every-map _ (every-implies (λ p w. every-map _ (every-implies f (every-parts RuleWord (w .body)))) (every-parts AsgName e))))
+      (every-map _ (every-map _ (every-implies (λ p w. every-map _ (every-implies f (every-clauses RuleWord (w .body)))) (every-clauses AsgName e))))
 
 module _ (xs : List Tagged) where
   -- what stands in the inputs or the rules of access groups
@@ -193,8 +193,8 @@ accepted-fits xs h b letters =
           (cons
           (every-joined
           (every-append
-          (every-map _ (every-map _ (every-implies (λ p w. texts-short User refl (w .body)) (every-parts UagName all-short))))
-          (every-map _ (every-map _ (every-implies (λ p w. every-map lowered (every-implies (λ s l. omega (arith, lowered-length s)) (texts-short Host refl (w .body)))) (every-parts HagName all-short))))))
+          (every-map _ (every-map _ (every-implies (λ p w. texts-short User refl (w .body)) (every-clauses UagName all-short))))
+          (every-map _ (every-map _ (every-implies (λ p w. every-map lowered (every-implies (λ s l. omega (arith, lowered-length s)) (texts-short Host refl (w .body)))) (every-clauses HagName all-short))))))
           (cons (every-map _ (every-map _ (heads-short AsgName refl)))
           (cons (every-map _ (every-link all-short (λ p w. first-short (texts-short Pvname refl (w .body)))))
           (cons (every-map _ (every-joined (every-joined (every-map _ (every-rule all-short (λ p w. cons (every-map _ (texts-short UagNamed refl (w .body))) (cons (every-map _ (texts-short HagNamed refl (w .body))) nil))))))) nil)))));
@@ -221,7 +221,7 @@ accepted-fits xs h b letters =
     short-and-calculated = every-both (λ x p q. (p, q)) all-short all-calculated
 
     heads-short : (r : Role) → longest r ≡ some longest-name → Every (λ p. length (text (p .head)) ≤ longest-name) (clauses r xs)
-    heads-short r l = every-implies (λ p w. short-by longest-name r l (p .head) (w .said) (w .head)) (every-parts r all-short)
+    heads-short r l = every-implies (λ p w. short-by longest-name r l (p .head) (w .said) (w .head)) (every-clauses r all-short)
 
     texts-short : (r : Role) → longest r ≡ some longest-name → {ys : List Tagged} → Every Short ys → Every (λ s. length s ≤ longest-name) (texts r ys)
     texts-short r l = every-texts r (short-by longest-name r l)
@@ -236,23 +236,23 @@ from-tokens (x ∷ xs) (cons p c) = cons p (from-tokens xs c)
 pub fits : (s : List ℕ) (xs : List Tagged) → verdict s ≡ accept xs → Fits (file-of xs)
 fits s xs e =
     let a = accepted-is s xs e in
-    let t = a .says .reading .tokens in
+    let t = a .as-read .reading .tokens in
     accepted-fits xs
     (unanswered (contexts xs) (a .uncaused))
     (bound a)
     (every-both inputs
-    (reads-inputs (a .says .spelled) xs (a .says .reading))
-    (from-tokens xs (subst (Every Spelled) (sym t) (scanned-inputs s (a .says .spelled) (a .says .spelling)))))
+    (reads-inputs (a .as-read .spelled) xs (a .as-read .reading))
+    (from-tokens xs (subst (Every Spelled) (sym t) (scanned-inputs s (a .as-read .spelled) (a .as-read .spelling)))))
   where
     Spelled : Token → Type 0
     Spelled t = t .kind ≡ Inp → link-letter (t .text) ≤ greatest-letter
 
     bound : (a : Acceptable s xs) → total (map (λ x. length (x .token .text)) xs) ≤ most-bytes
     bound a =
-        let b = scanned-bytes s (a .says .spelled) (a .says .spelling) in
+        let b = scanned-bytes s (a .as-read .spelled) (a .as-read .spelling) in
         let m =
         sym (map-map (λ (t : Token). length (t .text)) (λ (x : Tagged). x .token) xs)
-        ∙ ap (map (λ (t : Token). length (t .text))) (a .says .reading .tokens) in
+        ∙ ap (map (λ (t : Token). length (t .text))) (a .as-read .reading .tokens) in
         rw m (let c = a .short in omega arith)
 
     inputs : (x : Tagged) → may-say (x .token .kind) (x .role) ≡ true → Spelled (x .token) → has-role Input x ≡ true → link-letter (text x) ≤ greatest-letter

@@ -24,10 +24,7 @@ use Rattle.spec_table.specs.Check.{number-field, flags-field, flags-stan
 use Rattle.spec_table.specs.Fields.{Between, one-between}
 use Rattle.spec_table.specs.laws.Fields.{in-turn-between}
 use Rattle.spec_table.specs.laws.Bytes.{each}
-
--- a record of a section, by its number
-abbrev pub row : Content → Section → ℕ → List ℕ
-row c s i = getD (c .records s) i []
+use Rattle.spec_table.specs.Policy.{row}
 
 all-at : {A : Type 0} (p : A → Bool) (xs : List A) (i : ℕ) (d : A) → all p xs ≡ true → i < length xs → p (getD xs i d) ≡ true
 all-at p [] i d h l = absurd (omega arith)
@@ -71,12 +68,12 @@ module _ (c : Content) (w : well-formed c ≡ true) where
   rule-at : (i : ℕ) → i < length (c .records rules) → rule-stands c (row c rules i) ≡ true
   rule-at i l = all-at (rule-stands c) (c .records rules) i [] (conditions .2) l
 
-  rule-parts :
+  rule-clauses :
       (i : ℕ) → i < length (c .records rules)
       → (calculation-stands c (calculation-run (row c rules i)) ≡ true)
       × (numbers-fit c user-groups (users-run (row c rules i)) ≡ true)
       × (numbers-fit c host-groups (hosts-run (row c rules i)) ≡ true)
-  rule-parts i l =
+  rule-clauses i l =
       let r = row c rules i in
       let u = numbers-fit c user-groups (users-run r) in
       let h = numbers-fit c host-groups (hosts-run r) in
@@ -114,7 +111,7 @@ module _ (c : Content) (w : well-formed c ≡ true) where
       (r .first + r .count)
       (length (c .strings))
       (both (leb (r .first + r .count) (length (c .strings))) (leb (r .count) longest-calculation) (both f m e .0) .0))
-      (either (no-calculation r) (f && m) (rule-parts i l .0))
+      (either (no-calculation r) (f && m) (rule-clauses i l .0))
 
   pub name-within : (s : Section) (i : ℕ) → i < length (c .records s) → Within (length (c .strings)) (name-run s (row c s i))
   name-within =
@@ -203,10 +200,10 @@ module _ (c : Content) (w : well-formed c ≡ true) where
       (i : ℕ) → i < length (c .records rules) → (k : ℕ) → k < users-run (row c rules i) .count
       → (number-field (row c references (users-run (row c rules i) .first + k)) ≡ undefined-number → ⊥)
       → number-field (row c references (users-run (row c rules i) .first + k)) < length (c .records user-groups)
-  user-number i l = numbered user-groups (users-run (row c rules i)) (rule-parts i l .1) (references-within i l .0)
+  user-number i l = numbered user-groups (users-run (row c rules i)) (rule-clauses i l .1) (references-within i l .0)
 
   pub host-number :
       (i : ℕ) → i < length (c .records rules) → (k : ℕ) → k < hosts-run (row c rules i) .count
       → (number-field (row c references (hosts-run (row c rules i) .first + k)) ≡ undefined-number → ⊥)
       → number-field (row c references (hosts-run (row c rules i) .first + k)) < length (c .records host-groups)
-  host-number i l = numbered host-groups (hosts-run (row c rules i)) (rule-parts i l .2) (references-within i l .1)
+  host-number i l = numbered host-groups (hosts-run (row c rules i)) (rule-clauses i l .2) (references-within i l .1)

@@ -8,6 +8,7 @@ use native.Mathlib.Numerals.{add-one}
 use lib.ListN.{length, getD, take, drop, drop-of-length-le, length-drop}
 use lib.Seq.{drop-cons, drop-drop}
 use Rattle.spec_lists.specs.Select.{run, keep-if, after, skip-if}
+use Rattle.spec_token.specs.Spans.{Span}
 
 module _ {A : Type 0} (p : A → Bool) where
   pub run-take : (s : List A) → run p s ≡ take (length (run p s)) s
@@ -36,12 +37,6 @@ module _ {A : Type 0} (p : A → Bool) where
 
   pub after-short : (s : List A) → length (after p s) ≤ length s
   after-short s = rw (after-drop s, length-drop) (omega arith)
-
--- the run of bytes that pass p, from a place to a place
-pub record Span (p : ℕ → Bool) (s : List ℕ) (from to : ℕ) : Type 0 where
-  pub ends : to ≡ from + length (run p (drop from s))
-  pub onward : from ≤ to
-  pub within : to ≤ length s
 
 module _ (p : ℕ → Bool) where
   -- what a loop that stands at i has found of the run

@@ -12,8 +12,9 @@ use Rattle.spec_lists.specs.Select.{run, after}
 use Rattle.spec_token.specs.declared.Kind.the-variants.{String}
 use Rattle.spec_token.specs.Word.{blank, newline, name-byte, word-kind}
 use Rattle.spec_token.specs.Token.{Token, Tokens, tokens, bad, then, Quoted, closed, broken, unclosed, also, quoted, alone, punctuation, Lexeme}
-use Rattle.spec_token.specs.Token.{nothing, comment, quote, stop, word, wrong, lexeme-of, other, scan}
-use Rattle.spec_token.specs.laws.Spans.{after-short, Span, span-run, span-after}
+use Rattle.spec_token.specs.Token.{nothing, comment, quote, stop, word, wrong, lexeme-of, other, scan, scan-from}
+use Rattle.spec_token.specs.Spans.{Span}
+use Rattle.spec_token.specs.laws.Spans.{after-short, span-run, span-after}
 
 -- ---- the bound
 
@@ -96,11 +97,6 @@ steady (suc n) (suc m) p (b ∷ s) h l =
     (λ e.
     let a = after-shorter b s (word-named b e) in
     ap (then (record { kind = word-kind w; place = p; text = w })) (steady n m (p + length w) (after name-byte (b ∷ s)) (omega arith) (omega arith)))
-
--- ---- the tokens from a place on, by what its byte begins
-
-abbrev pub scan-from : List ℕ → ℕ → Tokens
-scan-from s at = scan (length s) at (drop at s)
 
 module _ (n p b : ℕ) (s : List ℕ) where
   step-nothing : lexeme-of b ≡ nothing → scan (suc n) p (b ∷ s) ≡ scan n (p + 1) s

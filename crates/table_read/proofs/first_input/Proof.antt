@@ -1,5 +1,6 @@
 use Rattle.table_read.specs.laws.Search.{run-turn, run-hit, run-done}
-use Rattle.spec_table.specs.laws.Standing.{row, stands, inputs-within}
+use Rattle.spec_table.specs.Policy.{row}
+use Rattle.spec_table.specs.laws.Standing.{stands, inputs-within}
 use Rattle.spec_table.specs.Check.{inputs-run, letter-field}
 use Rattle.spec_table.specs.View.{view}
 use Rattle.spec_file.specs.Limit.{access-groups, inputs}

@@ -10,10 +10,10 @@ use Rattle.spec_file.specs.Limit.{Section, order}
 use Rattle.spec_table.specs.Layout.{width, header-bytes}
 use Rattle.spec_table.specs.View.{view, strings-order, count-of, offset-of}
 use Rattle.spec_table.specs.Check.{is-table, run-at, name-run}
-use Rattle.spec_table.specs.Policy.{name}
+use Rattle.spec_table.specs.Policy.{name, row}
 use Rattle.spec_table.specs.laws.Bytes.{each}
 use Rattle.spec_table.specs.laws.Fields.{has-header, view-count, strings-inside, strings-count, string-at}
-use Rattle.spec_table.specs.laws.Standing.{row, stands, name-within}
+use Rattle.spec_table.specs.laws.Standing.{stands, name-within}
 use Rattle.table_fields.specs.Field.{Word, section-at, record-at, Has-field}
 use Rattle.table_read.specs.declared.Section as coded
 use Rattle.table_read.specs.declared.Section.the-variants.{UserGroups, HostGroups, Members, AccessGroups, Inputs, Rules, References}
