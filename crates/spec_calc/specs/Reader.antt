@@ -8,8 +8,6 @@ use Rattle.spec_calc.specs.declared.Operator.{Operator}
 use Rattle.spec_calc.specs.declared.Operator.the-variants.{Or, And, Less, AtMost, More, AtLeast, Equal, Differs, Plus, Minus, Times, Over}
 use Rattle.spec_calc.specs.Symbol.{Symbol, number, letter, operator, not-sign, question, colon, open-paren, close-paren, symbols}
 use Rattle.spec_calc.specs.Expression.{Tree, number-tree, letter-tree, minus, negation, binary, choice, level, prefix-level}
-use Rattle.spec_calc.specs.Reader.{Begun, minus-of, not-of, left-of, else-of, ended, tightness, begun, paren, if-of, Stack, wanted, have, ends, reduce}
-use Rattle.spec_calc.specs.Reader.{run, first-ends}
 
 -- a tree that lacks its last part: a prefix, an operator with its left side, a condition with its first branch
 pub data Begun : Type 0 where

@@ -8,8 +8,6 @@ use Rattle.spec_lists.specs.Select.{run, after}
 use Rattle.spec_token.specs.declared.Kind.{Kind}
 use Rattle.spec_token.specs.declared.Kind.the-variants.{String, OpenParen, CloseParen, OpenBrace, CloseBrace, Comma}
 use Rattle.spec_token.specs.Word.{blank, newline, name-byte, word-kind}
-use Rattle.spec_token.specs.Token.{Token, Tokens, tokens, bad, then, Quoted, closed, broken, unclosed, also, quoted, alone, punctuation, Lexeme}
-use Rattle.spec_token.specs.Token.{nothing, comment, quote, stop, word, wrong, lexeme-of, other, scan}
 
 -- 01: "a token's [place] is its first byte, the quote if any"; the text is that of the file, without quotes
 pub record Token : Type 0 where
