@@ -64,13 +64,20 @@ all-every p [] e = nil
 all-every p (x ∷ xs) e = let h = both (p x) (all p xs) e in cons (h .0) (all-every p xs (h .1))
 
 module _ (rs : List Reading) where
+  true-split : (t : Tree) → holds rs t ≡ true → (all (λ i. good (reading rs i)) (letters t) ≡ true) × (near-one (value rs t) ≡ true)
+  true-split t h = go (all (λ i. good (reading rs i)) (letters t)) refl
+    where
+      go : (b : Bool) → all (λ i. good (reading rs i)) (letters t) ≡ b → (b ≡ true) × (near-one (value rs t) ≡ true)
+      go true e = (refl, rw e at h)
+      go false e = absurd (false≢true (rw e at h))
+
   yields : (s : List ℕ) → true-tree rs (tree-of s) ≡ true → Yields-true rs s
   yields s e = go (tree-of s) refl e
     where
       go : (o : Option Tree) → tree-of s ≡ o → true-tree rs o ≡ true → Yields-true rs s
       go none p h = absurd (false≢true h)
       go (some t) p h =
-          let x = both (all (λ i. good (reading rs i)) (letters t)) (near-one (value rs t)) h in
+          let x = true-split t h in
           let y = both (lt lower-bound (value rs t)) (lt (value rs t) upper-bound) (x .1) in
           record { tree = t; says = parses-sound s t p; inputs = all-every (λ i. good (reading rs i)) (letters t) (x .0); above = y .0; below = y .1 }
 
