@@ -13,7 +13,9 @@ use Rattle.spec_rule.specs.Answering.{a-level, greatest-level}
 use Rattle.spec_rule.specs.laws.Privilege.{determined-is}
 use Rattle.spec_file.specs.Limit.{access-groups}
 use Rattle.spec_table.specs.View.{view}
+use Rattle.spec_table.specs.Table.{Table}
 use Rattle.spec_table.specs.Check.{is-table}
+use Rattle.spec_table.specs.laws.Table.{table-is}
 use Rattle.spec_table.specs.Policy.{name, rules-of}
 use Rattle.spec_decision.specs.declared.Answer.{Answer}
 use Rattle.spec_decision.specs.declared.Answer.the-variants.{Answered, NotTable, BadLevel}
@@ -37,7 +39,7 @@ module _ (v d : Decision) where
 
 pub by-table-is :
     (b : List ℕ) (q : Question) (d : Decision)
-    → (decide b q ≡ Answered d) ↔ ((is-table b ≡ true) × (q .level ≤ greatest-level) × By-table (view b) q d)
+    → (decide b q ≡ Answered d) ↔ (Table b × (q .level ≤ greatest-level) × By-table (view b) q d)
 unfolding decide
 by-table-is b q d = (λ e. sound (is-table b) refl e, complete)
   where
@@ -47,11 +49,11 @@ by-table-is b q d = (λ e. sound (is-table b) refl e, complete)
     by-rules : Answer
     by-rules = cond (a-level (q .level)) (Answered (decision-by q (rules-for (view b) (q .group)))) BadLevel
 
-    sound : (t : Bool) → is-table b ≡ t → cond t by-rules NotTable ≡ Answered d → (is-table b ≡ true) × (q .level ≤ greatest-level) × By-table (view b) q d
+    sound : (t : Bool) → is-table b ≡ t → cond t by-rules NotTable ≡ Answered d → Table b × (q .level ≤ greatest-level) × By-table (view b) q d
     sound true t e =
         let h = asked-sound (decision-by q (rules-for (view b) (q .group))) d (q .level) e in
-        (t, h .0, steps .0 (h .1))
+        (table-is b .0 t, h .0, steps .0 (h .1))
     sound false t e = let z : _≡_ {A = ℕ} 0 1 = cc in absurd (omega arith)
 
-    complete : (is-table b ≡ true) × (q .level ≤ greatest-level) × By-table (view b) q d → decide b q ≡ Answered d
-    complete h = rw (h .0) (asked-complete (decision-by q (rules-for (view b) (q .group))) d (q .level) (h .1) (steps .1 (h .2)))
+    complete : Table b × (q .level ≤ greatest-level) × By-table (view b) q d → decide b q ≡ Answered d
+    complete h = rw (table-is b .1 (h .0)) (asked-complete (decision-by q (rules-for (view b) (q .group))) d (q .level) (h .1) (steps .1 (h .2)))
