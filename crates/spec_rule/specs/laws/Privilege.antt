@@ -28,7 +28,7 @@ use Rattle.spec_rule.specs.Decision.{with-trap, decision-by}
 use Rattle.spec_rule.specs.Answering.{default-name, named, or-default, answering}
 use Rattle.spec_rule.specs.Privilege.{Some, here, further, First-such, None-named, Answers, by-name, by-default, by-none, Belongs, Yields-true, Passes}
 use Rattle.spec_rule.specs.Privilege.{Gives, Chosen, Determined, by-group, by-no-group}
-use Rattle.spec_rule.specs.laws.Such.{any-some, some-any, first-such, such-first, no-first, none-such}
+use Rattle.spec_rule.specs.laws.Such.{all-every, any-some, some-any, first-such, such-first, no-first, none-such}
 
 -- ---- texts
 
@@ -58,10 +58,6 @@ module _ (n : List ℕ) where
   belongs-complete [] b = refl
   belongs-complete (g ∷ gs) (inl e) = let z : _≡_ {A = ℕ} 0 1 = cc in absurd (omega arith)
   belongs-complete (g ∷ gs) (inr s) = some-any (any (same n)) (λ members. (any-some (same n) (same-is n) members, some-any (same n) (same-is n))) s
-
-all-every : {A : Type 0} (p : A → Bool) (xs : List A) → all p xs ≡ true → Every (λ x. p x ≡ true) xs
-all-every p [] e = nil
-all-every p (x ∷ xs) e = let h = both (p x) (all p xs) e in cons (h .0) (all-every p xs (h .1))
 
 module _ (rs : List Reading) where
   true-split : (t : Tree) → holds rs t ≡ true → (all (λ i. good (reading rs i)) (letters t) ≡ true) × (near-one (value rs t) ≡ true)

@@ -13,16 +13,13 @@ use Rattle.spec_lists.specs.laws.Every.{every-all, every-implies}
 use Rattle.spec_calc.specs.Expression.{Tree, Parses}
 use Rattle.spec_calc.specs.Reader.{tree-of}
 use Rattle.spec_calc.specs.laws.Theorem.{parses-sound, parses-complete}
+use Rattle.spec_rule.specs.laws.Such.{all-every}
 use Rattle.spec_file.specs.Limit.{user-groups, host-groups, rules, longest-calculation}
 use Rattle.spec_table.specs.Layout.{Content}
 use Rattle.spec_table.specs.View.{view}
 use Rattle.spec_table.specs.Table.{Table, Calculation-stands, sections-stand, counts-fit, runs-stand, names-fit, letters-stand, string-fits, no-calculation}
 use Rattle.spec_table.specs.Table.{numbers-fit, flags-stand, flags-field, calculation-run, users-run, hosts-run}
 use Rattle.spec_table.specs.Check.{calculation-stands, rule-stands, well-formed, is-table}
-
-all-every : {A : Type 0} (p : A → Bool) (xs : List A) → all p xs ≡ true → Every (λ x. p x ≡ true) xs
-all-every p [] e = nil
-all-every p (x ∷ xs) e = let h = both (p x) (all p xs) e in cons (h .0) (all-every p xs (h .1))
 
 module _ (c : Content) where
   calculation-sound : (r : Run) → calculation-stands c r ≡ true → Calculation-stands c r
