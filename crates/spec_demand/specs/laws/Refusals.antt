@@ -8,9 +8,11 @@ use Prim.Native.Nat.{ℕ, _≤_, _<_}
 use native.Mathlib.Omega.{arith}
 use lib.Dec.{leb}
 use lib.ListN.{length}
-use borrow.Author.Tests.{leb-false}
+use borrow.Author.Tests.{leb-false, lt-leb}
 use Rattle.spec_grammar.specs.Sentence.{Tagged}
+use Rattle.spec_rule.specs.declared.Decision.{Decision}
 use Rattle.spec_rule.specs.Question.{Question}
+use Rattle.spec_rule.specs.Decision.{decision-by}
 use Rattle.spec_rule.specs.Answering.{a-level, greatest-level}
 use Rattle.spec_file.specs.declared.Refusal.{Refusal}
 use Rattle.spec_file.specs.declared.Refusal.the-variants.{NoRoom}
@@ -19,6 +21,10 @@ use Rattle.spec_file.specs.Refusal.{number}
 use Rattle.spec_file.specs.Load.{Verdict, refuse, accept, verdict}
 use Rattle.spec_table.specs.Written.{table-of}
 use Rattle.spec_table.specs.Layout.{greatest-table}
+use Rattle.spec_table.specs.View.{view}
+use Rattle.spec_table.specs.Table.{Table}
+use Rattle.spec_table.specs.Check.{is-table}
+use Rattle.spec_table.specs.laws.Table.{table-is}
 use Rattle.spec_table.specs.laws.Accepted.{fits}
 use Rattle.spec_table.specs.laws.Theorem.{table-length}
 use Rattle.spec_load.specs.declared.Loaded.the-variants as loaded
@@ -89,3 +95,41 @@ refused-look-up-empty b g letter n e = by (found-by.look-up b g letter) e
     by (found.Part at length) h = let z : _≡_ {A = ℕ} 0 1 = cc in absurd (omega arith)
     by found.NotTable h = (inl (cc), refl)
     by found.NoInput h = (inr (cc), refl)
+
+-- ---- when a question is refused: "20 comes before 21"
+
+pub not-table-is : (b : List ℕ) (q : Question) → (question.decide b q ≡ answer.NotTable) ↔ (Table b → ⊥)
+unfolding question.decide
+not-table-is b q = (λ e t. sound e (table-is b .1 t), λ n. complete (is-table b) refl n)
+  where
+    levelled : Answer
+    levelled = cond (a-level (q .level)) (question.answered q (question.rules-for (view b) (q .group))) answer.BadLevel
+
+    never : (t : Bool) (d : Decision) → cond t (answer.Answered d) answer.BadLevel ≡ answer.NotTable → ⊥
+    never true d e = let z : _≡_ {A = ℕ} 0 1 = cc in omega arith
+    never false d e = let z : _≡_ {A = ℕ} 0 1 = cc in omega arith
+
+    sound : cond (is-table b) levelled answer.NotTable ≡ answer.NotTable → is-table b ≡ true → ⊥
+    sound e t = never (a-level (q .level)) (decision-by q (question.rules-for (view b) (q .group))) (rw t at e)
+
+    complete : (t : Bool) → is-table b ≡ t → (Table b → ⊥) → cond t levelled answer.NotTable ≡ answer.NotTable
+    complete true e n = absurd (n (table-is b .0 e))
+    complete false e n = refl
+
+pub bad-level-is : (b : List ℕ) (q : Question) → (question.decide b q ≡ answer.BadLevel) ↔ (Table b × (greatest-level < q .level))
+unfolding question.decide
+bad-level-is b q = (λ e. sound (is-table b) refl e, λ h. rw (table-is b .1 (h .0), lt-leb (q .level) greatest-level (h .1)))
+  where
+    by-rules : Decision
+    by-rules = decision-by q (question.rules-for (view b) (q .group))
+
+    over : (t : Bool) → a-level (q .level) ≡ t → cond t (answer.Answered by-rules) answer.BadLevel ≡ answer.BadLevel → greatest-level < q .level
+    over true l e = let z : _≡_ {A = ℕ} 0 1 = cc in absurd (omega arith)
+    over false l e = leb-false (q .level) greatest-level l
+
+    sound :
+        (t : Bool) → is-table b ≡ t
+        → cond t (cond (a-level (q .level)) (answer.Answered by-rules) answer.BadLevel) answer.NotTable ≡ answer.BadLevel
+        → Table b × (greatest-level < q .level)
+    sound true t e = (table-is b .0 t, over (a-level (q .level)) refl e)
+    sound false t e = let z : _≡_ {A = ℕ} 0 1 = cc in absurd (omega arith)
