@@ -7,4 +7,3 @@ pub mod Cited
 pub mod Privilege
 pub mod Places
 pub mod Refusals
-pub mod Tables

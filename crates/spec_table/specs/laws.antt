@@ -7,3 +7,4 @@ pub mod Standing
 pub mod Stands
 pub mod Theorem
 pub mod Table
+pub mod Size

@@ -1,30 +1,22 @@
--- What holds of every table, loaded or not: its length, and no input of a letter over 20.
-use mathlib.Core.Path.{_≡_, refl, ap, _∙_}
-use mathlib.Core.Bool.{Bool, true, false, _&&_}
+-- Every table, loaded or not, is at most 35,108 bytes.
+use mathlib.Core.Path.{_≡_}
+use mathlib.Core.Bool.{true, _&&_}
 use mathlib.Core.List.{List, [], _∷_, map}
-use mathlib.Core.Option.{Option, none, some}
-use Prim.Native.Nat.{ℕ, zero, suc, _+_, _≤_, _<_}
+use Prim.Native.Nat.{ℕ, _+_, _≤_}
 use native.Mathlib.Omega.{arith}
 use lib.Dec.{eqb, leb}
-use lib.ListN.{length, drop}
-use borrow.Author.Tests.{leb-true, eqb-true, ne-eqb}
-use Rattle.spec_lists.specs.Select.{all, first, total}
-use Rattle.spec_lists.specs.Runs.{Run, part}
+use lib.ListN.{length}
+use borrow.Author.Tests.{leb-true, eqb-true}
+use Rattle.spec_lists.specs.Select.{all, total}
+use Rattle.spec_lists.specs.Runs.{Run}
 use Rattle.spec_lists.specs.Every.{Every, nil, cons}
 use Rattle.spec_lists.specs.laws.Both.{both}
-use Rattle.spec_lists.specs.laws.Every.{every-implies, every-take, none-first}
-use Rattle.spec_token.specs.Word.{greatest-letter}
-use Rattle.spec_rule.specs.Answering.{answering}
 use Rattle.spec_rule.specs.laws.Such.{all-every}
 use Rattle.spec_file.specs.Limit.{Section, user-groups, host-groups, members, access-groups, inputs, rules, references, most, most-bytes}
 use Rattle.spec_table.specs.Layout.{sections, form, header-bytes, greatest-table}
 use Rattle.spec_table.specs.View.{form-of, total-of, extents, view}
-use Rattle.spec_table.specs.Table.{Table, in-turn, inputs-run, letter-field}
-use Rattle.spec_table.specs.Policy.{name}
+use Rattle.spec_table.specs.Table.{Table, in-turn}
 use Rattle.spec_table.specs.laws.Fields.{view-count, strings-count}
-use Rattle.spec_table.specs.laws.Table.{table-is}
-use Rattle.spec_decision.specs.declared.Found.the-variants.{NoInput}
-use Rattle.spec_decision.specs.LookUp.{input-of, named-part, look-up}
 
 -- runs in turn from n up to e take up all between
 in-turn-sum : (n e : ℕ) (rs : List Run) → in-turn n rs e ≡ true → e ≡ n + total (map (λ r. r .count) rs)
@@ -71,25 +63,3 @@ module _ (b : List ℕ) (t : Table b) where
             leb-true (length (view b .strings)) most-bytes (counts .1),
             strings-count b (t .sections),
           )
-
-every-drop : {A : Type 0} {P : A → Type 0} (n : ℕ) {xs : List A} → Every P xs → Every P (drop n xs)
-every-drop zero e = e
-every-drop (suc n) nil = nil
-every-drop (suc n) (cons h e) = every-drop n e
-
--- 22: "letter over 20"
-pub letter-over : (b : List ℕ) → Table b → (g : List ℕ) (letter : ℕ) → greatest-letter < letter → look-up b g letter ≡ NoInput
-unfolding look-up
-letter-over b t g letter l = rw (table-is b .1 t) (go (answering (name (view b) access-groups) g (view b .records access-groups)))
-  where
-    other : (row : List ℕ) → leb (letter-field row) greatest-letter ≡ true → eqb (letter-field row) letter ≡ false
-    other row h = ne-eqb (letter-field row) letter (λ e. omega (arith, leb-true (letter-field row) greatest-letter h))
-
-    none-of : Every (λ row. eqb (letter-field row) letter ≡ false) (view b .records inputs)
-    none-of = every-implies other (all-every (λ row. leb (letter-field row) greatest-letter) (view b .records inputs) (t .letters))
-
-    go : (o : Option (List ℕ)) → named-part b (input-of (view b) letter o) ≡ NoInput
-    go none = refl
-    go (some row) =
-        let r = inputs-run row in
-        ap (named-part b) (none-first (λ i. eqb (letter-field i) letter) (every-take (r .count) (every-drop (r .first) none-of)))
