@@ -1,6 +1,5 @@
 -- The access privilege by 001's steps, from a table and from a file.
-use mathlib.Core.List.{List, map}
-use Prim.Native.Nat.{ℕ}
+use mathlib.Core.List.{map}
 use Rattle.spec_rule.specs.declared.Decision.{Decision}
 use Rattle.spec_rule.specs.Question.{Question}
 use Rattle.spec_rule.specs.Privilege.{Determined}

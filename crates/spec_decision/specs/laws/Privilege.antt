@@ -1,5 +1,5 @@
 -- A slice answers a question with a decision exactly if it is a table, the level may be asked for, and 001's steps give that decision.
-use mathlib.Core.Path.{_≡_, refl, ap, _∙_}
+use mathlib.Core.Path.{_≡_, refl}
 use mathlib.Core.Bool.{Bool, true, false, cond}
 use mathlib.Core.List.{List}
 use mathlib.Core.Logic.{_↔_}

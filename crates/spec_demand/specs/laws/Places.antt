@@ -1,7 +1,7 @@
 -- Where a text is refused: under a number from 1 to 10, at a place in the text or at its end.
 use mathlib.Core.Path.{_≡_, refl, ap, _∙_}
 use mathlib.Core.Bool.{Bool, true, false, cond}
-use mathlib.Core.List.{List, [], _∷_, _++_, map}
+use mathlib.Core.List.{List, [], _∷_, map}
 use mathlib.Core.Option.{Option, none, some}
 use Prim.Native.Nat.{ℕ, zero, suc, _+_, _≤_, _<_}
 use native.Mathlib.Omega.{arith}
@@ -26,7 +26,7 @@ use Rattle.spec_file.specs.declared.Refusal.the-variants.{FileTooLong}
 use Rattle.spec_file.specs.Limit.{most-bytes, most-braces}
 use Rattle.spec_file.specs.Contents.{place}
 use Rattle.spec_file.specs.Depth.{opened, too-deep}
-use Rattle.spec_file.specs.Refusal.{number, Context, contexts-after, Cause, causes, contexts, refused-by, or-else}
+use Rattle.spec_file.specs.Refusal.{number, Context, contexts-after, Cause, causes, refused-by, or-else}
 use Rattle.spec_file.specs.Load.{Verdict, refuse, accept, by-causes, by-grammar, by-depth, by-tokens, verdict}
 
 -- ---- the places of tokens

@@ -1,10 +1,10 @@
 -- A test that decides a property decides whether some element has it, and finds the first that does.
-use mathlib.Core.Path.{_≡_, refl, sym, ap, subst, _∙_}
+use mathlib.Core.Path.{_≡_, refl, sym, _∙_}
 use mathlib.Core.Bool.{Bool, true, false, _||_, false≢true}
 use mathlib.Core.List.{List, [], _∷_, _++_}
 use mathlib.Core.Logic.{_↔_}
-use mathlib.Core.Option.{Option, none, some}
-use Rattle.spec_lists.specs.Select.{all, any, first, first-if}
+use mathlib.Core.Option.{none, some}
+use Rattle.spec_lists.specs.Select.{all, any, first}
 use Rattle.spec_lists.specs.Every.{Every, nil, cons}
 use Rattle.spec_lists.specs.laws.Both.{both}
 use Rattle.spec_lists.specs.laws.Every.{every-implies, first-none, none-first, first-is}

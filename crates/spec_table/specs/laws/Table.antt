@@ -1,8 +1,8 @@
 -- The check finds exactly the tables.
-use mathlib.Core.Path.{_≡_, refl, sym, ap, _∙_}
+use mathlib.Core.Path.{_≡_, refl}
 use mathlib.Core.Bool.{Bool, true, false, not, _&&_, _||_, false≢true}
-use mathlib.Core.List.{List, [], _∷_}
-use mathlib.Core.Logic.{_↔_, _⊎_, inl, inr}
+use mathlib.Core.List.{List}
+use mathlib.Core.Logic.{_↔_, inl, inr}
 use mathlib.Core.Option.{Option, none, some}
 use Prim.Native.Nat.{ℕ}
 use Rattle.spec_lists.specs.Select.{all, missing}
@@ -10,7 +10,7 @@ use Rattle.spec_lists.specs.Runs.{Run, part}
 use Rattle.spec_lists.specs.Every.{Every, nil, cons}
 use Rattle.spec_lists.specs.laws.Both.{both}
 use Rattle.spec_lists.specs.laws.Every.{every-all, every-implies}
-use Rattle.spec_calc.specs.Expression.{Tree, Parses}
+use Rattle.spec_calc.specs.Expression.{Tree}
 use Rattle.spec_calc.specs.Reader.{tree-of}
 use Rattle.spec_calc.specs.laws.Theorem.{parses-sound, parses-complete}
 use Rattle.spec_rule.specs.laws.Such.{all-every}
