@@ -1,2 +1,4 @@
 pub mod Decision
 pub mod LookUp
+pub mod Privilege
+pub mod laws

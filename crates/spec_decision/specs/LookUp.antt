@@ -10,7 +10,8 @@ use Rattle.spec_rule.specs.Answering.{answering}
 use Rattle.spec_file.specs.Limit.{access-groups, inputs}
 use Rattle.spec_table.specs.Layout.{Content}
 use Rattle.spec_table.specs.View.{view, strings-extent}
-use Rattle.spec_table.specs.Check.{is-table, name-run, inputs-run, letter-field}
+use Rattle.spec_table.specs.Table.{name-run, inputs-run, letter-field}
+use Rattle.spec_table.specs.Check.{is-table}
 use Rattle.spec_table.specs.Policy.{name}
 use Rattle.spec_decision.specs.Decision.{not-table-number}
 use Rattle.spec_decision.specs.declared.Found.{Found}

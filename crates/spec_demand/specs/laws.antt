@@ -4,3 +4,6 @@ pub mod Inputs
 pub mod Later
 pub mod Loaded
 pub mod Cited
+pub mod Privilege
+pub mod Places
+pub mod Refusals

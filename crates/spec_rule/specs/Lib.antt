@@ -2,4 +2,5 @@ pub mod Question
 pub mod Rule
 pub mod Answering
 pub mod Decision
+pub mod Privilege
 pub mod laws

@@ -1,3 +1,5 @@
 pub mod Walk
 pub mod Passing
 pub mod Decision
+pub mod Such
+pub mod Privilege

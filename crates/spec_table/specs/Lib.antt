@@ -1,5 +1,6 @@
 pub mod Layout
 pub mod View
+pub mod Table
 pub mod Check
 pub mod Policy
 pub mod Written

@@ -11,8 +11,8 @@ use Rattle.spec_rule.specs.declared.Access.the-variants as access
 use Rattle.spec_rule.specs.Rule.{Rule}
 use Rattle.spec_file.specs.Limit.{Section, user-groups, host-groups, members, rules, references}
 use Rattle.spec_table.specs.Layout.{Content}
-use Rattle.spec_table.specs.Check.{members-run, rules-run, number-field, flags-field, users-run, hosts-run, calculation-run, name-run, level-bit}
-use Rattle.spec_table.specs.Check.{permission-bits, trap-bit, bits-from-4, undefined-number, no-calculation}
+use Rattle.spec_table.specs.Table.{members-run, rules-run, number-field, flags-field, users-run, hosts-run, calculation-run, name-run, level-bit}
+use Rattle.spec_table.specs.Table.{permission-bits, trap-bit, bits-from-4, undefined-number, no-calculation}
 
 -- the string that a run of the strings is
 abbrev pub string : Content → Run → List ℕ

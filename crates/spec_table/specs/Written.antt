@@ -12,7 +12,7 @@ use Rattle.spec_file.specs.Limit.{Section, user-groups, host-groups, members, a
 use Rattle.spec_file.specs.Contents.{Group, Link, Rule-text, File}
 use Rattle.spec_file.specs.Meaning.{switched-off}
 use Rattle.spec_table.specs.Layout.{Content, layout}
-use Rattle.spec_table.specs.Check.{undefined-number}
+use Rattle.spec_table.specs.Table.{undefined-number}
 
 abbrev pub run-words : Run → List ℕ
 run-words r = r .first ∷ r .count ∷ []

@@ -6,3 +6,5 @@ pub mod Preserved
 pub mod Standing
 pub mod Stands
 pub mod Theorem
+pub mod Table
+pub mod Size

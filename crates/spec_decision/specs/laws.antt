@@ -1,0 +1,2 @@
+pub mod Privilege
+pub mod Refused

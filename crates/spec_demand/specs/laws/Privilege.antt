@@ -1,0 +1,39 @@
+-- The table of a file gives a question the decision that 001's steps give it by the file.
+use mathlib.Core.Path.{_≡_, refl, sym, _∙_}
+use mathlib.Core.List.{List, _++_, map}
+use mathlib.Core.Logic.{_↔_}
+use Prim.Native.Nat.{ℕ, _≤_}
+use Rattle.spec_grammar.specs.Sentence.{Tagged}
+use Rattle.spec_rule.specs.declared.Decision.{Decision}
+use Rattle.spec_rule.specs.Question.{Question}
+use Rattle.spec_rule.specs.Decision.{decision-by}
+use Rattle.spec_rule.specs.Answering.{greatest-level}
+use Rattle.spec_rule.specs.laws.Privilege.{determined-is}
+use Rattle.spec_file.specs.Contents.{File, file-of}
+use Rattle.spec_file.specs.Meaning.{rule-in}
+use Rattle.spec_file.specs.Acceptance.{Acceptable}
+use Rattle.spec_table.specs.Written.{table-of}
+use Rattle.spec_decision.specs.declared.Answer.the-variants.{Answered}
+use Rattle.spec_decision.specs.Decision.{decide}
+use Rattle.spec_decision.specs.Privilege.{By-file}
+use Rattle.spec_decision.specs.laws.Privilege.{asked-is}
+use Rattle.spec_edition.specs.Edition.{rules-later}
+use Rattle.spec_demand.specs.ByFile.{rules-by-file, answer-by-file}
+use Rattle.spec_demand.specs.laws.Exact.{answers-by-file}
+
+module _ (f : File) (q : Question) (d : Decision) where
+  steps : (decision-by q (map (rule-in f) (rules-by-file f (q .group))) ≡ d) ↔ By-file f q d
+  steps = determined-is (λ a. a .name) (λ a. map (rule-in f) (a .rules)) (λ o. map (rule-in f) (rules-later o)) refl (λ g. refl) (f .asgs) q d
+
+  answer-is : (answer-by-file f q ≡ Answered d) ↔ ((q .level ≤ greatest-level) × By-file f q d)
+  answer-is =
+      let a = asked-is (decision-by q (map (rule-in f) (rules-by-file f (q .group)))) d (q .level) in
+      (λ e. (a .0 e .0, steps .0 (a .0 e .1)), λ h. a .1 (h .0, steps .1 (h .1)))
+
+pub by-file-is :
+    (s : List ℕ) (xs : List Tagged) → Acceptable s xs → (rest : List ℕ) (q : Question) (d : Decision)
+    → (decide (table-of (file-of xs) ++ rest) q ≡ Answered d) ↔ ((q .level ≤ greatest-level) × By-file (file-of xs) q d)
+by-file-is s xs a rest q d =
+    let e = answers-by-file s xs a rest q in
+    let i = answer-is (file-of xs) q d in
+    (λ h. i .0 (sym e ∙ h), λ h. e ∙ i .1 h)

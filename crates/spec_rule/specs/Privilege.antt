@@ -1,0 +1,93 @@
+-- The access privilege of a client, as relations: 001, "is determined as follows", steps 1 to 3. No function that decides stands here.
+use mathlib.Core.Path.{_≡_}
+use mathlib.Core.Bool.{true, false}
+use mathlib.Core.List.{List, [], _∷_, _++_}
+use mathlib.Core.Logic.{_↔_, _⊎_}
+use mathlib.Core.Option.{Option, none, some}
+use Prim.Native.Nat.{ℕ, _≤_}
+use lib.Ieee.{lt}
+use Rattle.spec_lists.specs.Text.{lowered}
+use Rattle.spec_lists.specs.Every.{Every}
+use Rattle.spec_calc.specs.declared.Reading.{Reading}
+use Rattle.spec_calc.specs.Expression.{Tree, Parses}
+use Rattle.spec_calc.specs.Value.{reading, good, letters, value, lower-bound, upper-bound}
+use Rattle.spec_rule.specs.declared.Access.{Access}
+use Rattle.spec_rule.specs.declared.Access.the-variants as access
+use Rattle.spec_rule.specs.declared.Decision.{Decision}
+use Rattle.spec_rule.specs.Question.{Question}
+use Rattle.spec_rule.specs.Rule.{Rule}
+use Rattle.spec_rule.specs.Decision.{no-access}
+use Rattle.spec_rule.specs.Answering.{default-name}
+
+module _ {A : Type 0} where
+  -- some element of a list has P
+  pub data Some (P : A → Type 0) : List A → Type 0 where
+    here : {x : A} {xs : List A} → P x → Some P (x ∷ xs)
+    further : {x : A} {xs : List A} → Some P xs → Some P (x ∷ xs)
+
+  -- x is the first of a list that has P
+  pub record First-such (P : A → Type 0) (xs : List A) (x : A) : Type 0 where
+    pub earlier : List A
+    pub later : List A
+    pub among : xs ≡ earlier ++ (x ∷ later)
+    pub before : Every (λ y. P y → ⊥) earlier
+    pub such : P x
+
+-- ---- "1. The ASG associated with the record is searched."
+
+module _ {G : Type 0} (name : G → List ℕ) where
+  abbrev pub None-named : List ℕ → List G → Type 0
+  None-named n gs = Every (λ g. name g ≡ n → ⊥) gs
+
+  -- 01: "An empty name goes to DEFAULT, any other to the first group of that name, or to DEFAULT if there is none"
+  pub data Answers (n : List ℕ) (gs : List G) : Option G → Type 0 where
+    by-name : {g : G} → (n ≡ [] → ⊥) → First-such (λ h. name h ≡ n) gs g → Answers n gs (some g)
+    by-default : {g : G} → (n ≡ []) ⊎ None-named n gs → First-such (λ h. name h ≡ default-name) gs g → Answers n gs (some g)
+    by-none : (n ≡ []) ⊎ None-named n gs → None-named default-name gs → Answers n gs none
+
+-- ---- "2. Each RULE is checked for the following:"
+
+-- a name is among the members of one of some groups, or no group is named
+abbrev pub Belongs : List ℕ → List (List (List ℕ)) → Type 0
+Belongs n groups = (groups ≡ []) ⊎ Some (Some (λ member. member ≡ n)) groups
+
+-- "If any of the INP fields associated with this calculation are in INVALID alarm severity the calculation is considered false. The actual test for
+-- TRUE is .99 <result <1.01."
+pub record Yields-true (rs : List Reading) (s : List ℕ) : Type 0 where
+  pub tree : Tree
+  pub says : Parses s tree
+  pub inputs : Every (λ i. good (reading rs i) ≡ true) (letters tree)
+  pub above : lt lower-bound (value rs tree) ≡ true
+  pub below : lt (value rs tree) upper-bound ≡ true
+
+-- the rule r passes for the question q
+pub record Passes (q : Question) (r : Rule) : Type 0 where
+  -- "The field's level must be less than or equal to the level for this RULE."
+  pub level : q .level ≤ r .level
+  -- "If UAG is defined, the user must belong to one of the specified UAGs. If UAG is not defined all users are accepted."
+  pub user : Belongs (q .user) (r .uags)
+  -- "If HAG is defined, the user's host must belong to one one of the HAGs. If HAG is not defined all hosts are accepted."
+  pub host : Belongs (lowered (q .host)) (r .hags)
+  -- "If CALC is specified, the calculation must yield the value 1, i.e. TRUE."
+  pub calculation : (s : List ℕ) → r .calculation ≡ some s → Yields-true (q .readings) s
+  -- "If the rule contains predicates that are unknown to the parser [..], then the rule will NOT match"
+  pub known : r .switched-off ≡ false
+
+-- r passes, and its permission is a
+abbrev pub Gives : Question → Access → Rule → Type 0
+Gives q a r = Passes q r × (r .permission ≡ a)
+
+-- ---- "3. The maximum access allowed by step 2 is the access chosen."
+
+pub record Chosen (q : Question) (rs : List Rule) (d : Decision) : Type 0 where
+  pub write : (d .access ≡ access.Write) ↔ Some (Gives q access.Write) rs
+  pub read : (d .access ≡ access.Read) ↔ ((Some (Gives q access.Write) rs → ⊥) × Some (Gives q access.Read) rs)
+  pub neither : (d .access ≡ access.None) ↔ ((Some (Gives q access.Write) rs → ⊥) × (Some (Gives q access.Read) rs → ⊥))
+  -- "The TRAPWRITE setting used for a client is determined by the first WRITE rule that passes the rule checks."
+  pub trap : (d .trap ≡ true) ↔ ((r : Rule) × First-such (Gives q access.Write) rs r × (r .trap ≡ true))
+
+-- steps 1 to 3: the groups gs, with their names and rules, give the question q the decision d
+pub data Determined {G : Type 0} (name : G → List ℕ) (rules : G → List Rule) (gs : List G) (q : Question) : Decision → Type 0 where
+  by-group : {g : G} {d : Decision} → Answers name (q .group) gs (some g) → Chosen q (rules g) d → Determined name rules gs q d
+  -- 01: "without DEFAULT the answer is NONE, no trap"
+  by-no-group : Answers name (q .group) gs none → Determined name rules gs q no-access

@@ -1,0 +1,321 @@
+-- What our functions decide is what 001's steps say: a rule passes, the group that answers, the access and the trap.
+use mathlib.Core.Path.{_≡_, refl, sym, ap, ap₂, subst, _∙_}
+use mathlib.Core.Bool.{Bool, true, false, not, _&&_, false≢true}
+use mathlib.Core.List.{List, [], _∷_, map}
+use mathlib.Core.Logic.{_↔_, _⊎_, inl, inr}
+use mathlib.Core.Option.{Option, none, some}
+use Prim.Native.Nat.{ℕ}
+use native.Mathlib.Omega.{arith}
+use lib.Dec.{leb, eqb}
+use lib.Ieee.{lt}
+use borrow.Author.Tests.{leb-true, le-leb, eqb-true, eq-eqb, not-true}
+use Rattle.spec_lists.specs.Text.{same, lowered}
+use Rattle.spec_lists.specs.Select.{all, any, select, prepend-if, first, first-if}
+use Rattle.spec_lists.specs.laws.Both.{both}
+use Rattle.spec_lists.specs.laws.Every.{every-all}
+use Rattle.spec_calc.specs.declared.Reading.{Reading}
+use Rattle.spec_calc.specs.Expression.{Tree}
+use Rattle.spec_calc.specs.Value.{reading, good, letters, value, lower-bound, upper-bound, near-one, holds}
+use Rattle.spec_calc.specs.Reader.{tree-of}
+use Rattle.spec_calc.specs.laws.Theorem.{parses-sound, parses-complete}
+use Rattle.spec_rule.specs.declared.Access.{Access}
+use Rattle.spec_rule.specs.declared.Access.the-variants as access
+use Rattle.spec_rule.specs.declared.Decision.{Decision}
+use Rattle.spec_rule.specs.Question.{Question}
+use Rattle.spec_rule.specs.Rule.{Rule, rank, belongs, true-tree, calculation-holds, asks, passes, greater, greatest, access-by, gives-write, trap-of, trap-by}
+use Rattle.spec_rule.specs.Decision.{with-trap, decision-by}
+use Rattle.spec_rule.specs.Answering.{default-name, named, or-default, answering}
+use Rattle.spec_rule.specs.Privilege.{Some, here, further, First-such, None-named, Answers, by-name, by-default, by-none, Belongs, Yields-true, Passes}
+use Rattle.spec_rule.specs.Privilege.{Gives, Chosen, Determined, by-group, by-no-group}
+use Rattle.spec_rule.specs.laws.Such.{all-every, any-some, some-any, first-such, such-first, no-first, none-such}
+
+-- ---- texts
+
+same-sound : (a b : List ℕ) → same a b ≡ true → b ≡ a
+same-sound [] [] e = refl
+same-sound [] (y ∷ b) e = absurd (false≢true e)
+same-sound (x ∷ a) [] e = absurd (false≢true e)
+same-sound (x ∷ a) (y ∷ b) e =
+    let h = both (eqb x y) (same a b) e in
+    ap₂ (λ (n : ℕ) (l : List ℕ). n ∷ l) (sym (eqb-true x y (h .0))) (same-sound a b (h .1))
+
+same-self : (a : List ℕ) → same a a ≡ true
+same-self [] = refl
+same-self (x ∷ a) = rw (eq-eqb x x refl, same-self a)
+
+same-is : (a b : List ℕ) → (same a b ≡ true) ↔ (b ≡ a)
+same-is a b = (same-sound a b, λ e. rw e (same-self a))
+
+-- ---- a rule passes
+
+module _ (n : List ℕ) where
+  belongs-sound : (groups : List (List (List ℕ))) → belongs (same n) groups ≡ true → Belongs n groups
+  belongs-sound [] e = inl refl
+  belongs-sound (g ∷ gs) e = inr (any-some (any (same n)) (λ members. (any-some (same n) (same-is n) members, some-any (same n) (same-is n))) (g ∷ gs) e)
+
+  belongs-complete : (groups : List (List (List ℕ))) → Belongs n groups → belongs (same n) groups ≡ true
+  belongs-complete [] b = refl
+  belongs-complete (g ∷ gs) (inl e) = let z : _≡_ {A = ℕ} 0 1 = cc in absurd (omega arith)
+  belongs-complete (g ∷ gs) (inr s) = some-any (any (same n)) (λ members. (any-some (same n) (same-is n) members, some-any (same n) (same-is n))) s
+
+module _ (rs : List Reading) where
+  true-split : (t : Tree) → holds rs t ≡ true → (all (λ i. good (reading rs i)) (letters t) ≡ true) × (near-one (value rs t) ≡ true)
+  true-split t h = go (all (λ i. good (reading rs i)) (letters t)) refl
+    where
+      go : (b : Bool) → all (λ i. good (reading rs i)) (letters t) ≡ b → (b ≡ true) × (near-one (value rs t) ≡ true)
+      go true e = (refl, rw e at h)
+      go false e = absurd (false≢true (rw e at h))
+
+  yields : (s : List ℕ) → true-tree rs (tree-of s) ≡ true → Yields-true rs s
+  yields s e = go (tree-of s) refl e
+    where
+      go : (o : Option Tree) → tree-of s ≡ o → true-tree rs o ≡ true → Yields-true rs s
+      go none p h = absurd (false≢true h)
+      go (some t) p h =
+          let x = true-split t h in
+          let y = both (lt lower-bound (value rs t)) (lt (value rs t) upper-bound) (x .1) in
+          record { tree = t; says = parses-sound s t p; inputs = all-every (λ i. good (reading rs i)) (letters t) (x .0); above = y .0; below = y .1 }
+
+  calculation-sound : (o : Option (List ℕ)) → calculation-holds rs o ≡ true → (s : List ℕ) → o ≡ some s → Yields-true rs s
+  calculation-sound none e s h = let z : _≡_ {A = ℕ} 0 1 = cc in absurd (omega arith)
+  calculation-sound (some u) e s h = let same : u ≡ s = cc in subst (Yields-true rs) same (yields u e)
+
+  calculation-complete : (o : Option (List ℕ)) → ((s : List ℕ) → o ≡ some s → Yields-true rs s) → calculation-holds rs o ≡ true
+  calculation-complete none f = refl
+  calculation-complete (some s) f =
+      let y = f s refl in
+      rw (parses-complete s (y .tree) (y .says), every-all (λ i. good (reading rs i)) (y .inputs), y .above, y .below)
+
+module _ (q : Question) (r : Rule) where
+  passes-sound : passes q r ≡ true → Passes q r
+  passes-sound e =
+      let u = belongs (same (q .user)) (r .uags) in
+      let h = belongs (same (lowered (q .host))) (r .hags) in
+      let c = calculation-holds (q .readings) (r .calculation) in
+      let x = both (not (r .switched-off)) (asks r q) e in
+      let y = both (leb (q .level) (r .level)) (u && (h && c)) (x .1) in
+      let z = both u (h && c) (y .1) in
+      let w = both h c (z .1) in
+      record {
+        level = leb-true (q .level) (r .level) (y .0);
+        user = belongs-sound (q .user) (r .uags) (z .0);
+        host = belongs-sound (lowered (q .host)) (r .hags) (w .0);
+        calculation = calculation-sound (q .readings) (r .calculation) (w .1);
+        known = not-true (r .switched-off) (x .0);
+      }
+
+  passes-complete : Passes q r → passes q r ≡ true
+  passes-complete p =
+      rw (
+        p .known,
+        le-leb (q .level) (r .level) (p .level),
+        belongs-complete (q .user) (r .uags) (p .user),
+        belongs-complete (lowered (q .host)) (r .hags) (p .host),
+        calculation-complete (q .readings) (r .calculation) (p .calculation),
+      )
+
+  pub passes-is : (passes q r ≡ true) ↔ Passes q r
+  passes-is = (passes-sound, passes-complete)
+
+-- ---- the access
+
+write-read : access.Write ≡ access.Read → ⊥
+write-read e = omega (arith, ap rank e)
+
+none-write : access.None ≡ access.Write → ⊥
+none-write e = omega (arith, ap rank e)
+
+none-read : access.None ≡ access.Read → ⊥
+none-read e = omega (arith, ap rank e)
+
+not-nil : {A : Type 0} {P : A → Type 0} → Some P [] → ⊥
+not-nil s = elim s [ ]
+
+among-later : {A : Type 0} {P : A → Type 0} {x : A} {xs : List A} → (P x → ⊥) → Some P (x ∷ xs) → Some P xs
+among-later n (here h) = absurd (n h)
+among-later n (further s) = s
+
+-- the access that the best of the passing rules gives
+data Highest (q : Question) (rs : List Rule) : Access → Type 0 where
+  a-write : Some (Gives q access.Write) rs → Highest q rs access.Write
+  a-read : (Some (Gives q access.Write) rs → ⊥) → Some (Gives q access.Read) rs → Highest q rs access.Read
+  nothing : (Some (Gives q access.Write) rs → ⊥) → (Some (Gives q access.Read) rs → ⊥) → Highest q rs access.None
+
+module _ (q : Question) (r : Rule) {rs : List Rule} where
+  skipped : (Passes q r → ⊥) → {a : Access} → Highest q rs a → Highest q (r ∷ rs) a
+  skipped n (a-write w) = a-write (further w)
+  skipped n (a-read w s) = a-read (λ t. w (among-later (λ g. n (g .0)) t)) (further s)
+  skipped n (nothing w v) = nothing (λ t. w (among-later (λ g. n (g .0)) t)) (λ t. v (among-later (λ g. n (g .0)) t))
+
+  -- r gives p, and so no other access
+  other : {p a : Access} → r .permission ≡ p → (p ≡ a → ⊥) → (Some (Gives q a) rs → ⊥) → Some (Gives q a) (r ∷ rs) → ⊥
+  other e n w t = w (among-later (λ g. n (sym e ∙ g .1)) t)
+
+  counted : (p : Access) → r .permission ≡ p → Passes q r → {a : Access} → Highest q rs a → Highest q (r ∷ rs) (greater p a)
+  counted access.Write e h (a-write w) = a-write (further w)
+  counted access.Write e h (a-read w s) = a-write (here (h, e))
+  counted access.Write e h (nothing w v) = a-write (here (h, e))
+  counted access.Read e h (a-write w) = a-write (further w)
+  counted access.Read e h (a-read w s) = a-read (other e (λ z. write-read (sym z)) w) (further s)
+  counted access.Read e h (nothing w v) = a-read (other e (λ z. write-read (sym z)) w) (here (h, e))
+  counted access.None e h (a-write w) = a-write (further w)
+  counted access.None e h (a-read w s) = a-read (other e none-write w) (further s)
+  counted access.None e h (nothing w v) = nothing (other e none-write w) (other e none-read v)
+
+highest : (q : Question) (rs : List Rule) → Highest q rs (access-by q rs)
+highest q [] = nothing not-nil not-nil
+highest q (r ∷ rs) = go (passes q r) refl (highest q rs)
+  where
+    go :
+        (b : Bool) → passes q r ≡ b → Highest q rs (access-by q rs)
+        → Highest q (r ∷ rs) (greatest (map (λ x. x .permission) (prepend-if b r (select (passes q) rs))))
+    go true e h = counted q r (r .permission) refl (passes-sound q r e) h
+    go false e h = skipped q r (λ p. false≢true (sym e ∙ passes-complete q r p)) h
+
+-- ---- the trap
+
+first-select : {A : Type 0} (p g : A → Bool) (xs : List A) → first g (select p xs) ≡ first (λ x. p x && g x) xs
+first-select p g [] = refl
+first-select p g (x ∷ xs) = go (p x) (first-select p g xs)
+  where
+    go :
+        (b : Bool) → first g (select p xs) ≡ first (λ y. p y && g y) xs
+        → first g (prepend-if b x (select p xs)) ≡ first-if (b && g x) x (first (λ y. p y && g y) xs)
+    go true e = ap (first-if (g x) x) e
+    go false e = e
+
+rank-write : (a : Access) → rank a ≡ rank access.Write → a ≡ access.Write
+rank-write access.None e = absurd (omega arith)
+rank-write access.Read e = absurd (omega arith)
+rank-write access.Write e = refl
+
+module _ (q : Question) where
+  gives : Rule → Bool
+  gives r = passes q r && gives-write r
+
+  gives-is : (r : Rule) → (gives r ≡ true) ↔ Gives q access.Write r
+  unfolding gives
+  gives-is r = (
+    λ e.
+        let h = both (passes q r) (gives-write r) e in
+        (passes-sound q r (h .0), rank-write (r .permission) (eqb-true (rank (r .permission)) (rank access.Write) (h .1))),
+    λ g. rw (passes-complete q r (g .0), g .1),
+  )
+
+  abbrev First-traps : List Rule → Type 0
+  First-traps rs = (r : Rule) × First-such (Gives q access.Write) rs r × (r .trap ≡ true)
+
+  trap-first : (rs : List Rule) → trap-by q rs ≡ trap-of (first gives rs)
+  unfolding gives
+  trap-first rs = ap trap-of (first-select (passes q) gives-write rs)
+
+  trap-sound : (rs : List Rule) → trap-by q rs ≡ true → First-traps rs
+  trap-sound rs e = go (first gives rs) refl (sym (trap-first rs) ∙ e)
+    where
+      go : (o : Option Rule) → first gives rs ≡ o → trap-of o ≡ true → First-traps rs
+      go none f h = absurd (false≢true h)
+      go (some r) f h = (r, first-such gives gives-is rs r f, h)
+
+  trap-complete : (rs : List Rule) → First-traps rs → trap-by q rs ≡ true
+  trap-complete rs t = trap-first rs ∙ ap trap-of (such-first gives gives-is (t .1)) ∙ t .2
+
+  -- ---- the decision
+
+  pub decision-chosen : (rs : List Rule) → Chosen q rs (decision-by q rs)
+  decision-chosen rs = go (highest q rs)
+    where
+      go : {a : Access} → Highest q rs a → Chosen q rs (with-trap a (trap-by q rs))
+      go (a-write w) =
+          record {
+            write = (λ e. w, λ s. refl);
+            read = (λ e. absurd (write-read e), λ s. absurd (s .0 w));
+            neither = (λ e. absurd (none-write (sym e)), λ s. absurd (s .0 w));
+            trap = (trap-sound rs, trap-complete rs);
+          }
+      go (a-read w s) =
+          record {
+            write = (λ e. absurd (write-read (sym e)), λ t. absurd (w t));
+            read = (λ e. (w, s), λ t. refl);
+            neither = (λ e. absurd (none-read (sym e)), λ t. absurd (t .1 s));
+            trap = (trap-sound rs, trap-complete rs);
+          }
+      go (nothing w v) =
+          record {
+            write = (λ e. absurd (none-write e), λ t. absurd (w t));
+            read = (λ e. absurd (none-read e), λ t. absurd (v (t .1)));
+            neither = (λ e. (w, v), λ t. refl);
+            trap = (trap-sound rs, trap-complete rs);
+          }
+
+  pub one-chosen : {rs : List Rule} {d e : Decision} → Chosen q rs d → Chosen q rs e → d ≡ e
+  one-chosen {rs = rs} {d = d} {e = e} c k = ap₂ with-trap (by-access (d .access) refl) (by-trap (d .trap) (e .trap) refl refl)
+    where
+      by-access : (a : Access) → d .access ≡ a → d .access ≡ e .access
+      by-access access.Write h = h ∙ sym (k .write .1 (c .write .0 h))
+      by-access access.Read h = h ∙ sym (k .read .1 (c .read .0 h))
+      by-access access.None h = h ∙ sym (k .neither .1 (c .neither .0 h))
+
+      by-trap : (t u : Bool) → d .trap ≡ t → e .trap ≡ u → d .trap ≡ e .trap
+      by-trap true u f g = f ∙ sym (k .trap .1 (c .trap .0 f))
+      by-trap false true f g = c .trap .1 (k .trap .0 g) ∙ sym g
+      by-trap false false f g = f ∙ sym g
+
+-- ---- the group that answers
+
+module _ {G : Type 0} (name : G → List ℕ) where
+  named-is : (n : List ℕ) (g : G) → (same (name g) n ≡ true) ↔ (name g ≡ n)
+  named-is n g = (λ e. sym (same-sound (name g) n e), λ e. rw e (same-self n))
+
+  module _ (gs : List G) where
+    in-default : (n : List ℕ) → (n ≡ []) ⊎ None-named name n gs → Answers name n gs (named name default-name gs)
+    in-default n h = go (named name default-name gs) refl
+      where
+        go : (o : Option G) → named name default-name gs ≡ o → Answers name n gs o
+        go none e = by-none h (no-first (λ g. same (name g) default-name) (named-is default-name) gs e)
+        go (some g) e = by-default h (first-such (λ g. same (name g) default-name) (named-is default-name) gs g e)
+
+    answering-sound : (n : List ℕ) → Answers name n gs (answering name n gs)
+    answering-sound [] = in-default [] (inl refl)
+    answering-sound (b ∷ n) = go (named name (b ∷ n) gs) refl
+      where
+        go : (o : Option G) → named name (b ∷ n) gs ≡ o → Answers name (b ∷ n) gs (or-default name o gs)
+        go none e = in-default (b ∷ n) (inr (no-first (λ g. same (name g) (b ∷ n)) (named-is (b ∷ n)) gs e))
+        go (some g) e =
+            by-name (λ z. let w : _≡_ {A = ℕ} 0 1 = cc in omega arith) (first-such (λ g. same (name g) (b ∷ n)) (named-is (b ∷ n)) gs g e)
+
+    answering-complete : (n : List ℕ) {o : Option G} → Answers name n gs o → answering name n gs ≡ o
+    answering-complete [] (by-name h f) = absurd (h refl)
+    answering-complete [] (by-default h f) = such-first (λ g. same (name g) default-name) (named-is default-name) f
+    answering-complete [] (by-none h f) = none-such (λ g. same (name g) default-name) (named-is default-name) f
+    answering-complete (b ∷ n) (by-name h f) = rw (such-first (λ g. same (name g) (b ∷ n)) (named-is (b ∷ n)) f)
+    answering-complete (b ∷ n) (by-default (inl e) f) = let w : _≡_ {A = ℕ} 0 1 = cc in absurd (omega arith)
+    answering-complete (b ∷ n) (by-default (inr e) f) =
+        rw (none-such (λ g. same (name g) (b ∷ n)) (named-is (b ∷ n)) e) (such-first (λ g. same (name g) default-name) (named-is default-name) f)
+    answering-complete (b ∷ n) (by-none (inl e) f) = let w : _≡_ {A = ℕ} 0 1 = cc in absurd (omega arith)
+    answering-complete (b ∷ n) (by-none (inr e) f) =
+        rw (none-such (λ g. same (name g) (b ∷ n)) (named-is (b ∷ n)) e) (none-such (λ g. same (name g) default-name) (named-is default-name) f)
+
+  pub answering-is : (n : List ℕ) (gs : List G) (o : Option G) → (answering name n gs ≡ o) ↔ Answers name n gs o
+  answering-is n gs o = (λ e. subst (Answers name n gs) e (answering-sound gs n), answering-complete gs n)
+
+  -- ---- all three steps
+
+  -- rules-from: the rules of the group that answers, none where no group does
+  pub determined-is :
+      (rules : G → List Rule) (rules-from : Option G → List Rule) → rules-from none ≡ [] → ((g : G) → rules-from (some g) ≡ rules g)
+      → (gs : List G) (q : Question) (d : Decision)
+      → (decision-by q (rules-from (answering name (q .group) gs)) ≡ d) ↔ Determined name rules gs q d
+  determined-is rules rules-from of-none of-group gs q d =
+      (λ e. sound (answering name (q .group) gs) (answering-sound gs (q .group)) e, λ t. complete t)
+    where
+      sound : (o : Option G) → Answers name (q .group) gs o → decision-by q (rules-from o) ≡ d → Determined name rules gs q d
+      sound none a e = subst (Determined name rules gs q) (ap (decision-by q) (sym of-none) ∙ e) (by-no-group a)
+      sound (some g) a e = by-group a (subst (Chosen q (rules g)) (ap (decision-by q) (sym (of-group g)) ∙ e) (decision-chosen q (rules g)))
+
+      complete : {v : Decision} → Determined name rules gs q v → decision-by q (rules-from (answering name (q .group) gs)) ≡ v
+      complete (by-group {g = g} a c) =
+          ap (λ (o : Option G). decision-by q (rules-from o)) (answering-complete gs (q .group) a)
+          ∙ ap (decision-by q) (of-group g)
+          ∙ one-chosen q (decision-chosen q (rules g)) c
+      complete (by-no-group a) =
+          ap (λ (o : Option G). decision-by q (rules-from o)) (answering-complete gs (q .group) a) ∙ ap (decision-by q) of-none
