@@ -6,7 +6,8 @@ use mathlib.Core.Option.{none, some}
 use Prim.Native.Nat.{ℕ, _≤_, _<_}
 use lib.ListN.{length}
 use Rattle.spec_lists.specs.Every.{Every, First}
-use Rattle.spec_token.specs.Token.{Token, tokens, bad, scanned}
+use Rattle.spec_token.specs.Token.{Token, tokens, bad}
+use Rattle.spec_token.specs.Scanner.{scanned}
 use Rattle.spec_grammar.specs.Sentence.{Tagged, Reads, Stops}
 use Rattle.spec_file.specs.Limit.{most-bytes}
 use Rattle.spec_file.specs.declared.Refusal.{Refusal}

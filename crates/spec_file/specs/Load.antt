@@ -5,7 +5,8 @@ use mathlib.Core.Option.{Option, none, some}
 use Prim.Native.Nat.{ℕ}
 use lib.Dec.{leb}
 use lib.ListN.{length}
-use Rattle.spec_token.specs.Token.{Tokens, tokens, bad, scanned}
+use Rattle.spec_token.specs.Token.{Tokens, tokens, bad}
+use Rattle.spec_token.specs.Scanner.{scanned}
 use Rattle.spec_grammar.specs.Sentence.{Tagged}
 use Rattle.spec_grammar.specs.Reader.{Parse, parsed, stopped, read}
 use Rattle.spec_file.specs.declared.Refusal.{Refusal}

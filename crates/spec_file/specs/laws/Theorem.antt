@@ -11,7 +11,8 @@ use borrow.Author.Tests.{leb-true, leb-false, le-leb, lt-leb}
 use Rattle.spec_lists.specs.Select.{first}
 use Rattle.spec_lists.specs.Every.{Every, nil, cons}
 use Rattle.spec_lists.specs.laws.Every.{every-append, first-none, first-is, none-first}
-use Rattle.spec_token.specs.Token.{Token, Tokens, tokens, bad, scanned}
+use Rattle.spec_token.specs.Token.{Token, Tokens, tokens, bad}
+use Rattle.spec_token.specs.Scanner.{scanned}
 use Rattle.spec_grammar.specs.Sentence.{Tagged}
 use Rattle.spec_grammar.specs.Reader.{Parse, parsed, stopped, read}
 use Rattle.spec_grammar.specs.laws.Theorem.{read-sound, read-complete, read-stops}

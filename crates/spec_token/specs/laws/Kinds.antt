@@ -12,9 +12,10 @@ use Rattle.spec_lists.specs.Every.{Every, nil, cons}
 use Rattle.spec_token.specs.declared.Kind.{Kind}
 use Rattle.spec_token.specs.declared.Kind.the-variants.{Uag, Hag, Asg, Rule, Calc, Inp, Int, Float, String, OpenParen, CloseParen, OpenBrace}
 use Rattle.spec_token.specs.declared.Kind.the-variants.{CloseBrace, Comma}
-use Rattle.spec_token.specs.Word.{newline, name-byte, greatest-letter, link-letter, word-kind}
-use Rattle.spec_token.specs.Token.{Token, Tokens, tokens, bad, then, Quoted, closed, broken, unclosed, also, quoted, punctuation, Lexeme, nothing}
-use Rattle.spec_token.specs.Token.{comment, quote, stop, word, wrong, lexeme-of, other, scan, scanned}
+use Rattle.spec_token.specs.Word.{newline, name-byte, greatest-letter, link-letter}
+use Rattle.spec_token.specs.Token.{Token, Tokens, tokens, bad, then}
+use Rattle.spec_token.specs.Scanner.{word-kind, Quoted, closed, broken, unclosed, also, quoted, punctuation, Lexeme, nothing}
+use Rattle.spec_token.specs.Scanner.{comment, quote, stop, word, wrong, lexeme-of, other, scan, scanned}
 
 -- an input's letter is one of A to U
 abbrev pub Input-spelled : Token → Type 0
