@@ -2,4 +2,5 @@ pub mod Items
 pub mod Clauses
 pub mod Counted
 pub mod ItemClauses
+pub mod Causes
 pub mod Theorem
