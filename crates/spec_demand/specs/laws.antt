@@ -4,3 +4,4 @@ pub mod Inputs
 pub mod Later
 pub mod Loaded
 pub mod Cited
+pub mod Answered

@@ -4,3 +4,6 @@ pub mod Counted
 pub mod ItemClauses
 pub mod Causes
 pub mod Theorem
+pub mod Either
+pub mod Places
+pub mod Warnings

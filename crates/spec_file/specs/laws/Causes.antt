@@ -213,37 +213,37 @@ module _ (xs : List Tagged) where
       {r : Refusal} {c : Context} (earlier later : List Context) (s : contexts xs ≡ earlier ++ (c ∷ later)) (a : Applies c r) (w : Nowhere r earlier)
       (lowest : (lower : Refusal) → number lower < number r → Nowhere lower (contexts xs))
     where
-    first-here : (k : Cause) → Decides k → k .refusal ≡ r → first (k .applies) (contexts xs) ≡ some c
-    first-here k d e = ap (first (k .applies)) s ∙ go earlier (subst (λ (q : Refusal). Nowhere q earlier) (sym e) w)
-      where
-        pass : k .applies c ≡ true
-        pass = by-test (k .applies c) refl
-          where
-            by-test : (b : Bool) → k .applies c ≡ b → b ≡ true
-            by-test true h = refl
-            by-test false h = absurd (d .no c h (subst (Applies c) (sym e) a))
+      first-here : (k : Cause) → Decides k → k .refusal ≡ r → first (k .applies) (contexts xs) ≡ some c
+      first-here k d e = ap (first (k .applies)) s ∙ go earlier (subst (λ (q : Refusal). Nowhere q earlier) (sym e) w)
+        where
+          pass : k .applies c ≡ true
+          pass = by-test (k .applies c) refl
+            where
+              by-test : (b : Bool) → k .applies c ≡ b → b ≡ true
+              by-test true h = refl
+              by-test false h = absurd (d .no c h (subst (Applies c) (sym e) a))
 
-        go : (early : List Context) → Nowhere (k .refusal) early → first (k .applies) (early ++ (c ∷ later)) ≡ some c
-        go early n = over early (untrue (contexts xs) d early n)
-          where
-            over : (early : List Context) → Every (λ y. k .applies y ≡ false) early → first (k .applies) (early ++ (c ∷ later)) ≡ some c
-            over [] nil = rw pass
-            over (y ∷ early) (cons h n) = rw h (over early n)
+          go : (early : List Context) → Nowhere (k .refusal) early → first (k .applies) (early ++ (c ∷ later)) ≡ some c
+          go early n = over early (untrue (contexts xs) d early n)
+            where
+              over : (early : List Context) → Every (λ y. k .applies y ≡ false) early → first (k .applies) (early ++ (c ∷ later)) ≡ some c
+              over [] nil = rw pass
+              over (y ∷ early) (cons h n) = rw h (over early n)
 
-    answers : {n : ℕ} {ks : List Cause} → Ordered n ks → n ≤ number r → refused-by ks (contexts xs) ≡ some (record { refusal = r; place = place (c .here) })
-    answers behind-all l = absurd (omega (arith, five-to-ten a .1))
-    answers {n} (in-order {k = k} {ks = ks} m d o) l = go (leb (number r) n) refl (λ h. answers o h)
-      where
-        go :
-            (b : Bool) → leb (number r) n ≡ b → (suc n ≤ number r → refused-by ks (contexts xs) ≡ some (record { refusal = r; place = place (c .here) }))
-            → or-else (k .refusal) (first (k .applies) (contexts xs)) (refused-by ks (contexts xs)) ≡ some (record { refusal = r; place = place (c .here) })
-        go true h ih =
-            let j = leb-true (number r) n h in
-            let same : k .refusal ≡ r = one-number (k .refusal) r (omega arith) in
-            rw (first-here k d same, same)
-        go false h ih =
-            let j = leb-false (number r) n h in
-            rw (none-first (k .applies) (untrue (contexts xs) d (contexts xs) (lowest (k .refusal) (omega arith)))) (ih (omega arith))
+      answers : {n : ℕ} {ks : List Cause} → Ordered n ks → n ≤ number r → refused-by ks (contexts xs) ≡ some (record { refusal = r; place = place (c .here) })
+      answers behind-all l = absurd (omega (arith, five-to-ten a .1))
+      answers {n} (in-order {k = k} {ks = ks} m d o) l = go (leb (number r) n) refl (λ h. answers o h)
+        where
+          go :
+              (b : Bool) → leb (number r) n ≡ b → (suc n ≤ number r → refused-by ks (contexts xs) ≡ some (record { refusal = r; place = place (c .here) }))
+              → or-else (k .refusal) (first (k .applies) (contexts xs)) (refused-by ks (contexts xs)) ≡ some (record { refusal = r; place = place (c .here) })
+          go true h ih =
+              let j = leb-true (number r) n h in
+              let same : k .refusal ≡ r = one-number (k .refusal) r (omega arith) in
+              rw (first-here k d same, same)
+          go false h ih =
+              let j = leb-false (number r) n h in
+              rw (none-first (k .applies) (untrue (contexts xs) d (contexts xs) (lowest (k .refusal) (omega arith)))) (ih (omega arith))
 
   pub caused-is : {r : Refusal} {p : ℕ} → Caused xs r p → refused-by causes (contexts xs) ≡ some (record { refusal = r; place = p })
   caused-is (caused earlier later s a w lowest) = answers earlier later s a w lowest ordered (five-to-ten a .0)
