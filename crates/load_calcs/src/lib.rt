@@ -3,7 +3,7 @@ ghost use mathlib.Core.Path.{_≡_};
 ghost use mathlib.Core.Bool.{true};
 ghost use Prim.Native.Nat.{_+_, _<_};
 ghost use lib.ListN.{length, set};
-ghost use Rattle.spec_file.specs.Refusal.{bad-calculation};
+ghost use Rattle.spec_file.specs.Load.{bad-calculation};
 ghost use Rattle.load_spans.specs.Roles.{Spans-fit, arrays};
 ghost use Rattle.load_spans.specs.Search.{first-of, applies-at};
 ghost use Rattle.load_calcs.specs.Input.{Gives, ahead, around};

@@ -8,8 +8,8 @@ use Rattle.load_tokens.specs.Arrays.{Arrays, tagged-from}
 use Rattle.spec_file.specs.declared.Refusal.{Refusal}
 use Rattle.spec_file.specs.declared.Refusal.the-variants.{FileTooLong, BadByte, TooDeep, Ungrammatical, NoRoom, StringTooLong, TooMany, GivenAgain, BadLevel}
 use Rattle.spec_file.specs.declared.Refusal.the-variants.{UnknownWord, BadCalculation}
-use Rattle.spec_file.specs.Refusal.{Context, too-long, too-many, given-again, bad-level, unknown-word, bad-calculation, contexts, causes, refused-by}
-use Rattle.spec_file.specs.Load.{by-causes}
+use Rattle.spec_file.specs.Refusal.{Context, too-long, too-many, given-again, bad-level, unknown-word, contexts}
+use Rattle.spec_file.specs.Load.{bad-calculation, causes, refused-by, by-causes}
 use Rattle.load_syntax.specs.declared.Judgment.{Judgment}
 use Rattle.load_syntax.specs.Syntax.{count, final-verdict}
 

@@ -6,7 +6,7 @@ use Prim.Native.Nat.{ℕ, _+_, _-_, _≤_, _<_}
 use lib.ListN.{length, take, drop}
 use Rattle.spec_lists.specs.Text.{among}
 use Rattle.spec_token.specs.Word.{newline}
-use Rattle.spec_token.specs.Token.{closed, broken, unclosed, quoted}
+use Rattle.spec_token.specs.Scanner.{closed, broken, unclosed, quoted}
 use Rattle.load_quote.specs.declared.Act.{Act}
 use Rattle.load_quote.specs.declared.Act.the-variants.{On, Close, Break}
 use Rattle.load_quote.specs.declared.Quote.{Quote}

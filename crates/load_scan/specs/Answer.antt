@@ -3,7 +3,8 @@ use mathlib.Core.Path.{_≡_}
 use mathlib.Core.List.{List}
 use Prim.Native.Nat.{ℕ, _≤_, _<_}
 use lib.ListN.{length}
-use Rattle.spec_token.specs.Token.{tokens, bad, scanned}
+use Rattle.spec_token.specs.Token.{tokens, bad}
+use Rattle.spec_token.specs.Scanner.{scanned}
 use Rattle.load_tokens.specs.Arrays.{Arrays, tokens-from}
 use Rattle.load_tokens.specs.Stores.{Long, Good}
 use Rattle.load_scan.specs.declared.Scanned.{Scanned}

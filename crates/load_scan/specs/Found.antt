@@ -3,7 +3,8 @@ use mathlib.Core.Path.{_≡_}
 use mathlib.Core.List.{List}
 use Prim.Native.Nat.{ℕ, _≤_, _<_}
 use lib.ListN.{length, getD}
-use Rattle.spec_token.specs.Token.{Token, Lexeme, lexeme-of, bad, then, scan-from}
+use Rattle.spec_token.specs.Token.{Token, bad, then}
+use Rattle.spec_token.specs.Scanner.{Lexeme, lexeme-of, scan-from}
 use Rattle.load_tokens.specs.Arrays.{kind-of-number, between}
 use Rattle.load_scan.specs.declared.Entry.{Entry}
 use Rattle.load_scan.specs.declared.Step.{Step}

@@ -4,7 +4,7 @@ use load_word::Class;
 use load_word::Start;
 ghost use Prim.Native.Nat.{_+_, _≤_, _<_};
 ghost use lib.ListN.{length};
-ghost use Rattle.spec_token.specs.Token.{quote, stop, word};
+ghost use Rattle.spec_token.specs.Scanner.{quote, stop, word};
 ghost use Rattle.load_tokens.specs.Stores.{arrays-of, Room};
 ghost use Rattle.load_scan.specs.Found.{Begins-at, Found};
 ghost use Rattle.load_scan.specs.Stored.{Small, Put};

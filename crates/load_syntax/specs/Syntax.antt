@@ -3,7 +3,7 @@ use mathlib.Core.Path.{_≡_}
 use mathlib.Core.List.{List}
 use Prim.Native.Nat.{ℕ, _≤_, _<_}
 use lib.ListN.{length}
-use Rattle.spec_token.specs.Token.{scanned}
+use Rattle.spec_token.specs.Scanner.{scanned}
 use Rattle.spec_grammar.specs.Reader.{parsed, read}
 use Rattle.load_tokens.specs.Arrays.{Arrays, tokens-from, tagged-from}
 use Rattle.load_tokens.specs.Stores.{Room, Good}

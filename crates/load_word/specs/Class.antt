@@ -3,7 +3,7 @@ use mathlib.Core.Bool.{Bool}
 use Prim.Native.Nat.{ℕ}
 use Rattle.spec_lists.specs.Text.{digit}
 use Rattle.spec_token.specs.Word.{name-byte}
-use Rattle.spec_token.specs.Token.{other}
+use Rattle.spec_token.specs.Scanner.{other}
 use Rattle.load_word.specs.declared.Class.{Class}
 use Rattle.load_word.specs.declared.Class.the-variants.{Name, Digit, Comment}
 

@@ -1,5 +1,5 @@
 -- What a byte begins, as the code says it.
-use Rattle.spec_token.specs.Token.{Lexeme, nothing, comment, quote, stop, word, wrong}
+use Rattle.spec_token.specs.Scanner.{Lexeme, nothing, comment, quote, stop, word, wrong}
 use Rattle.load_word.specs.declared.Start.{Start}
 use Rattle.load_word.specs.declared.Start.the-variants as start
 

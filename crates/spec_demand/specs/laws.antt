@@ -7,3 +7,4 @@ pub mod Cited
 pub mod Privilege
 pub mod Places
 pub mod Refusals
+pub mod Answered

@@ -1,24 +1,23 @@
 -- The causes 5 to 10 for which a load refuses a file of the grammar. 01, "Load refusals, in their order".
-use mathlib.Core.Bool.{Bool, not, _&&_, _||_}
+use mathlib.Core.Path.{_≡_}
+use mathlib.Core.Bool.{Bool, true, _&&_, _||_}
 use mathlib.Core.List.{List, [], _∷_, _++_, map}
-use mathlib.Core.Option.{Option, none, some}
 use Prim.Native.Nat.{ℕ}
 use lib.Dec.{eqb, leb, ltb}
 use lib.ListN.{length}
 use Rattle.spec_lists.specs.Text.{same}
-use Rattle.spec_lists.specs.Select.{holds-of, missing, all, any, select, first}
+use Rattle.spec_lists.specs.Select.{holds-of, missing, all, any, select}
 use Rattle.spec_token.specs.Word.{link-letter}
 use Rattle.spec_grammar.specs.declared.Role.{Role}
 use Rattle.spec_grammar.specs.declared.Role.the-variants.{UagName, HagName, AsgName, Input, RuleWord, Level, Permission, LogOption, CalcWord, Calculation}
 use Rattle.spec_grammar.specs.Sentence.{Tagged}
-use Rattle.spec_calc.specs.Expression.{Tree}
+use Rattle.spec_calc.specs.Expression.{Tree, Parses}
 use Rattle.spec_calc.specs.Value.{letters}
-use Rattle.spec_calc.specs.Reader.{tree-of}
 use Rattle.spec_file.specs.declared.Refusal.{Refusal}
 use Rattle.spec_file.specs.declared.Refusal.the-variants.{FileTooLong, BadByte, TooDeep, Ungrammatical, StringTooLong, TooMany, GivenAgain, BadLevel}
 use Rattle.spec_file.specs.declared.Refusal.the-variants.{UnknownWord, BadCalculation, NoRoom}
 use Rattle.spec_file.specs.Limit.{Section, order, most, item-of, longest}
-use Rattle.spec_file.specs.Contents.{has-role, text, place, until, level-of, permission-of, log-of}
+use Rattle.spec_file.specs.Contents.{has-role, text, until, level-of, permission-of, log-of}
 
 -- 01's numbers
 abbrev pub number : Refusal → ℕ
@@ -99,35 +98,17 @@ letters-given c =
 abbrev pub letters-among : List ℕ → Tree → Bool
 letters-among given t = all (λ i. any (eqb i) given) (letters t)
 
--- 10: "calculation not allowed"
-abbrev pub bad-calculation : Context → Bool
-bad-calculation c = has-role Calculation (c .here) && not (holds-of (tree-of (text (c .here))) (letters-among (letters-given c)))
+-- a calculation that is allowed where it stands
+pub record Allowed (c : Context) : Type 0 where
+  pub tree : Tree
+  pub says : Parses (text (c .here)) tree
+  pub given : letters-among (letters-given c) tree ≡ true
 
--- the causes in their order
-pub record Cause : Type 0 where
-  pub refusal : Refusal
-  pub applies : Context → Bool
-
-abbrev pub causes : List Cause
-causes =
-    record { refusal = StringTooLong; applies = too-long }
-    ∷ record { refusal = TooMany; applies = too-many }
-    ∷ record { refusal = GivenAgain; applies = given-again }
-    ∷ record { refusal = BadLevel; applies = bad-level }
-    ∷ record { refusal = UnknownWord; applies = unknown-word }
-    ∷ record { refusal = BadCalculation; applies = bad-calculation }
-    ∷ []
-
--- a refusal and its place
-pub record Refusal-at : Type 0 where
-  pub refusal : Refusal
-  pub place : ℕ
-
-abbrev pub or-else : Refusal → Option Context → Option Refusal-at → Option Refusal-at
-or-else n none o = o
-or-else n (some c) o = some (record { refusal = n; place = place (c .here) })
-
--- 01: "The lowest number that applies is answered. Within it, the earliest place"
-abbrev pub refused-by : List Cause → List Context → Option Refusal-at
-refused-by [] cs = none
-refused-by (k ∷ ks) cs = or-else (k .refusal) (first (k .applies) cs) (refused-by ks cs)
+-- the causes of the refusals 5 to 10 at a token; 10: "calculation not allowed"
+pub data Applies (c : Context) : Refusal → Type 0 where
+  long : too-long c ≡ true → Applies c StringTooLong
+  many : too-many c ≡ true → Applies c TooMany
+  again : given-again c ≡ true → Applies c GivenAgain
+  level : bad-level c ≡ true → Applies c BadLevel
+  word : unknown-word c ≡ true → Applies c UnknownWord
+  calculation : has-role Calculation (c .here) ≡ true → (Allowed c → ⊥) → Applies c BadCalculation

@@ -1,6 +1,7 @@
 -- The warnings of an accepted file, by place. 01, "Load refusals, in their order", its last paragraph.
-use mathlib.Core.Bool.{Bool, not, _&&_, cond}
-use mathlib.Core.List.{List, [], _∷_}
+use mathlib.Core.Path.{_≡_}
+use mathlib.Core.Bool.{Bool, true, not, _&&_, cond}
+use mathlib.Core.List.{List, [], _∷_, List·Memᴰ}
 use mathlib.Core.Option.{Option, none, some}
 use Prim.Native.Nat.{ℕ}
 use Rattle.spec_lists.specs.Text.{same}
@@ -29,6 +30,21 @@ undefined n file x = not (any (λ y. has-role n y && same (text y) (text x)) fil
 
 -- 01: "1 unknown top-level item (its name), 2 unknown predicate in a RULE body (its name), 3 a UAG or HAG named in a rule and defined nowhere in the
 -- file (that name)"
+pub data Warns (file : List Tagged) (x : Tagged) : Warning → Type 0 where
+  item : x .role ≡ role.UnknownItem → Warns file x UnknownItem
+  predicate : x .role ≡ role.UnknownPredicate → Warns file x UnknownPredicate
+  user-group : x .role ≡ UagNamed → undefined UagName file x ≡ true → Warns file x UndefinedGroup
+  host-group : x .role ≡ HagNamed → undefined HagName file x ≡ true → Warns file x UndefinedGroup
+
+-- one of the tokens xs gives the warning w in a file
+pub record Given (file xs : List Tagged) (w : Warned) : Type 0 where
+  pub token : Tagged
+  pub among : List·Memᴰ token xs
+  pub warns : Warns file token (w .warning)
+  pub at : w .place ≡ place token
+
+-- ---- A machine that lists them. laws/Warnings.antt proves that it lists exactly these, by place; nobody has to believe it.
+
 abbrev pub warning-of : List Tagged → Tagged → Option Warning
 warning-of file x =
     cond (has-role role.UnknownItem x) (some UnknownItem)
@@ -44,6 +60,6 @@ abbrev pub warnings-among : List Tagged → List Tagged → List Warned
 warnings-among file [] = []
 warnings-among file (x ∷ xs) = with-place (warning-of file x) x (warnings-among file xs)
 
--- the warnings of a file, in order of place
+-- the warnings of a file
 abbrev pub warnings : List Tagged → List Warned
 warnings file = warnings-among file file

@@ -2,4 +2,8 @@ pub mod Items
 pub mod Clauses
 pub mod Counted
 pub mod ItemClauses
+pub mod Causes
 pub mod Theorem
+pub mod Either
+pub mod Places
+pub mod Warnings

@@ -1,13 +1,15 @@
--- The tokens of a file with their places, or its first bad byte. 01, "Reading the text".
-use mathlib.Core.Bool.{Bool, true, false, not, cond}
-use mathlib.Core.List.{List, [], _∷_}
-use Prim.Native.Nat.{ℕ, zero, suc, _+_, _-_}
-use lib.ListN.{length, drop}
+-- The tokens of a file with their places, or its first bad byte. 01, "Reading the text". No scanner stands here.
+use mathlib.Core.Path.{_≡_}
+use mathlib.Core.Bool.{Bool, true, false, not, _||_}
+use mathlib.Core.List.{List, [], _∷_, _++_}
+use Prim.Native.Nat.{ℕ, _+_}
+use Prim.Native.Char.{code}
+use lib.ListN.{length, take}
 use Rattle.spec_lists.specs.Text.{among}
-use Rattle.spec_lists.specs.Select.{run, after}
+use Rattle.spec_lists.specs.Select.{all, any}
 use Rattle.spec_token.specs.declared.Kind.{Kind}
 use Rattle.spec_token.specs.declared.Kind.the-variants.{String, OpenParen, CloseParen, OpenBrace, CloseBrace, Comma}
-use Rattle.spec_token.specs.Word.{blank, newline, name-byte, word-kind}
+use Rattle.spec_token.specs.Word.{blank, newline, name-byte, Of-kind}
 
 -- 01: "a token's [place] is its first byte, the quote if any"; the text is that of the file, without quotes
 pub record Token : Type 0 where
@@ -24,74 +26,61 @@ abbrev pub then : Token → Tokens → Tokens
 then t (tokens ts) = tokens (t ∷ ts)
 then t (bad p) = bad p
 
--- what stands behind an opening quote: a text and what follows its closing quote, or a bare newline's place, or no end
-pub data Quoted : Type 0 where
-  closed : List ℕ → List ℕ → Quoted
-  broken : ℕ → Quoted
-  unclosed : Quoted
-
-abbrev pub also : ℕ → Quoted → Quoted
-also b (closed s r) = closed (b ∷ s) r
-also b (broken p) = broken p
-also b unclosed = unclosed
-
--- 001: STRING(quoted) ::= '"' { STRINGCHAR | ESCAPE } '"', STRINGCHAR any char except '"' "\" "\n", ESCAPE ::= "\" any-char.
--- 01: "A backslash and any byte after it stay as they are, both. A bare newline inside is a bad byte, answered at its own place".
--- The Bool: the byte before was the backslash of an escape. The number: the place of the first byte.
-abbrev pub quoted : Bool → ℕ → List ℕ → Quoted
-quoted escaped p [] = unclosed
-quoted true p (b ∷ s) = also b (quoted false (p + 1) s)
-quoted false p (b ∷ s) =
-    cond (among "\"" b) (closed [] s) (cond (newline b) (broken p) (also b (quoted (among "\\" b) (p + 1) s)))
+-- w is the longest run at the start of s whose bytes pass p, and r follows it
+pub record Longest (p : ℕ → Bool) (s w r : List ℕ) : Type 0 where
+  pub parts : s ≡ w ++ r
+  pub pass : all p w ≡ true
+  pub ends : any p (take 1 r) ≡ false
 
 -- 01: "`( ) { } ,` stand alone."
-abbrev pub alone : ℕ → Bool
-alone = among "(){},"
+pub data Alone : ℕ → Kind → Type 0 where
+  open-paren : Alone (code "(") OpenParen
+  close-paren : Alone (code ")") CloseParen
+  open-brace : Alone (code "{") OpenBrace
+  close-brace : Alone (code "}") CloseBrace
+  comma : Alone (code ",") Comma
 
-abbrev pub punctuation : ℕ → Kind
-punctuation b = cond (among "(" b) OpenParen (cond (among ")" b) CloseParen (cond (among "{" b) OpenBrace (cond (among "}" b) CloseBrace Comma)))
+-- 001: { STRINGCHAR | ESCAPE }, STRINGCHAR ::= any char except '"' "\" "\n", ESCAPE ::= "\" any-char
+pub data Between-quotes : List ℕ → Type 0 where
+  nothing : Between-quotes []
+  stringchar : {b : ℕ} {s : List ℕ} → among "\"\\\n" b ≡ false → Between-quotes s → Between-quotes (b ∷ s)
+  escape : {b : ℕ} {s : List ℕ} → Between-quotes s → Between-quotes (code "\\" ∷ b ∷ s)
 
--- what the byte b begins
-pub data Lexeme : Type 0 where
-  nothing comment quote stop word wrong : Lexeme
+-- Spells p s o: the text s, whose first byte has the place p, is spelled by the tokens of o, or is bad where o says.
+pub data Spells : ℕ → List ℕ → Tokens → Type 0 where
+  end : {p : ℕ} → Spells p [] (tokens [])
+  -- "Space, tab, CR and newline part tokens."
+  gap : {p b : ℕ} {s : List ℕ} {o : Tokens} → blank b ≡ true → Spells (p + 1) s o → Spells p (b ∷ s) o
+  -- "`#` starts a comment up to the newline or the end."
+  comment :
+      {p : ℕ} {s w r : List ℕ} {o : Tokens} → Longest (λ b. not (newline b)) s w r → Spells (p + 1 + length w) r o
+      → Spells p (code "#" ∷ s) o
+  -- "A word is the longest run of letters, digits and" ..; 001: NAMECHAR+
+  word :
+      {p b : ℕ} {s w r : List ℕ} {k : Kind} {o : Tokens} → Longest name-byte s (b ∷ w) r → Of-kind (b ∷ w) k
+      → Spells (p + length (b ∷ w)) r o → Spells p s (then (record { kind = k; place = p; text = b ∷ w }) o)
+  -- "A quoted text is a STRING even where it spells a keyword. A backslash and any byte after it stay as they are, both."
+  quoted :
+      {p : ℕ} {s w r : List ℕ} {o : Tokens} → s ≡ w ++ (code "\"" ∷ r) → Between-quotes w → Spells (p + 2 + length w) r o
+      → Spells p (code "\"" ∷ s) (then (record { kind = String; place = p; text = w }) o)
+  -- "`( ) { } ,` stand alone."
+  alone :
+      {p b : ℕ} {s : List ℕ} {k : Kind} {o : Tokens} → Alone b k → Spells (p + 1) s o
+      → Spells p (b ∷ s) (then (record { kind = k; place = p; text = b ∷ [] }) o)
+  -- "A bare newline inside is a bad byte, answered at its own place, closed later or not."
+  bare-newline :
+      {p : ℕ} {s w : List ℕ} (r : List ℕ) → s ≡ w ++ (code "\n" ∷ r) → Between-quotes w → Spells p (code "\"" ∷ s) (bad (p + 1 + length w))
+  -- refusal 2: "unclosed quote", "the opening quote"
+  unclosed :
+      {p : ℕ} {s : List ℕ} → ((w r : List ℕ) (b : ℕ) → s ≡ w ++ (b ∷ r) → Between-quotes w → among "\"\n" b ≡ false)
+      → Spells p (code "\"" ∷ s) (bad p)
+  -- "Every other byte is bad."
+  other : {p b : ℕ} {s : List ℕ} → blank b || (name-byte b || among "#\"(){}," b) ≡ false → Spells p (b ∷ s) (bad p)
 
--- 01: "`#` starts a comment up to the newline or the end."
-abbrev pub other : ℕ → Bool
-other b = not (newline b)
+-- the tokens ts are those of the text s
+abbrev pub Spelled : List ℕ → List Token → Type 0
+Spelled s ts = Spells 0 s (tokens ts)
 
--- 01: "Every other byte is bad."
-abbrev pub lexeme-of : ℕ → Lexeme
-lexeme-of b =
-    cond (blank b) nothing
-    (cond (among "#" b) comment (cond (among "\"" b) quote (cond (alone b) stop (cond (name-byte b) word wrong))))
-
--- The tokens from the place p on. The first number bounds the steps: each takes a byte, so a text's length is enough.
-unfoldable pub scan : ℕ → ℕ → List ℕ → Tokens
-scan zero p [] = tokens []
-scan zero p (b ∷ s) = bad p
-scan (suc n) p [] = tokens []
-scan (suc n) p (b ∷ s) =
-    elim (lexeme-of b) [
-      | nothing ↦ scan n (p + 1) s
-      | comment ↦ scan n (p + 1 + length (run other s)) (after other s)
-      | quote ↦
-          elim (quoted false (p + 1) s) [
-            | closed t r ↦ then (record { kind = String; place = p; text = t }) (scan n (p + 2 + length t) r)
-            | broken q ↦ bad q
-            | unclosed ↦ bad p
-          ]
-      | stop ↦ then (record { kind = punctuation b; place = p; text = b ∷ [] }) (scan n (p + 1) s)
-      | word ↦
-          let w : List ℕ = run name-byte (b ∷ s) in
-          then (record { kind = word-kind w; place = p; text = w }) (scan n (p + length w) (after name-byte (b ∷ s)))
-      | wrong ↦ bad p
-    ]
-
--- the tokens of a whole text
-abbrev pub scanned : List ℕ → Tokens
-scanned s = scan (length s) 0 s
-
--- ---- the tokens from a place on, by what its byte begins
-
-abbrev pub scan-from : List ℕ → ℕ → Tokens
-scan-from s at = scan (length s) at (drop at s)
+-- the first bad byte or unclosed quote of the text s is at the place p
+abbrev pub Bad-at : List ℕ → ℕ → Type 0
+Bad-at s p = Spells 0 s (bad p)

@@ -1,12 +1,12 @@
--- The bytes of a file and the kinds of its words. 01, "Reading the text"; 001, "Lexical tokens".
-use mathlib.Core.Bool.{Bool, true, false, _&&_, _||_, not, cond}
-use mathlib.Core.List.{List, [], _∷_}
+-- The bytes of a file and the kinds of its words. 01, "Reading the text"; 001, "Lexical tokens". No scanner stands here.
+use mathlib.Core.Path.{_≡_}
+use mathlib.Core.Bool.{Bool, true, _&&_, _||_, cond}
+use mathlib.Core.List.{List, [], _∷_, _++_}
 use Prim.Native.Nat.{ℕ, _-_}
 use Prim.Native.Char.{code}
-use lib.Dec.{eqb}
-use lib.ListN.{length, getD, take}
-use Rattle.spec_lists.specs.Text.{bytes, same, among, within, digit, capital, small}
-use Rattle.spec_lists.specs.Select.{nonempty, run, after}
+use lib.ListN.{getD}
+use Rattle.spec_lists.specs.Text.{bytes, among, within, digit, capital, small}
+use Rattle.spec_lists.specs.Select.{nonempty, all}
 use Rattle.spec_token.specs.declared.Kind.{Kind}
 use Rattle.spec_token.specs.declared.Kind.the-variants.{Uag, Hag, Asg, Rule, Calc, Inp, Int, Float, String}
 
@@ -26,31 +26,24 @@ abbrev pub unsigned : List ℕ → List ℕ
 unsigned [] = []
 unsigned (b ∷ s) = cond (among "+-" b) s (b ∷ s)
 
--- 001's DIGIT+ and no more
-abbrev pub digits : List ℕ → Bool
-digits s = nonempty (run digit s) && not (nonempty (after digit s))
-
--- 001: INT ::= [ "+" | "-" ]? DIGIT+
-abbrev pub int : List ℕ → Bool
-int s = digits (unsigned s)
+-- 001's DIGIT+
+abbrev pub Digits : List ℕ → Type 0
+Digits s = nonempty s && all digit s ≡ true
 
 -- 001: [ ( "e" | "E" ) [ "+" | "-" ] DIGIT+ ]?, the sign optional too
-abbrev pub exponent : List ℕ → Bool
-exponent [] = true
-exponent (b ∷ s) = among "eE" b && digits (unsigned s)
-
--- 001: "." DIGIT+ and then an exponent
-abbrev pub fraction : List ℕ → Bool
-fraction [] = false
-fraction (b ∷ s) = among "." b && (nonempty (run digit s) && exponent (after digit s))
+pub data Exponent : List ℕ → Type 0 where
+  none : Exponent []
+  power : {b : ℕ} {s : List ℕ} → among "eE" b ≡ true → Digits (unsigned s) → Exponent (b ∷ s)
 
 -- 001: FLOAT ::= [ "+" | "-" ]? DIGIT* "." DIGIT+ [ ( "e" | "E" ) [ "+" | "-" ] DIGIT+ ]?
-abbrev pub float : List ℕ → Bool
-float s = fraction (after digit (unsigned s))
-
--- 001: INP(link) ::= "INP" link-letter, link-letter ::= "A" | "B" | ... | "U"
-abbrev pub inp : List ℕ → Bool
-inp s = same (take 3 s) (bytes "INP") && (eqb (length s) 4 && within (code "A") (code "U") (getD s 3 0))
+pub record Float-form (w : List ℕ) : Type 0 where
+  pub before : List ℕ
+  pub behind : List ℕ
+  pub last : List ℕ
+  pub parts : unsigned w ≡ before ++ (bytes "." ++ (behind ++ last))
+  pub whole : all digit before ≡ true
+  pub fraction : Digits behind
+  pub exponent : Exponent last
 
 -- 01: "letter 0 to 20"
 abbrev pub greatest-letter : ℕ
@@ -60,12 +53,19 @@ greatest-letter = 20
 abbrev pub link-letter : List ℕ → ℕ
 link-letter s = getD s 3 0 - code "A"
 
--- 01: "It is a keyword if it is UAG, HAG, ASG, RULE, CALC or INP with one letter A to U; else an INT or a FLOAT if it has 001's form; else a STRING."
-abbrev pub word-kind : List ℕ → Kind
-word-kind s =
-    cond (same s (bytes "UAG")) Uag
-    (cond (same s (bytes "HAG")) Hag
-    (cond (same s (bytes "ASG")) Asg
-    (cond (same s (bytes "RULE")) Rule
-    (cond (same s (bytes "CALC")) Calc
-    (cond (inp s) Inp (cond (int s) Int (cond (float s) Float String)))))))
+-- 01: "It is a keyword if it is UAG, HAG, ASG, RULE, CALC or INP with one letter A to U; else an INT or a FLOAT if it has 001's form"
+pub data Form (w : List ℕ) : Kind → Type 0 where
+  uag : w ≡ bytes "UAG" → Form w Uag
+  hag : w ≡ bytes "HAG" → Form w Hag
+  asg : w ≡ bytes "ASG" → Form w Asg
+  rule : w ≡ bytes "RULE" → Form w Rule
+  calc : w ≡ bytes "CALC" → Form w Calc
+  inp : {letter : ℕ} → w ≡ bytes "INP" ++ (letter ∷ []) → within (code "A") (code "U") letter ≡ true → Form w Inp
+  -- 001: INT ::= [ "+" | "-" ]? DIGIT+
+  int : Digits (unsigned w) → Form w Int
+  float : Float-form w → Form w Float
+
+-- 01: "else a STRING"
+pub data Of-kind (w : List ℕ) : Kind → Type 0 where
+  formed : {k : Kind} → Form w k → Of-kind w k
+  string : ((k : Kind) → Form w k → ⊥) → Of-kind w String

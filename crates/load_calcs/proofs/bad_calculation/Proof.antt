@@ -1,7 +1,7 @@
 use mathlib.Core.Logic.{⊎-elim}
 use mathlib.Core.Path.{sym, _∙_}
 use Prim.Native.Nat.{_-_}
-use Rattle.spec_file.specs.Refusal.{bad-calculation}
+use Rattle.spec_file.specs.Load.{bad-calculation}
 use Rattle.load_spans.specs.Roles.{arrays}
 use Rattle.load_spans.specs.laws.Search.{Searched, search-first, search-found, search-on, search-none}
 use Rattle.load_calcs.specs.laws.Input.{gives-first, gives-new, gives-on}

@@ -15,7 +15,8 @@ use Rattle.load_tokens.specs.Stores.{arrays-of}
 use Rattle.spec_file.specs.declared.Refusal.{Refusal}
 use Rattle.spec_file.specs.declared.Refusal.the-variants.{FileTooLong, BadByte, TooDeep, Ungrammatical, NoRoom, StringTooLong, TooMany, GivenAgain, BadLevel}
 use Rattle.spec_file.specs.declared.Refusal.the-variants.{UnknownWord, BadCalculation}
-use Rattle.spec_file.specs.Refusal.{Context, contexts, Cause, causes, refused-by}
+use Rattle.spec_file.specs.Refusal.{Context, contexts}
+use Rattle.spec_file.specs.Load.{Cause, causes, refused-by}
 use Rattle.load_spans.specs.Roles.{arrays, tokens}
 use Rattle.load_spans.specs.Seek.{seek}
 use Rattle.load_spans.specs.laws.Seek.{refused-at}

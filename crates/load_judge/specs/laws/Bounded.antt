@@ -13,7 +13,8 @@ use Rattle.spec_file.specs.Refusal.{contexts}
 use Rattle.spec_file.specs.laws.Counted.{once, clear, sum-texts, counted-roles}
 use Rattle.spec_file.specs.declared.Refusal.{Refusal}
 use Rattle.spec_file.specs.Load.{refuse, accept, verdict}
-use Rattle.spec_file.specs.laws.Theorem.{accepted-is, unanswered}
+use Rattle.spec_file.specs.laws.Causes.{unanswered}
+use Rattle.spec_file.specs.laws.Theorem.{accepted-is}
 use Rattle.load_spans.specs.Roles.{tally}
 use Rattle.load_spans.specs.laws.Roles.{tally-is}
 use Rattle.load_syntax.specs.declared.Judgment.{Judgment}

@@ -6,7 +6,7 @@ use Prim.Native.Nat.{ℕ, _+_, _≤_, _<_}
 use lib.ListN.{length, getD, drop}
 use Rattle.spec_lists.specs.Text.{among}
 use Rattle.spec_token.specs.Word.{newline}
-use Rattle.spec_token.specs.Token.{Quoted, closed, broken, also, quoted}
+use Rattle.spec_token.specs.Scanner.{Quoted, closed, broken, also, quoted}
 use Rattle.spec_token.specs.laws.Quotes.{Inside, further, closes, breaks, never-closes}
 use Rattle.load_quote.specs.declared.Act.{Act}
 use Rattle.load_quote.specs.declared.Act.the-variants.{On, Close, Break}

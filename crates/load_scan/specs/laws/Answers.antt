@@ -2,7 +2,8 @@
 use mathlib.Core.Path.{_≡_}
 use mathlib.Core.List.{List}
 use Prim.Native.Nat.{ℕ}
-use Rattle.spec_token.specs.Token.{bad, scanned}
+use Rattle.spec_token.specs.Token.{bad}
+use Rattle.spec_token.specs.Scanner.{scanned}
 use Rattle.load_tokens.specs.Arrays.{Arrays}
 use Rattle.load_scan.specs.declared.Scanned.{Scanned}
 use Rattle.load_scan.specs.declared.Scanned.the-variants as scan

@@ -5,7 +5,8 @@ use Prim.Native.Nat.{ℕ, _+_, _≤_, _<_}
 use native.Mathlib.Omega.{arith}
 use borrow.Author.Count.{below-more}
 use lib.ListN.{length}
-use Rattle.spec_token.specs.Token.{Token, bad, scanned, scan-from}
+use Rattle.spec_token.specs.Token.{Token, bad}
+use Rattle.spec_token.specs.Scanner.{scanned, scan-from}
 use Rattle.spec_token.specs.laws.Steps.{from-end, prefixed, prefixed-more, prefixed-bad, prefixed-none}
 use Rattle.load_tokens.specs.Arrays.{Arrays, tokens-from}
 use Rattle.load_tokens.specs.Stores.{stored, Room, Long, Good}

@@ -7,8 +7,9 @@ use lib.ListN.{length, getD, take, drop}
 use lib.Seq.{drop-cons}
 use Rattle.spec_token.specs.declared.Kind.{Kind}
 use Rattle.spec_token.specs.declared.Kind.the-variants as kind
-use Rattle.spec_token.specs.Word.{name-byte, word-kind}
-use Rattle.spec_token.specs.Token.{bad, punctuation, nothing, comment, quote, stop, word, wrong, other, scan-from}
+use Rattle.spec_token.specs.Word.{name-byte}
+use Rattle.spec_token.specs.Token.{bad}
+use Rattle.spec_token.specs.Scanner.{word-kind, punctuation, nothing, comment, quote, stop, word, wrong, other, scan-from}
 use Rattle.spec_token.specs.Spans.{Span}
 use Rattle.spec_token.specs.laws.Spans.{span-more}
 use Rattle.spec_token.specs.laws.Steps.{word-named, from-nothing, from-comment, from-stop, from-word, from-wrong, from-closed, from-broken, from-unclosed}

@@ -16,7 +16,8 @@ use Rattle.spec_grammar.specs.Sentence.{Tagged}
 use Rattle.load_tokens.specs.Arrays.{Arrays, kind-of-number, tagged-at, tagged-from}
 use Rattle.spec_file.specs.Limit.{Section, most, item-of}
 use Rattle.spec_file.specs.Contents.{has-role, text, texts, until}
-use Rattle.spec_file.specs.Refusal.{Context, too-long, item, too-many, duplicates, given-again, bad-level, unknown-word, letters-given, bad-calculation}
+use Rattle.spec_file.specs.Refusal.{Context, too-long, item, too-many, duplicates, given-again, bad-level, unknown-word, letters-given}
+use Rattle.spec_file.specs.Load.{bad-calculation}
 use Rattle.load_spans.specs.Roles.{arrays}
 use Rattle.load_spans.specs.Seek.{seek}
 

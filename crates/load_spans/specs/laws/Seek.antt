@@ -13,7 +13,8 @@ use Rattle.spec_lists.specs.Select.{first, first-if}
 use Rattle.spec_grammar.specs.Sentence.{Tagged}
 use Rattle.load_tokens.specs.Arrays.{Arrays, tagged-at, tagged-from}
 use Rattle.spec_file.specs.declared.Refusal.{Refusal}
-use Rattle.spec_file.specs.Refusal.{Context, contexts-after, Refusal-at, or-else}
+use Rattle.spec_file.specs.Refusal.{Context, contexts-after}
+use Rattle.spec_file.specs.Load.{Refusal-at, or-else}
 use Rattle.load_spans.specs.laws.Roles.{tokens-none, tokens-step}
 use Rattle.load_spans.specs.laws.Position.{ltb-suc}
 use Rattle.load_spans.specs.Seek.{seek, earlier, context-at, left}

@@ -7,7 +7,8 @@ use Prim.Native.Nat.{ℕ, _≤_}
 use native.Mathlib.Omega.{arith}
 use lib.Dec.{ltb}
 use lib.ListN.{length, getD}
-use Rattle.spec_token.specs.Token.{bad, scanned}
+use Rattle.spec_token.specs.Token.{bad}
+use Rattle.spec_token.specs.Scanner.{scanned}
 use Rattle.load_tokens.specs.Arrays.{Arrays, tokens-from}
 use Rattle.load_tokens.specs.Stores.{Long}
 use Rattle.load_tokens.specs.laws.Stores.{long-room}

@@ -1,5 +1,5 @@
 use Rattle.load_word.specs.laws.Leaf.{all, leaf, key}
-use Rattle.spec_token.specs.Word.{digits}
+use Rattle.spec_token.specs.Scanner.{digits}
 use Rattle.load_word.specs.laws.Digits.{exponent-end, exponent-is, exponent-not}
 use Rattle.spec_lists.specs.Text.{among}
 use borrow.Author.Tests.{not-true}

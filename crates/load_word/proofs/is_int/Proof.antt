@@ -1,4 +1,4 @@
-use Rattle.spec_token.specs.Word.{digits}
+use Rattle.spec_token.specs.Scanner.{digits}
 use mathlib.Core.Path.{ap, _∙_}
 use borrow.Author.Needs.{needs}
 use Rattle.load_word.proofs.is_int.Statement.{statement}

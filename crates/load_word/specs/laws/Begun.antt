@@ -6,7 +6,7 @@ use Prim.Native.Nat.{ℕ}
 use lib.Dec.{eqb}
 use lib.ListN.{getD}
 use borrow.Author.Tests.{eqb-true}
-use Rattle.spec_token.specs.Token.{Lexeme, nothing, comment, quote, stop, word, wrong, lexeme-of}
+use Rattle.spec_token.specs.Scanner.{Lexeme, nothing, comment, quote, stop, word, wrong, lexeme-of}
 use Rattle.load_word.specs.declared.Start.{Start}
 use Rattle.load_word.specs.declared.Start.the-variants as start
 use Rattle.load_word.specs.Start.{start-of}

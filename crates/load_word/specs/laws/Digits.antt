@@ -10,7 +10,8 @@ use lib.Seq.{drop-cons}
 use borrow.Author.Tests.{ne-eqb}
 use Rattle.spec_lists.specs.Text.{bytes, same, among, digit}
 use Rattle.spec_lists.specs.Select.{nonempty, run, after}
-use Rattle.spec_token.specs.Word.{unsigned, inp, digits, exponent, fraction}
+use Rattle.spec_token.specs.Word.{unsigned}
+use Rattle.spec_token.specs.Scanner.{inp, digits, exponent, fraction}
 use Rattle.spec_token.specs.Spans.{Span}
 use Rattle.spec_token.specs.laws.Spans.{span-after}
 

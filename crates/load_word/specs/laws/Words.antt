@@ -4,7 +4,7 @@ use mathlib.Core.Bool.{true, false}
 use mathlib.Core.List.{List}
 use Prim.Native.Nat.{ℕ}
 use Rattle.spec_lists.specs.Text.{bytes, same}
-use Rattle.spec_token.specs.Word.{int, float, inp, word-kind}
+use Rattle.spec_token.specs.Scanner.{int, float, inp, word-kind}
 use Rattle.spec_grammar.specs.Codes.{kind-number}
 
 module _ (w : List ℕ) where

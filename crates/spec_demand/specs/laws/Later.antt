@@ -11,6 +11,7 @@ use Rattle.spec_lists.specs.Select.{select, prepend-if, first, first-if}
 use Rattle.spec_lists.specs.Every.{Every, nil, cons}
 use Rattle.spec_lists.specs.laws.Every.{every-map, every-implies}
 use Rattle.spec_token.specs.Token.{Token}
+use Rattle.spec_token.specs.laws.Theorem.{one-spelling}
 use Rattle.spec_grammar.specs.declared.Role.the-variants.{AsgName, RuleWord, UnknownPredicate}
 use Rattle.spec_grammar.specs.Sentence.{Tagged, Reads}
 use Rattle.spec_grammar.specs.laws.Theorem.{one-parse}
@@ -117,7 +118,7 @@ module _ (e : Edition) (xs : List Tagged) (q : Question) where
 same-tagged : (lent s : List ℕ) (xs : List Tagged) (w : Stored lent s) → Text-reads s xs → w .said ≡ xs
 same-tagged lent s xs w t =
     let a = accepted-is s (w .said) (w .accepted) .as-read in
-    let same : a .spelled ≡ t .spelled = cc (a .spelling, t .spelling) in
+    let same : a .spelled ≡ t .spelled = cc (one-spelling (a .spelling) (t .spelling)) in
     one-parse (t .spelled) (w .said) xs (subst (λ (ts : List Token). Reads ts (w .said)) same (a .reading)) (t .reading)
 
 -- after an accepted load, whatever calls come before the next one, a question is answered by the rules of the text

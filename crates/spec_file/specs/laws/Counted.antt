@@ -20,8 +20,8 @@ use Rattle.spec_grammar.specs.Codes.{role-number}
 use Rattle.spec_grammar.specs.Sentence.{Tagged}
 use Rattle.spec_file.specs.Limit.{Section, user-groups, host-groups, members, access-groups, inputs, rules, references, most, item-of, order}
 use Rattle.spec_file.specs.Contents.{has-role, text, texts, until, Clause, clauses}
-use Rattle.spec_file.specs.Refusal.{Context, contexts-after, contexts, too-long, item, too-many, given-again, bad-level, unknown-word, bad-calculation}
-use Rattle.spec_file.specs.Refusal.{Cause, causes, or-else, refused-by}
+use Rattle.spec_file.specs.Refusal.{Context, contexts-after, contexts, too-long, item, too-many, given-again, bad-level, unknown-word}
+use Rattle.spec_file.specs.Load.{bad-calculation, Cause, causes, or-else, refused-by}
 
 -- the sum over those that pass a test
 abbrev pub sum-of : (Tagged → Bool) → (Tagged → ℕ) → List Tagged → ℕ

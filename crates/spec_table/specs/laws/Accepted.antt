@@ -16,7 +16,7 @@ use Rattle.spec_lists.specs.laws.Joined.{map-map}
 use Rattle.spec_token.specs.declared.Kind.the-variants.{Inp}
 use Rattle.spec_token.specs.Word.{link-letter, greatest-letter}
 use Rattle.spec_token.specs.Token.{Token}
-use Rattle.spec_token.specs.laws.Kinds.{scanned-bytes, scanned-inputs}
+use Rattle.spec_token.specs.laws.Kinds.{spelled-bytes, spelled-inputs}
 use Rattle.spec_grammar.specs.declared.Role.{Role}
 use Rattle.spec_grammar.specs.declared.Role.the-variants.{UagName, User, HagName, Host, AsgName, Input, Pvname, RuleWord, Level, UagNamed, HagNamed}
 use Rattle.spec_grammar.specs.declared.Role.the-variants.{Calculation}
@@ -29,10 +29,11 @@ use Rattle.spec_rule.specs.Answering.{greatest-level}
 use Rattle.spec_file.specs.Limit.{Section, user-groups, host-groups, members, access-groups, inputs, rules, references, most, most-bytes, longest}
 use Rattle.spec_file.specs.Limit.{longest-name, longest-calculation}
 use Rattle.spec_file.specs.Contents.{has-role, text, texts, Clause, clauses, level-of, value-of, head-of, Link, Rule-text, rule-text, file-of}
-use Rattle.spec_file.specs.Refusal.{Context, contexts, item, bad-calculation, letters-among, letters-given, causes, refused-by}
+use Rattle.spec_file.specs.Refusal.{Context, contexts, item, letters-among, letters-given}
 use Rattle.spec_file.specs.Acceptance.{Acceptable}
-use Rattle.spec_file.specs.Load.{accept, verdict}
-use Rattle.spec_file.specs.laws.Theorem.{accepted-is, unanswered}
+use Rattle.spec_file.specs.Load.{bad-calculation, causes, refused-by, accept, verdict}
+use Rattle.spec_file.specs.laws.Causes.{unanswered}
+use Rattle.spec_file.specs.laws.Theorem.{accepted-is}
 use Rattle.spec_lists.specs.laws.Sums.{sum, sum-nil, sum-cons, sum-total, sum-plus, sum-append, sum-joined, sum-map, length-sum, length-joined}
 use Rattle.spec_file.specs.laws.Counted.{sum-of, sum-select, sum-texts, sum-heads, sum-bodies, Whole, every-clauses, every-texts, every-here, Clear, clear}
 use Rattle.spec_file.specs.laws.Counted.{string-roles, says-among, once, role-is, sum-roles, counted-roles}
@@ -242,14 +243,14 @@ fits s xs e =
     (bound a)
     (every-both inputs
     (reads-inputs (a .as-read .spelled) xs (a .as-read .reading))
-    (from-tokens xs (subst (Every Spelled) (sym t) (scanned-inputs s (a .as-read .spelled) (a .as-read .spelling)))))
+    (from-tokens xs (subst (Every Spelled) (sym t) (spelled-inputs (a .as-read .spelling)))))
   where
     Spelled : Token → Type 0
     Spelled t = t .kind ≡ Inp → link-letter (t .text) ≤ greatest-letter
 
     bound : (a : Acceptable s xs) → total (map (λ x. length (x .token .text)) xs) ≤ most-bytes
     bound a =
-        let b = scanned-bytes s (a .as-read .spelled) (a .as-read .spelling) in
+        let b = spelled-bytes (a .as-read .spelling) in
         let m =
         sym (map-map (λ (t : Token). length (t .text)) (λ (x : Tagged). x .token) xs)
         ∙ ap (map (λ (t : Token). length (t .text))) (a .as-read .reading .tokens) in

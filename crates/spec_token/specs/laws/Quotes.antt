@@ -7,7 +7,7 @@ use native.Mathlib.Omega.{arith}
 use native.Mathlib.Numerals.{add-one}
 use lib.ListN.{length, getD, take, drop, drop-of-length-le, length-drop}
 use lib.Seq.{drop-cons, take-suc, getD-drop}
-use Rattle.spec_token.specs.Token.{Quoted, closed, broken, unclosed, also, quoted}
+use Rattle.spec_token.specs.Scanner.{Quoted, closed, broken, unclosed, also, quoted}
 
 -- more text in front
 abbrev pub front : List ℕ → Quoted → Quoted

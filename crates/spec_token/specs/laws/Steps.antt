@@ -10,9 +10,10 @@ use lib.Seq.{drop-cons, length-take-le}
 use Rattle.spec_lists.specs.Text.{among}
 use Rattle.spec_lists.specs.Select.{run, after}
 use Rattle.spec_token.specs.declared.Kind.the-variants.{String}
-use Rattle.spec_token.specs.Word.{blank, newline, name-byte, word-kind}
-use Rattle.spec_token.specs.Token.{Token, Tokens, tokens, bad, then, Quoted, closed, broken, unclosed, also, quoted, alone, punctuation, Lexeme}
-use Rattle.spec_token.specs.Token.{nothing, comment, quote, stop, word, wrong, lexeme-of, other, scan, scan-from}
+use Rattle.spec_token.specs.Word.{blank, newline, name-byte}
+use Rattle.spec_token.specs.Token.{Token, Tokens, tokens, bad, then}
+use Rattle.spec_token.specs.Scanner.{word-kind, Quoted, closed, broken, unclosed, also, quoted, alone, punctuation, Lexeme}
+use Rattle.spec_token.specs.Scanner.{nothing, comment, quote, stop, word, wrong, lexeme-of, other, scan, scan-from}
 use Rattle.spec_token.specs.Spans.{Span}
 use Rattle.spec_token.specs.laws.Spans.{after-short, span-run, span-after}
 
@@ -99,19 +100,19 @@ steady (suc n) (suc m) p (b ∷ s) h l =
     ap (then (record { kind = word-kind w; place = p; text = w })) (steady n m (p + length w) (after name-byte (b ∷ s)) (omega arith) (omega arith)))
 
 module _ (n p b : ℕ) (s : List ℕ) where
-  step-nothing : lexeme-of b ≡ nothing → scan (suc n) p (b ∷ s) ≡ scan n (p + 1) s
+  pub step-nothing : lexeme-of b ≡ nothing → scan (suc n) p (b ∷ s) ≡ scan n (p + 1) s
   unfolding scan
   step-nothing e = rw (e, scan)
 
-  step-comment : lexeme-of b ≡ comment → scan (suc n) p (b ∷ s) ≡ scan n (p + 1 + length (run other s)) (after other s)
+  pub step-comment : lexeme-of b ≡ comment → scan (suc n) p (b ∷ s) ≡ scan n (p + 1 + length (run other s)) (after other s)
   unfolding scan
   step-comment e = rw (e, scan)
 
-  step-stop : lexeme-of b ≡ stop → scan (suc n) p (b ∷ s) ≡ then (record { kind = punctuation b; place = p; text = b ∷ [] }) (scan n (p + 1) s)
+  pub step-stop : lexeme-of b ≡ stop → scan (suc n) p (b ∷ s) ≡ then (record { kind = punctuation b; place = p; text = b ∷ [] }) (scan n (p + 1) s)
   unfolding scan
   step-stop e = rw (e, scan)
 
-  step-word :
+  pub step-word :
       lexeme-of b ≡ word
       → scan (suc n) p (b ∷ s)
       ≡ then
@@ -120,25 +121,25 @@ module _ (n p b : ℕ) (s : List ℕ) where
   unfolding scan
   step-word e = rw (e, scan)
 
-  step-wrong : lexeme-of b ≡ wrong → scan (suc n) p (b ∷ s) ≡ bad p
+  pub step-wrong : lexeme-of b ≡ wrong → scan (suc n) p (b ∷ s) ≡ bad p
   unfolding scan
   step-wrong e = rw (e, scan)
 
-  step-closed :
+  pub step-closed :
       (t r : List ℕ) → lexeme-of b ≡ quote → quoted false (p + 1) s ≡ closed t r
       → scan (suc n) p (b ∷ s) ≡ then (record { kind = String; place = p; text = t }) (scan n (p + 2 + length t) r)
   unfolding scan
   step-closed t r e q = rw (e, scan, q)
 
-  step-broken : (z : ℕ) → lexeme-of b ≡ quote → quoted false (p + 1) s ≡ broken z → scan (suc n) p (b ∷ s) ≡ bad z
+  pub step-broken : (z : ℕ) → lexeme-of b ≡ quote → quoted false (p + 1) s ≡ broken z → scan (suc n) p (b ∷ s) ≡ bad z
   unfolding scan
   step-broken z e q = rw (e, scan, q)
 
-  step-unclosed : lexeme-of b ≡ quote → quoted false (p + 1) s ≡ unclosed → scan (suc n) p (b ∷ s) ≡ bad p
+  pub step-unclosed : lexeme-of b ≡ quote → quoted false (p + 1) s ≡ unclosed → scan (suc n) p (b ∷ s) ≡ bad p
   unfolding scan
   step-unclosed e q = rw (e, scan, q)
 
-none-left : (n p : ℕ) → scan n p [] ≡ tokens []
+pub none-left : (n p : ℕ) → scan n p [] ≡ tokens []
 unfolding scan
 none-left zero p = refl
 none-left (suc n) p = refl
