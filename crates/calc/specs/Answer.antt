@@ -11,8 +11,8 @@ use Rattle.spec_calc.specs.Symbol.{start}
 use Rattle.spec_calc.specs.Expression.{Tree}
 use Rattle.spec_calc.specs.Value.{letters, near-one}
 use Rattle.calc.specs.declared.Inputs.{Inputs}
-use Rattle.calc_value.specs.declared.Worth.{Worth}
-use Rattle.calc_value.specs.declared.Worth.the-variants as worths
+use Rattle.calc_value.specs.declared.Computed.{Computed}
+use Rattle.calc_value.specs.declared.Computed.the-variants as outcome
 use Rattle.calc_value.specs.Parse.{value-with}
 
 -- a letter is among those given
@@ -58,6 +58,6 @@ true-with values goods o = holds-of o (λ t. all (given-letter goods) (letters t
 abbrev pub true-for : Inputs → Option Tree → Bool
 true-for x o = true-with (x .values) (x .good) o
 
-abbrev pub near-worth : Worth → Bool
-near-worth worths.NoCalculation = false
-near-worth (worths.Is v) = near-one v
+abbrev pub near-computed : Computed → Bool
+near-computed outcome.NoCalculation = false
+near-computed (outcome.Is v) = near-one v

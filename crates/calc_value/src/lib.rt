@@ -6,7 +6,7 @@ ghost use lib.ListN.{length};
 ghost use Rattle.spec_calc.specs.Expression.{Tree, longest-calculation};
 ghost use Rattle.spec_calc.specs.Reader.{wanted, have, tree-of};
 ghost use Rattle.calc_value.specs.Parse.{value-with, Parses-as, Continues-as, in-if, in-else};
-ghost use Rattle.calc_value.specs.Answer.{worth};
+ghost use Rattle.calc_value.specs.Answer.{computed};
 use calc_symbol::First;
 use calc_symbol::Joint;
 use calc_symbol::Place;
@@ -21,8 +21,8 @@ pub enum Parsed {
     Bad,
 }
 
-// The value of a calculation, if a text is one.
-pub enum Worth {
+// The value of a calculation, if a text is one, whatever its readings.
+pub enum Computed {
     NoCalculation,
     Is(f64),
 }
@@ -106,20 +106,20 @@ fn operand(s: &[u8], vs: &[f64; 21], at: usize) -> Parsed
 }
 
 // The value of a whole text, the letters having the values vs. calc calls it with an array of 21.
-pub fn worth_of(s: &[u8], vs: &[f64; 21]) -> Worth
+pub fn compute(s: &[u8], vs: &[f64; 21]) -> Computed
     requires { ⌜ length (now vs) ≡ 21 ⌝ }
-    ensures { λ r. ⌜ r ≡ worth (map Reading.Value (now (vs .entry))) (tree-of (now (s .entry))) ⌝ }
+    ensures { λ r. ⌜ r ≡ computed (map Reading.Value (now (vs .entry))) (tree-of (now (s .entry))) ⌝ }
 {
     if LONGEST < s.len() {
-        return Worth::NoCalculation;
+        return Computed::NoCalculation;
     }
     match expression(s, vs, 0, 0) {
-        Parsed::Bad => Worth::NoCalculation,
+        Parsed::Bad => Computed::NoCalculation,
         Parsed::Value(v, n) => {
             if calc_symbol::is_end(s, n) {
-                Worth::Is(v)
+                Computed::Is(v)
             } else {
-                Worth::NoCalculation
+                Computed::NoCalculation
             }
         }
     }
