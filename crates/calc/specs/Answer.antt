@@ -6,8 +6,9 @@ use Prim.Native.Nat.{ℕ}
 use lib.ListN.{getD}
 use lib.Ieee.{Float}
 use Rattle.spec_lists.specs.Select.{all, holds-of}
-use Rattle.spec_calc.specs.Symbol.{Symbol, number, letter, operator, not-sign, question, colon, open-paren, close-paren, Start, blank, figure, wrong, sign}
-use Rattle.spec_calc.specs.Symbol.{start}
+use Rattle.spec_calc.specs.Symbol.{Symbol, number, letter, operator, not-sign, question, colon, open-paren, close-paren}
+use Rattle.spec_calc.specs.Scanner.{Start, blank, figure, wrong, sign}
+use Rattle.spec_calc.specs.Scanner.{start}
 use Rattle.spec_calc.specs.Expression.{Tree}
 use Rattle.spec_calc.specs.Value.{letters, near-one}
 use Rattle.calc.specs.declared.Inputs.{Inputs}
@@ -45,10 +46,6 @@ letter-begun (sign x m) = letter-of x
 unfoldable pub byte-letters : List ℕ → List ℕ
 byte-letters [] = []
 byte-letters (b ∷ s) = letter-begun (start b []) ++ byte-letters s
-
--- there are symbols, and their letters are given
-abbrev pub symbols-given : List Bool → Option (List Symbol) → Bool
-symbols-given given o = holds-of o (λ ss. all (given-letter given) (letters-in ss))
 
 -- a calculation is true of the letters' values and of which are good
 abbrev pub true-with : List Float → List Bool → Option Tree → Bool

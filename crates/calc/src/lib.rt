@@ -4,7 +4,7 @@ ghost use mathlib.Core.Bool.{false, not};
 ghost use mathlib.Core.List.{[], map};
 ghost use lib.ListN.{length, getD};
 ghost use Rattle.spec_lists.specs.Select.{all, missing, holds-of};
-ghost use Rattle.spec_calc.specs.Symbol.{start};
+ghost use Rattle.spec_calc.specs.Scanner.{start};
 ghost use Rattle.spec_calc.specs.Value.{heard, good, letters, worth};
 ghost use Rattle.spec_calc.specs.Reader.{tree-of};
 ghost use Rattle.spec_rule.specs.Rule.{true-tree};

@@ -1,13 +1,12 @@
 -- The grammar of a calculation by 01's levels, as productions. No reader stands here.
 use mathlib.Core.Path.{_≡_}
 use mathlib.Core.List.{List, [], _∷_}
-use mathlib.Core.Option.{some}
 use Prim.Native.Nat.{ℕ, suc, _≤_}
 use lib.ListN.{length}
 use lib.Ieee.{Float}
 use Rattle.spec_calc.specs.declared.Operator.{Operator}
 use Rattle.spec_calc.specs.declared.Operator.the-variants.{Or, And, Less, AtMost, More, AtLeast, Equal, Differs, Plus, Minus, Times, Over}
-use Rattle.spec_calc.specs.Symbol.{Symbol, number, letter, operator, not-sign, question, colon, open-paren, close-paren, symbols}
+use Rattle.spec_calc.specs.Symbol.{Symbol, number, letter, operator, not-sign, question, colon, open-paren, close-paren, Spells}
 
 -- what a calculation says
 pub data Tree : Type 0 where
@@ -74,5 +73,5 @@ longest-calculation = 79
 pub record Parses (s : List ℕ) (t : Tree) : Type 0 where
   pub short : length s ≤ longest-calculation
   pub spelled : List Symbol
-  pub spelling : symbols s ≡ some spelled
+  pub spelling : Spells s spelled
   pub derived : Expression spelled [] t

@@ -7,7 +7,8 @@ use lib.Dec.{leb}
 use lib.ListN.{length}
 use Rattle.spec_calc.specs.declared.Operator.{Operator}
 use Rattle.spec_calc.specs.declared.Operator.the-variants.{Or, And, Less, AtMost, More, AtLeast, Equal, Differs, Plus, Minus, Times, Over}
-use Rattle.spec_calc.specs.Symbol.{Symbol, number, letter, operator, not-sign, question, colon, open-paren, close-paren, symbols}
+use Rattle.spec_calc.specs.Symbol.{Symbol, number, letter, operator, not-sign, question, colon, open-paren, close-paren}
+use Rattle.spec_calc.specs.Scanner.{symbols}
 use Rattle.spec_calc.specs.Expression.{Tree, number-tree, letter-tree, minus, negation, binary, choice, level, prefix-level, longest-calculation}
 
 -- a tree that lacks its last part: a prefix, an operator with its left side, a condition with its first branch

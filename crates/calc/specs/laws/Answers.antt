@@ -17,7 +17,7 @@ use Rattle.spec_lists.specs.Select.{all, holds-of, missing}
 use Rattle.spec_calc.specs.declared.Reading.{Reading}
 use Rattle.spec_calc.specs.declared.Reading.the-variants as readings
 use Rattle.spec_calc.specs.declared.Worth.the-variants as worths
-use Rattle.spec_calc.specs.Symbol.{start}
+use Rattle.spec_calc.specs.Scanner.{start}
 use Rattle.spec_calc.specs.Expression.{Tree, number-tree, letter-tree, minus, negation, binary, choice}
 use Rattle.spec_calc.specs.Value.{heard, good, reading, value, letters, near-one, worth}
 use Rattle.spec_calc.specs.Reader.{tree-of}

@@ -8,7 +8,8 @@ use native.Mathlib.Omega.{arith}
 use lib.ListN.{length}
 use lib.Ieee.{Float}
 use Rattle.spec_calc.specs.declared.Reading.the-variants as readings
-use Rattle.spec_calc.specs.Symbol.{Symbol, symbols}
+use Rattle.spec_calc.specs.Symbol.{Symbol}
+use Rattle.spec_calc.specs.Scanner.{symbols}
 use Rattle.spec_calc.specs.Expression.{longest-calculation}
 use Rattle.spec_calc.specs.Reader.{wanted, reduce, run, read-spelled, tree-of}
 use Rattle.spec_calc.specs.laws.Theorem.{short-tree, long-tree}

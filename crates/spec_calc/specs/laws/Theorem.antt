@@ -8,11 +8,13 @@ use native.Mathlib.Omega.{arith}
 use borrow.Author.Tests.{leb-true, le-leb, lt-leb}
 use lib.Dec.{leb}
 use lib.ListN.{length}
-use Rattle.spec_calc.specs.Symbol.{Symbol, symbols, symbols-in}
+use Rattle.spec_calc.specs.Symbol.{Symbol}
+use Rattle.spec_calc.specs.Scanner.{symbols, symbols-in}
 use Rattle.spec_calc.specs.Expression.{Tree, Expression, longest-calculation, Parses}
 use Rattle.spec_calc.specs.Reader.{reduce, run, read-tree, read-spelled, tree-of}
 use Rattle.spec_calc.specs.laws.Complete.{expression-read}
 use Rattle.spec_calc.specs.laws.Sound.{Derived, read-derived}
+use Rattle.spec_calc.specs.laws.Spelling.{spells-sound, spells-complete}
 
 pub read-sound : (ss : List Symbol) (t : Tree) → read-tree ss ≡ some t → Expression ss [] t
 read-sound ss t e = subst (Derived ss) e (read-derived ss)
@@ -40,11 +42,11 @@ parses-sound s t e = go (leb (length s) longest-calculation) (symbols s) refl re
     go false o l p e = absurd (Option·some-ne-none t (sym e))
     go true none l p e = absurd (Option·some-ne-none t (sym e))
     go true (some ss) l p e =
-        record { short = leb-true (length s) longest-calculation l; spelled = ss; spelling = p; derived = read-sound ss t e }
+        record { short = leb-true (length s) longest-calculation l; spelled = ss; spelling = spells-sound s p; derived = read-sound ss t e }
 
 pub parses-complete : (s : List ℕ) (t : Tree) → Parses s t → tree-of s ≡ some t
 unfolding tree-of
-parses-complete s t y = short-tree s (y .short) ∙ (ap read-spelled (y .spelling) ∙ read-complete (y .spelled) t (y .derived))
+parses-complete s t y = short-tree s (y .short) ∙ (ap read-spelled (spells-complete (y .spelling)) ∙ read-complete (y .spelled) t (y .derived))
 
 pub one-tree : (s : List ℕ) (t u : Tree) → Parses s t → Parses s u → t ≡ u
 one-tree s t u y z = cc (parses-complete s t y, parses-complete s u z)
