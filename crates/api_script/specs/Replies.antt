@@ -2,13 +2,13 @@
 use mathlib.Core.Path.{_≡_}
 use mathlib.Core.List.{List, []}
 use Prim.Native.Nat.{ℕ}
+use Rattle.spec_calc.specs.Value.{worth}
 use Rattle.spec_calc.specs.Reader.{tree-of}
 use Rattle.spec_table.specs.Check.{is-table}
 use Rattle.spec_load.specs.Load.{load}
 use Rattle.spec_load.specs.Listing.{listing}
 use Rattle.spec_decision.specs.Decision.{decide}
 use Rattle.spec_decision.specs.LookUp.{look-up}
-use Rattle.calc_value.specs.Answer.{worth}
 use Rattle.spec_demand.specs.Calls.{Call, load-text, list-warnings, calculate, check-table, ask, look-up-input, after-call}
 use Rattle.api_script.specs.declared.Reply.{Reply}
 use Rattle.api_script.specs.declared.Reply.the-variants as reply

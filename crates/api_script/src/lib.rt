@@ -1,5 +1,5 @@
 // A script of calls in numbers: its words and texts, and what its calls answer.
-use calc_value::Worth;
+use spec_calc::Worth;
 use spec_decision::Answer;
 use spec_decision::Found;
 use spec_load::Listed;

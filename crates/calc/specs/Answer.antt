@@ -6,13 +6,14 @@ use Prim.Native.Nat.{ℕ}
 use lib.ListN.{getD}
 use lib.Ieee.{Float}
 use Rattle.spec_lists.specs.Select.{all, holds-of}
-use Rattle.spec_calc.specs.Symbol.{Symbol, number, letter, operator, not-sign, question, colon, open-paren, close-paren, Start, blank, figure, wrong, sign}
-use Rattle.spec_calc.specs.Symbol.{start}
+use Rattle.spec_calc.specs.Symbol.{Symbol, number, letter, operator, not-sign, question, colon, open-paren, close-paren}
+use Rattle.spec_calc.specs.Scanner.{Start, blank, figure, wrong, sign}
+use Rattle.spec_calc.specs.Scanner.{start}
 use Rattle.spec_calc.specs.Expression.{Tree}
 use Rattle.spec_calc.specs.Value.{letters, near-one}
 use Rattle.calc.specs.declared.Inputs.{Inputs}
-use Rattle.calc_value.specs.declared.Worth.{Worth}
-use Rattle.calc_value.specs.declared.Worth.the-variants as worths
+use Rattle.calc_value.specs.declared.Computed.{Computed}
+use Rattle.calc_value.specs.declared.Computed.the-variants as outcome
 use Rattle.calc_value.specs.Parse.{value-with}
 
 -- a letter is among those given
@@ -46,10 +47,6 @@ unfoldable pub byte-letters : List ℕ → List ℕ
 byte-letters [] = []
 byte-letters (b ∷ s) = letter-begun (start b []) ++ byte-letters s
 
--- there are symbols, and their letters are given
-abbrev pub symbols-given : List Bool → Option (List Symbol) → Bool
-symbols-given given o = holds-of o (λ ss. all (given-letter given) (letters-in ss))
-
 -- a calculation is true of the letters' values and of which are good
 abbrev pub true-with : List Float → List Bool → Option Tree → Bool
 true-with values goods o = holds-of o (λ t. all (given-letter goods) (letters t) && near-one (value-with values t))
@@ -58,6 +55,6 @@ true-with values goods o = holds-of o (λ t. all (given-letter goods) (letters t
 abbrev pub true-for : Inputs → Option Tree → Bool
 true-for x o = true-with (x .values) (x .good) o
 
-abbrev pub near-worth : Worth → Bool
-near-worth worths.NoCalculation = false
-near-worth (worths.Is v) = near-one v
+abbrev pub near-computed : Computed → Bool
+near-computed outcome.NoCalculation = false
+near-computed (outcome.Is v) = near-one v

@@ -4,15 +4,15 @@ ghost use mathlib.Core.Bool.{false, not};
 ghost use mathlib.Core.List.{[], map};
 ghost use lib.ListN.{length, getD};
 ghost use Rattle.spec_lists.specs.Select.{all, missing, holds-of};
-ghost use Rattle.spec_calc.specs.Symbol.{start};
-ghost use Rattle.spec_calc.specs.Value.{heard, good, letters};
+ghost use Rattle.spec_calc.specs.Scanner.{start};
+ghost use Rattle.spec_calc.specs.Value.{heard, good, letters, worth};
 ghost use Rattle.spec_calc.specs.Reader.{tree-of};
 ghost use Rattle.spec_rule.specs.Rule.{true-tree};
-ghost use Rattle.calc_value.specs.Answer.{worth};
-ghost use Rattle.calc.specs.Answer.{given-letter, letter-begun, byte-letters, true-with, true-for, near-worth};
+ghost use Rattle.calc.specs.Answer.{given-letter, letter-begun, byte-letters, true-with, true-for, near-computed};
 use calc_symbol::Class;
-use calc_value::Worth;
+use calc_value::Computed;
 use spec_calc::Reading;
+use spec_calc::Worth;
 
 // The inputs of a question: the value of each letter, and whether it is good.
 pub struct Inputs {
@@ -25,9 +25,9 @@ pub fn allowed(s: &[u8]) -> bool
     ensures { λ r. ⌜ r ≡ not (missing (tree-of (now (s .entry)))) ⌝ }
 {
     let vs = [0.0; 21];
-    match calc_value::worth_of(s, &vs) {
-        Worth::Is(_) => true,
-        Worth::NoCalculation => false,
+    match calc_value::compute(s, &vs) {
+        Computed::Is(_) => true,
+        Computed::NoCalculation => false,
     }
 }
 
@@ -103,22 +103,32 @@ pub fn inputs_of(rs: [Reading; 21]) -> Inputs
     Inputs { values, good }
 }
 
-// The value of a text, whether or not its letters are good.
+// What a text comes to: bad if any letter of it is, in either branch.
 pub fn value(s: &[u8], rs: [Reading; 21]) -> Worth
     ensures { λ r. ⌜ r ≡ worth rs (tree-of (now (s .entry))) ⌝ }
 {
     let inputs = inputs_of(rs);
+    let good = inputs.good;
     let values = inputs.values;
-    calc_value::worth_of(s, &values)
+    match calc_value::compute(s, &values) {
+        Computed::NoCalculation => Worth::NoCalculation,
+        Computed::Is(v) => {
+            if letters_given(s, &good) {
+                Worth::Is(v)
+            } else {
+                Worth::Bad
+            }
+        }
+    }
 }
 
 // Whether there is a value, and it counts as true.
-fn near(w: Worth) -> bool
-    ensures { λ r. ⌜ r ≡ near-worth w ⌝ }
+fn near(w: Computed) -> bool
+    ensures { λ r. ⌜ r ≡ near-computed w ⌝ }
 {
     match w {
-        Worth::Is(v) => calc_arith::near_one(v),
-        Worth::NoCalculation => false,
+        Computed::Is(v) => calc_arith::near_one(v),
+        Computed::NoCalculation => false,
     }
 }
 
@@ -129,7 +139,7 @@ pub fn holds_with(s: &[u8], values: &[f64; 21], goods: &[bool; 21]) -> bool
     ensures { λ r. ⌜ r ≡ true-with (now (values .entry)) (now (goods .entry)) (tree-of (now (s .entry))) ⌝ }
 {
     if letters_given(s, goods) {
-        near(calc_value::worth_of(s, values))
+        near(calc_value::compute(s, values))
     } else {
         false
     }

@@ -6,7 +6,8 @@ use Prim.Native.Nat.{ℕ, _+_, _-_, _^_, _≤_, _<_}
 use lib.ListN.{length, drop}
 use Rattle.spec_lists.specs.Text.{bytes, digit, whole}
 use Rattle.spec_lists.specs.Select.{run, after}
-use Rattle.spec_calc.specs.Symbol.{numeral, numeral-byte, pointed}
+use Rattle.spec_calc.specs.Symbol.{numeral-byte}
+use Rattle.spec_calc.specs.Scanner.{numeral, pointed}
 use Rattle.calc_numeral.specs.declared.Digits.{Digits}
 use Rattle.calc_numeral.specs.declared.Digits.the-variants.{Are, TooMany}
 use Rattle.calc_numeral.specs.declared.Figure.{Figure}

@@ -6,7 +6,8 @@ use mathlib.Core.Option.{Option, none, some}
 use Prim.Native.Nat.{ℕ, _≤_, _<_}
 use Rattle.spec_calc.specs.declared.Operator.the-variants as operators
 use Rattle.spec_lists.specs.Text.{bytes}
-use Rattle.spec_calc.specs.Symbol.{Symbol, number, letter, operator, not-sign, question, open-paren, sign, start}
+use Rattle.spec_calc.specs.Symbol.{Symbol, number, letter, operator, not-sign, question, open-paren}
+use Rattle.spec_calc.specs.Scanner.{sign, start}
 use Rattle.spec_calc.specs.Expression.{Tree, level}
 use Rattle.spec_calc.specs.Reader.{begun, paren, if-of, Stack, State, wanted, have, run, first-ends}
 use Rattle.calc_symbol.specs.declared.First.{First}

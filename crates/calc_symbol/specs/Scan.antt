@@ -7,8 +7,9 @@ use Prim.Native.Nat.{ℕ, _+_, _≤_, _<_}
 use lib.ListN.{length, take, drop, getD}
 use Rattle.spec_lists.specs.Text.{same, among}
 use Rattle.spec_lists.specs.Select.{first}
-use Rattle.spec_calc.specs.Symbol.{Symbol, letter, operator, not-sign, question, colon, open-paren, close-paren, spellings, Start, blank, figure, wrong, sign}
-use Rattle.spec_calc.specs.Symbol.{sign-of, start, then, symbols}
+use Rattle.spec_calc.specs.Symbol.{Symbol, letter, operator, not-sign, question, colon, open-paren, close-paren, spellings}
+use Rattle.spec_calc.specs.Scanner.{Start, blank, figure, wrong, sign}
+use Rattle.spec_calc.specs.Scanner.{sign-of, start, spelling, then, symbols}
 use Rattle.calc_symbol.specs.declared.Class.{Class}
 use Rattle.calc_symbol.specs.declared.Class.the-variants as class
 use Rattle.calc_symbol.specs.declared.Sign.{Sign}
@@ -31,11 +32,7 @@ symbol-of code.Colon = colon
 symbol-of code.Open = open-paren
 symbol-of code.Close = close-paren
 
--- the spelling that begins a text
-unfoldable pub spelling : ℕ → List ℕ → Start
-spelling b s = sign-of (first (λ x. same (x .spelled) (take (length (x .spelled)) (b ∷ s))) spellings)
-
--- the same among the spellings of one byte, which stand last
+-- the spelling that begins a text among those of one byte, which stand last
 unfoldable pub single : ℕ → Start
 single b = sign-of (first (λ x. same (x .spelled) (take (length (x .spelled)) (b ∷ []))) (drop 6 spellings))
 

@@ -4,10 +4,10 @@ use mathlib.Core.Option.{Option, none, some}
 use Rattle.spec_calc.specs.declared.Reading.{Reading}
 use Rattle.spec_calc.specs.Expression.{Tree}
 use Rattle.spec_calc.specs.Value.{value}
-use Rattle.calc_value.specs.declared.Worth.{Worth}
-use Rattle.calc_value.specs.declared.Worth.the-variants as worths
+use Rattle.calc_value.specs.declared.Computed.{Computed}
+use Rattle.calc_value.specs.declared.Computed.the-variants as outcome
 
 -- the value of a calculation, if there is one
-abbrev pub worth : List Reading → Option Tree → Worth
-worth rs none = worths.NoCalculation
-worth rs (some t) = worths.Is (value rs t)
+abbrev pub computed : List Reading → Option Tree → Computed
+computed rs none = outcome.NoCalculation
+computed rs (some t) = outcome.Is (value rs t)

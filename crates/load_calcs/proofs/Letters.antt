@@ -13,10 +13,8 @@ use Rattle.spec_calc.specs.Value.{letters}
 use Rattle.spec_calc.specs.Reader.{tree-of}
 use Rattle.spec_calc.specs.laws.Theorem.{parses-sound}
 use Rattle.spec_file.specs.Refusal.{letters-among}
-use Rattle.calc_symbol.specs.Scan.{syms}
-use Rattle.calc.specs.Answer.{symbols-given}
-use Rattle.calc.specs.laws.Letters.{letters-same}
-use Rattle.load_calcs.specs.laws.Letter.{in-range, text-in-range}
+use Rattle.calc.specs.laws.Letters.{parsed-letters}
+use Rattle.load_calcs.specs.laws.Letter.{in-range, spells-in-range}
 
 in-range-below : (i : ℕ) → in-range i ≡ true → i < 21
 in-range-below i e = go (ltb i 21) refl
@@ -26,10 +24,7 @@ in-range-below i e = go (ltb i 21) refl
     go false f = absurd (false≢true (sym (List·getD-eq-default (replicate 21 true) false {n = i} (ltb-false i 21 f)) ∙ e))
 
 tree-in-range : (s : List ℕ) (t : Tree) → tree-of s ≡ some t → all in-range (letters t) ≡ true
-unfolding syms
-tree-in-range s t e =
-    let y = parses-sound s t e in
-    sym (letters-same s t e (replicate 21 true)) ∙ ap (symbols-given (replicate 21 true)) (y .spelling) ∙ rw (y .spelling) at (text-in-range s)
+tree-in-range s t e = let y = parses-sound s t e in ap (all in-range) (sym (parsed-letters s t y)) ∙ spells-in-range (y .spelling)
 
 all-agree : (p q : ℕ → Bool) → ((i : ℕ) → i < 21 → p i ≡ q i) → (ls : List ℕ) → all in-range ls ≡ true → all p ls ≡ all q ls
 all-agree p q a [] e = refl

@@ -8,7 +8,7 @@ use Prim.Native.Char.{code}
 use Rattle.spec_lists.specs.Text.{bytes, same, among, within}
 use Rattle.spec_calc.specs.declared.Reading.{Reading}
 use Rattle.spec_calc.specs.declared.Reading.the-variants.{Invalid, Value}
-use Rattle.spec_calc.specs.Symbol.{numeral}
+use Rattle.spec_calc.specs.Scanner.{numeral}
 
 abbrev pub valued : Option Float → Option Reading
 valued none = none

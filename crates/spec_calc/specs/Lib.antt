@@ -2,5 +2,6 @@ pub mod Symbol
 pub mod Expression
 pub mod Value
 pub mod Readings
+pub mod Scanner
 pub mod Reader
 pub mod laws

@@ -1,16 +1,15 @@
--- The symbols of a calculation's text. 01, "The calculation".
-use mathlib.Core.Bool.{Bool, _&&_, _||_, cond}
-use mathlib.Core.List.{List, [], _∷_, _++_}
-use mathlib.Core.Option.{Option, none, some}
-use Prim.Native.Nat.{ℕ, zero, suc, _+_, _-_, _^_}
+-- The symbols of a calculation's text. 01, "The calculation". No scanner stands here.
+use mathlib.Core.Path.{_≡_}
+use mathlib.Core.Bool.{Bool, true, _||_}
+use mathlib.Core.List.{List, [], _∷_, _++_, List·Memᴰ}
+use Prim.Native.Nat.{ℕ, _+_, _-_, _^_, _≤_}
 use Prim.Native.Char.{code}
-use lib.Dec.{leb}
 use Prim.Native.String.{String}
-use lib.ListN.{length, take, drop}
+use lib.ListN.{length}
 use lib.IntN.{pos}
 use lib.Ieee.{Float, binary64, ofInt, div}
-use Rattle.spec_lists.specs.Text.{bytes, same, among, within, digit, whole}
-use Rattle.spec_lists.specs.Select.{all, first, run, after}
+use Rattle.spec_lists.specs.Text.{bytes, among, within, digit, whole}
+use Rattle.spec_lists.specs.Select.{all, run, after}
 use Rattle.spec_calc.specs.declared.Operator.{Operator}
 use Rattle.spec_calc.specs.declared.Operator.the-variants.{Or, And, Less, AtMost, More, AtLeast, Equal, Differs, Plus, Minus, Times, Over}
 
@@ -28,20 +27,19 @@ decimal n places = div binary64 (ofInt binary64 (pos n)) (ofInt binary64 (pos (1
 abbrev pub most-digits : ℕ
 most-digits = 15
 
--- whole digits, and the digits behind the point
-abbrev pub within-digits : List ℕ → List ℕ → Option Float
-within-digits w f = cond (leb (length w + length f) most-digits) (some (decimal (whole 0 (w ++ f)) (length f))) none
+-- one digit or more
+abbrev pub Digits : List ℕ → Type 0
+Digits w = (all digit w ≡ true) × (1 ≤ length w)
 
--- the whole digits w, and then the rest: nothing, or a point and digits
-abbrev pub pointed : List ℕ → List ℕ → Option Float
-pointed w [] = within-digits w []
-pointed w (b ∷ []) = none
-pointed w (b ∷ d ∷ ds) = cond (among "." b && all digit (d ∷ ds)) (within-digits w (d ∷ ds)) none
+-- 01: "A number is digits, digits with a point and digits, or a point and digits: 15 digits at most." And what is its value.
+pub data Number : List ℕ → Float → Type 0 where
+  whole-number : {w : List ℕ} → Digits w → length w ≤ most-digits → Number w (decimal (whole 0 w) 0)
+  with-point :
+      (w f : List ℕ) {s : List ℕ} → Digits w → Digits f → s ≡ w ++ (code "." ∷ f) → length w + length f ≤ most-digits
+      → Number s (decimal (whole 0 (w ++ f)) (length f))
+  behind-point : {f : List ℕ} → Digits f → length f ≤ most-digits → Number (code "." ∷ f) (decimal (whole 0 f) (length f))
 
--- 01: "A number is digits, digits with a point and digits, or a point and digits: 15 digits at most."
-abbrev pub numeral : List ℕ → Option Float
-numeral s = pointed (run digit s) (after digit s)
-
+-- what numbers are spelled with
 abbrev pub numeral-byte : ℕ → Bool
 numeral-byte b = digit b || among "." b
 
@@ -53,7 +51,7 @@ pub record Spelling : Type 0 where
 abbrev pub spell : String → Symbol → Spelling
 spell s x = record { spelled = bytes s; symbol = x }
 
--- 01: "`c ? x : y` [..]; `||`; `&&`; `< <= > >= = == # !=`; `+ -`; `* /`; prefixes `-` and `!`, [..] parentheses", "Longest operator first."
+-- 01: "`c ? x : y` [..]; `||`; `&&`; `< <= > >= = == # !=`; `+ -`; `* /`; prefixes `-` and `!`, [..] parentheses"
 abbrev pub spellings : List Spelling
 spellings =
     spell "||" (operator Or)
@@ -77,44 +75,40 @@ spellings =
     ∷ spell ")" close-paren
     ∷ []
 
--- what a text begins with: a blank, a number, a symbol and how many bytes stand behind its first, or nothing that is allowed
-pub data Start : Type 0 where
-  blank figure wrong : Start
-  sign : Symbol → ℕ → Start
+-- the bytes w spell the sign x
+abbrev pub Spelled : List ℕ → Symbol → Type 0
+Spelled w x = List·Memᴰ (record { spelled = w; symbol = x }) spellings
 
-abbrev pub sign-of : Option Spelling → Start
-sign-of none = wrong
-sign-of (some x) = sign (x .symbol) (length (x .spelled) - 1)
+-- 01: "Longest operator first.": no longer sign begins the text s
+abbrev pub Longest : List ℕ → List ℕ → Type 0
+Longest w s = (v r : List ℕ) (y : Symbol) → s ≡ v ++ r → Spelled v y → length v ≤ length w
 
--- 01: "Space and tab are skipped.", "letter A to U in either case"
-abbrev pub start : ℕ → List ℕ → Start
-start b s =
-    cond (among " \t" b) blank
-    (cond (numeral-byte b) figure
-    (cond (within (code "A") (code "U") b) (sign (letter (b - code "A")) 0)
-    (cond (within (code "a") (code "u") b) (sign (letter (b - code "a")) 0)
-    (sign-of (first (λ x. same (x .spelled) (take (length (x .spelled)) (b ∷ s))) spellings)))))
-
-abbrev pub then : Symbol → Option (List Symbol) → Option (List Symbol)
-then x none = none
-then x (some xs) = some (x ∷ xs)
-
-abbrev pub then-number : Option Float → Option (List Symbol) → Option (List Symbol)
-then-number none xs = none
-then-number (some v) xs = then (number v) xs
-
--- The symbols of a text, if it has no others. The number bounds the steps: each takes a byte, so a text's length is enough.
-unfoldable pub symbols-in : ℕ → List ℕ → Option (List Symbol)
-symbols-in zero [] = some []
-symbols-in zero (b ∷ s) = none
-symbols-in (suc n) [] = some []
-symbols-in (suc n) (b ∷ s) =
-    elim (start b s) [
-      | blank ↦ symbols-in n s
-      | figure ↦ then-number (numeral (run numeral-byte (b ∷ s))) (symbols-in n (after numeral-byte (b ∷ s)))
-      | wrong ↦ none
-      | sign x more ↦ then x (symbols-in n (drop more s))
-    ]
-
-abbrev pub symbols : List ℕ → Option (List Symbol)
-symbols s = symbols-in (length s) s
+-- the text s has the symbols xs
+pub data Spells : List ℕ → List Symbol → Type 0 where
+  end : Spells [] []
+  -- 01: "Space and tab are skipped."
+  skipped : {b : ℕ} {s : List ℕ} {xs : List Symbol} → among " \t" b ≡ true → Spells s xs → Spells (b ∷ s) xs
+  -- all digits and points that stand together are one number, or none
+  numbered :
+      {s : List ℕ} {v : Float} {xs : List Symbol}
+      → Number (run numeral-byte s) v
+      → Spells (after numeral-byte s) xs
+      → Spells s (number v ∷ xs)
+  -- 01: "letter A to U in either case"
+  capital :
+      {b : ℕ} {s : List ℕ} {xs : List Symbol}
+      → within (code "A") (code "U") b ≡ true
+      → Spells s xs
+      → Spells (b ∷ s) (letter (b - code "A") ∷ xs)
+  small :
+      {b : ℕ} {s : List ℕ} {xs : List Symbol}
+      → within (code "a") (code "u") b ≡ true
+      → Spells s xs
+      → Spells (b ∷ s) (letter (b - code "a") ∷ xs)
+  signed :
+      {s w r : List ℕ} {x : Symbol} {xs : List Symbol}
+      → s ≡ w ++ r
+      → Spelled w x
+      → Longest w s
+      → Spells r xs
+      → Spells s (x ∷ xs)

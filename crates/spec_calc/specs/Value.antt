@@ -1,6 +1,7 @@
 -- The value of a calculation, and when it is true. 01, "The calculation".
 use mathlib.Core.Bool.{Bool, true, false, cond, not, _&&_, _||_}
 use mathlib.Core.List.{List, [], _∷_, _++_}
+use mathlib.Core.Option.{Option, none, some}
 use Prim.Native.Nat.{ℕ}
 use lib.ListN.{getD}
 use lib.Ieee as Ieee
@@ -10,6 +11,8 @@ use Rattle.spec_calc.specs.declared.Operator.{Operator}
 use Rattle.spec_calc.specs.declared.Operator.the-variants.{Or, And, Less, AtMost, More, AtLeast, Equal, Differs, Plus, Minus, Times, Over}
 use Rattle.spec_calc.specs.declared.Reading.{Reading}
 use Rattle.spec_calc.specs.declared.Reading.the-variants.{NeverHeard, Invalid, Value}
+use Rattle.spec_calc.specs.declared.Worth.{Worth}
+use Rattle.spec_calc.specs.declared.Worth.the-variants.{NoCalculation, Bad, Is}
 use Rattle.spec_calc.specs.Expression.{Tree, number-tree, letter-tree, minus, negation, binary, choice}
 
 abbrev pub zero-value : Float
@@ -80,6 +83,15 @@ letters (negation t) = letters t
 letters (binary o t u) = letters t ++ letters u
 letters (choice c x y) = letters c ++ (letters x ++ letters y)
 
+-- bad, 01: "If any letter in the text, in either branch, has a bad reading"; else the value
+abbrev pub tree-worth : List Reading → Tree → Worth
+tree-worth rs t = cond (all (λ i. good (reading rs i)) (letters t)) (Is (value rs t)) Bad
+
+-- of what a text says, if it is a calculation
+abbrev pub worth : List Reading → Option Tree → Worth
+worth rs none = NoCalculation
+worth rs (some t) = tree-worth rs t
+
 -- 01: "0.99 < result < 1.01, both bounds being the nearest binary64"
 abbrev pub lower-bound : Float
 lower-bound = ofBits binary64 0x3fef_ae14_7ae1_47ae
@@ -91,6 +103,11 @@ upper-bound = ofBits binary64 0x3ff0_28f5_c28f_5c29
 abbrev pub near-one : Float → Bool
 near-one x = Ieee.lt lower-bound x && Ieee.lt x upper-bound
 
--- 01: "If any letter in the text, in either branch, has a bad reading, the calculation is false. Otherwise it is true exactly if 0.99 < result < 1.01"
+-- 01: "[..] has a bad reading, the calculation is false. Otherwise it is true exactly if 0.99 < result < 1.01"
+abbrev pub true-worth : Worth → Bool
+true-worth NoCalculation = false
+true-worth Bad = false
+true-worth (Is x) = near-one x
+
 abbrev pub holds : List Reading → Tree → Bool
-holds rs t = all (λ i. good (reading rs i)) (letters t) && near-one (value rs t)
+holds rs t = true-worth (tree-worth rs t)

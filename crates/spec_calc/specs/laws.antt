@@ -1,7 +1,9 @@
 pub mod Bounds
 pub mod Complete
+pub mod Numeral
 pub mod Readings
 pub mod Sound
+pub mod Spelling
 pub mod Symbols
 pub mod Theorem
 pub mod Levels

@@ -5,6 +5,13 @@ pub enum Reading {
     Value(f64),
 }
 
+// What a text comes to: no calculation; bad, where a letter of it has a bad reading; or a value.
+pub enum Worth {
+    NoCalculation,
+    Bad,
+    Is(f64),
+}
+
 // The operators of a calculation that stand between two operands.
 pub enum Operator {
     Or,

@@ -2,8 +2,10 @@ pub mod Alike
 pub mod Both
 pub mod Every
 pub mod Joined
+pub mod Member
 pub mod Runs
 pub mod Same
 pub mod Sums
 pub mod Words
 pub mod Range
+pub mod Front

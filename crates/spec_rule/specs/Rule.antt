@@ -8,7 +8,7 @@ use Rattle.spec_lists.specs.Text.{same, lowered}
 use Rattle.spec_lists.specs.Select.{any, select, first}
 use Rattle.spec_calc.specs.declared.Reading.{Reading}
 use Rattle.spec_calc.specs.Expression.{Tree}
-use Rattle.spec_calc.specs.Value.{holds}
+use Rattle.spec_calc.specs.Value.{worth, true-worth}
 use Rattle.spec_calc.specs.Reader.{tree-of}
 use Rattle.spec_rule.specs.declared.Access.{Access}
 use Rattle.spec_rule.specs.declared.Access.the-variants as access
@@ -39,8 +39,7 @@ belongs matches (g ∷ gs) = any (λ members. any matches members) (g ∷ gs)
 
 -- the tree that a text says, if it says one, is true of the readings
 abbrev pub true-tree : List Reading → Option Tree → Bool
-true-tree rs none = false
-true-tree rs (some t) = holds rs t
+true-tree rs o = true-worth (worth rs o)
 
 -- 01: "its calculation, if any, is true"
 abbrev pub calculation-holds : List Reading → Option (List ℕ) → Bool

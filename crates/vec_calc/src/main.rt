@@ -1,6 +1,7 @@
 // Works out each calculation of the file calc, and says of it what that file should say: allowed or refused, the value, and whether it is true.
 use prog_output::put;
 use spec_calc::Reading;
+use spec_calc::Worth;
 ghost use Prim.Native.Nat.{_≤_, _<_};
 ghost use lib.ListN.{length};
 
@@ -123,14 +124,39 @@ fn same(x: f64, y: f64) -> bool {
     }
 }
 
-// Whether the value is as written from an offset on: bits, nan, or bad, which is no value.
-fn as_written(x: f64, s: &[u8], at: usize) -> bool
+// Whether the word at an offset is bad; bits may begin with its letters, but go on.
+fn says_bad(s: &[u8], at: usize) -> bool
     requires { ⌜ at ≤ length (now s) ⌝ }
 {
-    match peek(s, at) {
-        b'n' => x != x,
-        b'b' => true,
-        _ => same(x, from_bits(bits_at(s, at))),
+    let t = &s[at..];
+    peek(t, 0) == b'b' && peek(t, 3) == b'\t'
+}
+
+// Whether the value is as written from an offset on: bits or nan.
+fn value_written(x: f64, s: &[u8], at: usize) -> bool
+    requires { ⌜ at ≤ length (now s) ⌝ }
+{
+    if peek(s, at) == b'n' {
+        x != x
+    } else {
+        same(x, from_bits(bits_at(s, at)))
+    }
+}
+
+// Whether what the text comes to is as written from an offset on: a value, or bad where a letter's reading is.
+fn as_written(w: Worth, s: &[u8], at: usize) -> bool
+    requires { ⌜ at ≤ length (now s) ⌝ }
+{
+    match w {
+        Worth::NoCalculation => false,
+        Worth::Bad => says_bad(s, at),
+        Worth::Is(x) => {
+            if says_bad(s, at) {
+                false
+            } else {
+                value_written(x, s, at)
+            }
+        }
     }
 }
 
@@ -155,11 +181,7 @@ fn put_allowed(text: &[u8], line: &[u8], at: usize)
     let third = behind(line, at, b'\t');
     let fourth = behind(line, third, b'\t');
     let rs = readings(line, fourth);
-    let calc_value::Worth::Is(x) = calc::value(text, rs) else {
-        put(b"none\n");
-        return;
-    };
-    put_value(as_written(x, line, at), line, at, third);
+    put_value(as_written(calc::value(text, rs), line, at), line, at, third);
     if calc::holds(text, rs) {
         put(b"true\n");
     } else {

@@ -6,8 +6,8 @@ use Rattle.calc.proofs.holds_with.Tie as tie
 letters-given-requires : tie.Need-letters-given-requires
 letters-given-requires c κs = search needs
 
-worth-of-requires : tie.Need-worth-of-requires
-worth-of-requires c κs = search needs
+compute-requires : tie.Need-compute-requires
+compute-requires c κs = search needs
 
 near-requires : tie.Need-near-requires
 near-requires c κs = search needs
@@ -16,7 +16,7 @@ returns : tie.Need-returns
 returns c =
     let a = c .before .before .before .before .before .args in
     with-good (a .s .now) (a .values .now) (a .goods .now) (c .before .before .before .letters-given .ensures)
-    (c .before .before .if1 .taken) (c .before .worth-of .ensures) (c .near .ensures)
+    (c .before .before .if1 .taken) (c .before .compute .ensures) (c .near .ensures)
 
 returns-2 : tie.Need-returns-2
 returns-2 c =
@@ -25,4 +25,4 @@ returns-2 c =
 
 pub holds-with-spec : {M : Type 1} → statement M
 holds-with-spec =
-    tie.close (tie.spec letters-given-requires worth-of-requires near-requires returns returns-2)
+    tie.close (tie.spec letters-given-requires compute-requires near-requires returns returns-2)

@@ -1,5 +1,4 @@
-use Rattle.spec_calc.specs.Reader.{tree-of}
-use Rattle.calc.specs.laws.Answers.{worth-of-inputs}
+use Rattle.calc.specs.laws.Answers.{value-none, value-good, value-bad}
 use borrow.Author.Needs.{needs}
 use Rattle.calc.proofs.value.Statement.{statement}
 use Rattle.calc.proofs.value.Tie as tie
@@ -7,13 +6,36 @@ use Rattle.calc.proofs.value.Tie as tie
 inputs-of-requires : tie.Need-inputs-of-requires
 inputs-of-requires c κs = search needs
 
-worth-of-requires : tie.Need-worth-of-requires
-worth-of-requires c κs = search needs
+compute-requires : tie.Need-compute-requires
+compute-requires c κs = search needs
+
+enum-told : tie.Need-enum-told
+enum-told c = search needs
+
+enum-known-v : tie.Need-enum-known-v
+enum-known-v c = search needs
+
+letters-given-requires : tie.Need-letters-given-requires
+letters-given-requires c κs = search needs
 
 returns : tie.Need-returns
-returns c =
-    let a = (c .before .before .before .before .before) in
-    worth-of-inputs (a .args .rs) _ (tree-of (a .args .s .now)) (c .before .before .before .inputs-of .ensures .0) (c .worth-of .ensures)
+returns c = value-none (c .before .before .before .before .before .before .before .before .args .rs) (c .before .before .before .before .before .before .before .before .args .s .now) (c .before .before .before .before .before .before .inputs-of .ensures .0) (c .before .before .before .before .before .before .inputs-of .ensures .1) (c .before .before .compute .ensures) (c .enum-told .given .1)
+
+returns-2 : tie.Need-returns-2
+returns-2 c = value-good (c .before .before .before .before .before .before .before .before .before .before .before .before .args .rs) (c .before .before .before .before .before .before .before .before .before .before .before .before .args .s .now) (c .before .before .before .before .before .before .before .before .before .before .inputs-of .ensures .0) (c .before .before .before .before .before .before .before .before .before .before .inputs-of .ensures .1) (c .before .before .before .before .before .before .compute .ensures) (c .before .before .before .before .v .given .1) (c .before .letters-given .ensures) (c .if1 .taken)
+
+returns-3 : tie.Need-returns-3
+returns-3 c = value-bad (c .before .before .before .before .before .before .before .before .before .before .before .before .args .rs) (c .before .before .before .before .before .before .before .before .before .before .before .before .args .s .now) (c .before .before .before .before .before .before .before .before .before .before .inputs-of .ensures .0) (c .before .before .before .before .before .before .before .before .before .before .inputs-of .ensures .1) (c .before .before .before .before .before .before .compute .ensures) (c .before .before .before .before .v .given .1) (c .before .letters-given .ensures) (c .if1 .left)
 
 pub value-spec : {M : Type 1} → statement M
-value-spec = tie.close (tie.spec inputs-of-requires worth-of-requires returns)
+value-spec =
+    tie.close
+    (tie.spec
+    inputs-of-requires
+    compute-requires
+    enum-told
+    enum-known-v
+    letters-given-requires
+    returns
+    returns-2
+    returns-3)

@@ -1,6 +1,6 @@
 -- From what is read to what is answered. Assumes nothing.
 use mathlib.Core.Path.{_≡_, refl, sym, _∙_, ap}
-use mathlib.Core.Bool.{Bool, true, false, not, _&&_}
+use mathlib.Core.Bool.{Bool, true, false, not, cond, _&&_}
 use mathlib.Core.List.{List, [], _∷_, map}
 use mathlib.Core.Option.{Option, none, some}
 use Prim.Native.Nat.{ℕ, zero, suc, _+_, _≤_, _<_}
@@ -16,27 +16,29 @@ use lib.Ieee.{Float, nan}
 use Rattle.spec_lists.specs.Select.{all, holds-of, missing}
 use Rattle.spec_calc.specs.declared.Reading.{Reading}
 use Rattle.spec_calc.specs.declared.Reading.the-variants as readings
-use Rattle.spec_calc.specs.Symbol.{start}
+use Rattle.spec_calc.specs.declared.Worth.the-variants as worths
+use Rattle.spec_calc.specs.Scanner.{start}
 use Rattle.spec_calc.specs.Expression.{Tree, number-tree, letter-tree, minus, negation, binary, choice}
-use Rattle.spec_calc.specs.Value.{heard, good, reading, value, letters, near-one}
+use Rattle.spec_calc.specs.Value.{heard, good, reading, value, letters, near-one, worth}
 use Rattle.spec_calc.specs.Reader.{tree-of}
+use Rattle.spec_calc.specs.laws.Readings.{holds-both}
 use Rattle.spec_rule.specs.Rule.{true-tree}
 use Rattle.calc_symbol.specs.declared.Class.{Class}
 use Rattle.calc_symbol.specs.declared.Class.the-variants as class
-use Rattle.calc_value.specs.declared.Worth.{Worth}
-use Rattle.calc_value.specs.declared.Worth.the-variants as worths
+use Rattle.calc_value.specs.declared.Computed.{Computed}
+use Rattle.calc_value.specs.declared.Computed.the-variants as outcome
 use Rattle.calc_symbol.specs.Scan.{started}
 use Rattle.calc_value.specs.Parse.{value-with}
-use Rattle.calc_value.specs.Answer.{worth}
-use Rattle.calc.specs.Answer.{given-letter, letter-begun, byte-letters, true-with, near-worth}
+use Rattle.calc_value.specs.Answer.{computed}
+use Rattle.calc.specs.Answer.{given-letter, letter-begun, byte-letters, true-with, near-computed}
 use Rattle.calc_symbol.proofs.Class as class-type
 use Rattle.calc.specs.laws.Letters.{spelling-none, all-append, bytes-same, given-tree}
 
-pub allowed-yes : (rs : List Reading) (o : Option Tree) {w : Worth} {v : Float} → w ≡ worth rs o → w ≡ worths.Is v → true ≡ not (missing o)
+pub allowed-yes : (rs : List Reading) (o : Option Tree) {w : Computed} {v : Float} → w ≡ computed rs o → w ≡ outcome.Is v → true ≡ not (missing o)
 allowed-yes rs none e q = let z : _≡_ {A = ℕ} 0 1 = cc in absurd (omega arith)
 allowed-yes rs (some t) e q = refl
 
-pub allowed-no : (rs : List Reading) (o : Option Tree) {w : Worth} → w ≡ worth rs o → w ≡ worths.NoCalculation → false ≡ not (missing o)
+pub allowed-no : (rs : List Reading) (o : Option Tree) {w : Computed} → w ≡ computed rs o → w ≡ outcome.NoCalculation → false ≡ not (missing o)
 allowed-no rs none e q = refl
 allowed-no rs (some t) e q = let z : _≡_ {A = ℕ} 0 1 = cc in absurd (omega arith)
 
@@ -117,11 +119,6 @@ value-with-heard rs (negation t) = rw (value-with-heard rs t)
 value-with-heard rs (binary o t u) = rw (value-with-heard rs t, value-with-heard rs u)
 value-with-heard rs (choice c x y) = rw (value-with-heard rs c, value-with-heard rs x, value-with-heard rs y)
 
-pub worth-of-inputs :
-    (rs : List Reading) (vs : List Float) (o : Option Tree) {w : Worth} → vs ≡ map heard rs → w ≡ worth (map readings.Value vs) o → w ≡ worth rs o
-worth-of-inputs rs vs none e h = h
-worth-of-inputs rs vs (some t) e h = h ∙ (rw e (ap worths.Is (value-with-heard rs t)))
-
 -- ---- truth
 
 module _ (s : List ℕ) (values : List Float) (goods : List Bool) {b : Bool} (eb : b ≡ all (given-letter goods) (byte-letters s)) where
@@ -129,14 +126,14 @@ module _ (s : List ℕ) (values : List Float) (goods : List Bool) {b : Bool} (eb
   with-is = given-tree s goods (λ t. near-one (value-with values t)) ∙ rw (← eb)
 
   pub with-good :
-      {w : Worth} {r : Bool} → b ≡ true → w ≡ worth (map readings.Value values) (tree-of s) → r ≡ near-worth w
+      {w : Computed} {r : Bool} → b ≡ true → w ≡ computed (map readings.Value values) (tree-of s) → r ≡ near-computed w
       → r ≡ true-with values goods (tree-of s)
   with-good {w} {r} e ew er =
-      let x : near-worth w ≡ holds-of (tree-of s) (λ t. near-one (value-with values t)) = rw ew (go (tree-of s)) in
+      let x : near-computed w ≡ holds-of (tree-of s) (λ t. near-one (value-with values t)) = rw ew (go (tree-of s)) in
       let y : true-with values goods (tree-of s) ≡ holds-of (tree-of s) (λ t. near-one (value-with values t)) = with-is ∙ rw e in
       er ∙ (x ∙ sym y)
     where
-      go : (o : Option Tree) → near-worth (worth (map readings.Value values) o) ≡ holds-of o (λ t. near-one (value-with values t))
+      go : (o : Option Tree) → near-computed (computed (map readings.Value values) o) ≡ holds-of o (λ t. near-one (value-with values t))
       go none = refl
       go (some t) = refl
 
@@ -154,7 +151,35 @@ pub holds-is :
     (rs : List Reading) (values : List Float) (goods : List Bool) (o : Option Tree) {r : Bool} → values ≡ map heard rs → goods ≡ map good rs
     → r ≡ true-with values goods o → r ≡ true-tree rs o
 holds-is rs values goods none ev eg e = e
-holds-is rs values goods (some t) ev eg e = e ∙ rw (ev, eg, all-good rs (letters t), value-with-heard rs t)
+holds-is rs values goods (some t) ev eg e = e ∙ (rw (ev, eg, all-good rs (letters t), value-with-heard rs t) refl ∙ sym (holds-both rs t))
+
+-- ---- the answer of value, from what is computed and whether the letters are good
+
+module _
+    (rs : List Reading) (s : List ℕ) {vs : List Float} {gs : List Bool} (ev : vs ≡ map heard rs) (eg : gs ≡ map good rs) {w : Computed}
+    (ew : w ≡ computed (map readings.Value vs) (tree-of s)) where
+  pub value-none : w ≡ outcome.NoCalculation → worths.NoCalculation ≡ worth rs (tree-of s)
+  value-none q = go (tree-of s) ew
+    where
+      go : (o : Option Tree) → w ≡ computed (map readings.Value vs) o → worths.NoCalculation ≡ worth rs o
+      go none e = refl
+      go (some t) e = let z : _≡_ {A = ℕ} 0 1 = cc in absurd (omega arith)
+
+  module _ {v : Float} (q : w ≡ outcome.Is v) {b : Bool} (eb : b ≡ all (given-letter gs) (byte-letters s)) where
+    judged-value : worth rs (tree-of s) ≡ cond b (worths.Is v) worths.Bad
+    judged-value = go (tree-of s) refl ew
+      where
+        go : (o : Option Tree) → tree-of s ≡ o → w ≡ computed (map readings.Value vs) o → worth rs o ≡ cond b (worths.Is v) worths.Bad
+        go none p e = let z : _≡_ {A = ℕ} 0 1 = cc in absurd (omega arith)
+        go (some t) p e =
+            let x : value-with vs t ≡ v = cc in
+            rw (← all-good rs (letters t), ← value-with-heard rs t, ← eg, ← ev, x, ← bytes-same s t p gs, ← eb)
+
+    pub value-good : b ≡ true → worths.Is v ≡ worth rs (tree-of s)
+    value-good h = sym (judged-value ∙ rw h)
+
+    pub value-bad : b ≡ false → worths.Bad ≡ worth rs (tree-of s)
+    value-bad h = sym (judged-value ∙ rw h)
 
 -- ---- inputs filled one by one
 

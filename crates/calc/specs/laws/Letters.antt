@@ -1,27 +1,25 @@
 -- The letters of a text's bytes are those of its tree. Assumes nothing.
-use mathlib.Core.Path.{_≡_, refl, sym, _∙_, ap, subst}
-use mathlib.Core.Bool.{Bool, true, false, cond, _&&_}
-use mathlib.Core.List.{List, [], _∷_, _++_, append-nil, append-assoc}
+use mathlib.Core.Path.{_≡_, refl, sym, _∙_, ap}
+use mathlib.Core.Bool.{Bool, true, false, _&&_}
+use mathlib.Core.List.{List, [], _∷_, _++_, append-nil, append-assoc, List·Memᴰ}
 use mathlib.Core.Option.{Option, none, some}
-use Prim.Native.Nat.{ℕ, zero, suc, _-_}
-use native.Mathlib.Omega.{arith}
-use borrow.Author.Tests.{eqb-true}
-use lib.Dec.{eqb}
-use lib.ListN.{length, take, drop}
-use lib.Ieee.{Float}
-use Rattle.spec_lists.specs.Text.{same, among, within}
-use Rattle.spec_lists.specs.Select.{all, first, run, after, skip-if, holds-of}
+use Prim.Native.Nat.{ℕ}
+use lib.ListN.{length, take}
+use Rattle.spec_lists.specs.Text.{same}
+use Rattle.spec_lists.specs.Select.{all, first, after, skip-if, holds-of}
 use Rattle.spec_lists.specs.laws.Both.{both, absurd-bool}
-use Rattle.spec_calc.specs.Symbol.{Symbol, number, letter, Spelling, spellings, Start, blank, figure, wrong, sign, sign-of, start, then, then-number, numeral}
-use Rattle.spec_calc.specs.Symbol.{numeral-byte, symbols-in}
+use Rattle.spec_lists.specs.laws.Member.{all-member, first-member}
+use Rattle.spec_lists.specs.laws.Range.{bounded}
+use Rattle.spec_calc.specs.Symbol.{Symbol, numeral-byte, Spelling, spellings, Spells, end, skipped, numbered, capital, small, signed}
+use Rattle.spec_calc.specs.Scanner.{sign-of, start, spelling}
 use Rattle.spec_calc.specs.Expression.{Tree, Expression, plain, conditional, Joined, tighter, join, prefixed, Operand, negated, denied, a-number, a-letter}
-use Rattle.spec_calc.specs.Expression.{parenthesised}
+use Rattle.spec_calc.specs.Expression.{parenthesised, Parses}
 use Rattle.spec_calc.specs.Value.{letters}
 use Rattle.spec_calc.specs.Reader.{tree-of}
+use Rattle.spec_calc.specs.laws.Symbols.{blank-start, start-upper, start-lower}
+use Rattle.spec_calc.specs.laws.Spelling.{numeral-start}
 use Rattle.spec_calc.specs.laws.Theorem.{parses-sound}
-use Rattle.calc_symbol.specs.Scan.{syms, spelling}
-use Rattle.calc.specs.Answer.{given-letter, letter-of, letters-in, letter-begun, byte-letters, symbols-given}
-use Rattle.calc_symbol.specs.laws.Bytes.{start-by, first-all}
+use Rattle.calc.specs.Answer.{given-letter, letter-of, letters-in, letter-begun, byte-letters}
 
 -- ---- the bytes'
 
@@ -36,92 +34,34 @@ nothing-is (i ∷ is) e = absurd-bool (sym e)
 abbrev no-letter : ℕ → Bool
 no-letter b = nothing (letter-begun (start b []))
 
--- a sign is no letter, and no byte behind its first is one
+-- a sign is no letter, and none of its bytes is one
 abbrev signs-only : Spelling → Bool
-signs-only x = nothing (letter-of (x .symbol)) && all no-letter (drop 1 (x .spelled))
+signs-only x = nothing (letter-of (x .symbol)) && all no-letter (x .spelled)
 
-all-signs : all signs-only spellings ≡ true
-all-signs = refl
+signs : {y : Spelling} → List·Memᴰ y spellings → (nothing (letter-of (y .symbol)) ≡ true) × (all no-letter (y .spelled) ≡ true)
+signs {y} m = both (nothing (letter-of (y .symbol))) (all no-letter (y .spelled)) (all-member signs-only spellings refl m)
+
+pub sign-letters : {y : Spelling} → List·Memᴰ y spellings → letter-of (y .symbol) ≡ []
+sign-letters {y} m = nothing-is (letter-of (y .symbol)) (signs m .0)
+
+pub spelling-none : (b : ℕ) (s : List ℕ) → letter-begun (spelling b s) ≡ []
+unfolding spelling
+spelling-none b s = go (first (λ x. same (x .spelled) (take (length (x .spelled)) (b ∷ s))) spellings) refl
+  where
+    go : (o : Option Spelling) → first (λ x. same (x .spelled) (take (length (x .spelled)) (b ∷ s))) spellings ≡ o → letter-begun (sign-of o) ≡ []
+    go none e = refl
+    go (some y) e = sign-letters (first-member (λ x. same (x .spelled) (take (length (x .spelled)) (b ∷ s))) spellings e .0)
 
 letter-none : (b : ℕ) (s : List ℕ) → no-letter b ≡ true → byte-letters (b ∷ s) ≡ byte-letters s
 unfolding byte-letters
 letter-none b s e = rw (nothing-is (letter-begun (start b [])) e)
 
--- the bytes behind a sign's first
-behind-sign : (w s : List ℕ) → all no-letter w ≡ true → same w (take (length w) s) ≡ true → byte-letters s ≡ byte-letters (drop (length w) s)
-behind-sign [] s h e = refl
-behind-sign (c ∷ w) [] h e = absurd-bool (sym e)
-behind-sign (c ∷ w) (d ∷ s) h e =
-    let z = both (eqb c d) (same w (take (length w) s)) e in
-    let k = both (no-letter c) (all no-letter w) h in
-    letter-none d s (subst (λ (x : ℕ). no-letter x ≡ true) (eqb-true c d (z .0)) (k .0)) ∙ behind-sign w s (k .1) (z .1)
-
--- a sign that begins a text is no letter, and has none behind its first byte
-signed : (b : ℕ) (s : List ℕ) {x : Symbol} {m : ℕ} → spelling b s ≡ sign x m → (letter-of x ≡ []) × (byte-letters s ≡ byte-letters (drop m s))
-unfolding spelling
-signed b s {x} {m} e = go (first (λ x. same (x .spelled) (take (length (x .spelled)) (b ∷ s))) spellings) refl e
-  where
-    tail : (w : List ℕ) → all no-letter (drop 1 w) ≡ true → same w (take (length w) (b ∷ s)) ≡ true → byte-letters s ≡ byte-letters (drop (length w - 1) s)
-    tail [] h g = refl
-    tail (c ∷ w) h g =
-        let z : length w ≡ length (c ∷ w) - 1 = omega arith in
-        subst (λ (k : ℕ). byte-letters s ≡ byte-letters (drop k s)) z (behind-sign w s h (both (eqb c b) (same w (take (length w) s)) g .1))
-
-    go :
-        (o : Option Spelling) → first (λ x. same (x .spelled) (take (length (x .spelled)) (b ∷ s))) spellings ≡ o → sign-of o ≡ sign x m
-        → (letter-of x ≡ []) × (byte-letters s ≡ byte-letters (drop m s))
-    go none q g = let z : _≡_ {A = ℕ} 0 1 = cc in absurd (omega arith)
-    go (some y) q g =
-        let k = first-all signs-only (λ x. same (x .spelled) (take (length (x .spelled)) (b ∷ s))) spellings all-signs q in
-        let h = both (nothing (letter-of (y .symbol))) (all no-letter (drop 1 (y .spelled))) (k .0) in
-        let ex : y .symbol ≡ x = cc in
-        let em : length (y .spelled) - 1 ≡ m = cc in
-        (rw (← ex) (nothing-is (letter-of (y .symbol)) (h .0)), rw (← em) (tail (y .spelled) (h .1) (k .1)))
-
--- what a text begins with, by its first byte
-pub spelling-none : (b : ℕ) (s : List ℕ) → letter-begun (spelling b s) ≡ []
-spelling-none b s = go (spelling b s) refl
-  where
-    go : (x : Start) → spelling b s ≡ x → letter-begun x ≡ []
-    go blank e = refl
-    go figure e = refl
-    go wrong e = refl
-    go (sign x m) e = signed b s e .0
-
-module _ (b : ℕ) (s : List ℕ) where
-  begun-alone : letter-begun (start b s) ≡ letter-begun (start b [])
-  unfolding spelling
-  begun-alone = go (among " \t" b) (numeral-byte b) (within 65 85 b) (within 97 117 b)
-    where
-      go :
-          (p q u v : Bool)
-          → letter-begun (start-by p q u v b (spelling b s)) ≡ letter-begun (start-by p q u v b (spelling b []))
-      go true q u v = refl
-      go false true u v = refl
-      go false false true v = refl
-      go false false false true = refl
-      go false false false false = spelling-none b s ∙ sym (spelling-none b [])
-
-  begun-sign : {x : Symbol} {m : ℕ} → start b s ≡ sign x m → byte-letters s ≡ byte-letters (drop m s)
-  unfolding spelling
-  begun-sign {x} {m} = go (among " \t" b) (numeral-byte b) (within 65 85 b) (within 97 117 b)
-    where
-      go :
-          (p q u v : Bool) → start-by p q u v b (spelling b s) ≡ sign x m
-          → byte-letters s ≡ byte-letters (drop m s)
-      go true q u v e = let z : _≡_ {A = ℕ} 0 1 = cc in absurd (omega arith)
-      go false true u v e = let z : _≡_ {A = ℕ} 0 1 = cc in absurd (omega arith)
-      go false false true v e = let z : 0 ≡ m = cc in rw (← z)
-      go false false false true e = let z : 0 ≡ m = cc in rw (← z)
-      go false false false false e = signed b s e .1
+letters-none : (w s : List ℕ) → all no-letter w ≡ true → byte-letters (w ++ s) ≡ byte-letters s
+letters-none [] s e = refl
+letters-none (b ∷ w) s e = let z = both (no-letter b) (all no-letter w) e in letter-none b (w ++ s) (z .0) ∙ letters-none w s (z .1)
 
 figure-none : (b : ℕ) → numeral-byte b ≡ true → no-letter b ≡ true
-unfolding spelling
-figure-none b e = go (among " \t" b) (numeral-byte b) e
-  where
-    go : (p q : Bool) → q ≡ true → nothing (letter-begun (start-by p q (within 65 85 b) (within 97 117 b) b (spelling b []))) ≡ true
-    go true q e = refl
-    go false q e = rw e
+figure-none b e = rw (numeral-start b [] e)
 
 figures-none : (s : List ℕ) → byte-letters s ≡ byte-letters (after numeral-byte s)
 figures-none [] = refl
@@ -133,45 +73,16 @@ figures-none (b ∷ s) = go (numeral-byte b) refl (figures-none s)
     go true e h = letter-none b s (figure-none b e) ∙ h
     go false e h = refl
 
--- the letters of symbols are those of a text's bytes
-abbrev agree : Option (List Symbol) → List ℕ → Type 0
-agree none s = Unit {0}
-agree (some ss) s = letters-in ss ≡ byte-letters s
-
-agree-then : (x : Symbol) (o : Option (List Symbol)) (s t : List ℕ) → byte-letters t ≡ letter-of x ++ byte-letters s → agree o s → agree (then x o) t
-unfolding letters-in
-agree-then x none s t e h = tt
-agree-then x (some ss) s t e h = rw h (sym e)
-
-agree-number : (v : Option Float) (o : Option (List Symbol)) (s t : List ℕ) → byte-letters t ≡ byte-letters s → agree o s → agree (then-number v o) t
-agree-number none o s t e h = tt
-agree-number (some v) o s t e h = agree-then (number v) o s t e h
-
-agree-on : (o : Option (List Symbol)) (s t : List ℕ) → byte-letters t ≡ byte-letters s → agree o s → agree o t
-agree-on none s t e h = tt
-agree-on (some ss) s t e h = h ∙ sym e
-
-agree-step : (n b : ℕ) (s : List ℕ) → ((t : List ℕ) → agree (symbols-in n t) t) → (x : Start) → start b s ≡ x → agree (symbols-in (suc n) (b ∷ s)) (b ∷ s)
-unfolding symbols-in byte-letters
-agree-step n b s h blank e =
-    rw (e, symbols-in) (agree-on (symbols-in n s) s (b ∷ s) (ap (λ (l : List ℕ). l ++ byte-letters s) (sym (begun-alone b s) ∙ ap letter-begun e)) (h s))
-agree-step n b s h figure e =
-    rw (e, symbols-in)
-    (agree-number (numeral (run numeral-byte (b ∷ s))) (symbols-in n (after numeral-byte (b ∷ s))) (after numeral-byte (b ∷ s)) (b ∷ s)
-    (figures-none (b ∷ s)) (h (after numeral-byte (b ∷ s))))
-agree-step n b s h wrong e = rw (e, symbols-in) tt
-agree-step n b s h (sign x m) e =
-    rw (e, symbols-in)
-    (agree-then x (symbols-in n (drop m s)) (drop m s) (b ∷ s)
-    (ap (λ (l : List ℕ). l ++ byte-letters s) (sym (begun-alone b s) ∙ ap letter-begun e) ∙ ap (λ (l : List ℕ). letter-of x ++ l) (begun-sign b s e))
-    (h (drop m s)))
-
-agreed : (n : ℕ) (s : List ℕ) → agree (symbols-in n s) s
-unfolding symbols-in byte-letters letters-in
-agreed zero [] = refl
-agreed zero (b ∷ s) = tt
-agreed (suc n) [] = refl
-agreed (suc n) (b ∷ s) = agree-step n b s (agreed n) (start b s) refl
+-- the letters of a text's symbols are those of its bytes
+spells-letters : {s : List ℕ} {xs : List Symbol} → Spells s xs → letters-in xs ≡ byte-letters s
+unfolding letters-in byte-letters
+spells-letters end = refl
+spells-letters (skipped {b = b} e d) = rw (blank-start b [] e) (spells-letters d)
+spells-letters (numbered {s = s} n d) = spells-letters d ∙ sym (figures-none s)
+spells-letters (capital {b = b} e d) = let z = bounded 65 85 b e in rw (start-upper b [] (z .0) (z .1), spells-letters d)
+spells-letters (small {b = b} e d) = let z = bounded 97 117 b e in rw (start-lower b [] (z .0) (z .1), spells-letters d)
+spells-letters (signed {w = w} {r = r} q m l d) =
+    rw (q, sign-letters m) (spells-letters d ∙ sym (letters-none w r (signs m .1)))
 
 pub all-append : (p : ℕ → Bool) (xs ys : List ℕ) → all p (xs ++ ys) ≡ all p xs && all p ys
 all-append p [] ys = refl
@@ -210,21 +121,16 @@ mutual
   operand-letters a-letter = refl
   operand-letters (parenthesised d) = expression-letters d
 
-pub letters-same : (s : List ℕ) (t : Tree) → tree-of s ≡ some t → (given : List Bool) → symbols-given given (syms s 0) ≡ all (given-letter given) (letters t)
-unfolding syms letters-in
-letters-same s t e given =
-    let y = parses-sound s t e in
-    ap (symbols-given given) (y .spelling) ∙ ap (all (given-letter given)) (expression-letters (y .derived) ∙ append-nil (letters t))
+-- those of a calculation's symbols are its tree's
+pub parsed-letters : (s : List ℕ) (t : Tree) → (y : Parses s t) → letters-in (y .spelled) ≡ letters t
+unfolding letters-in
+parsed-letters s t y = expression-letters (y .derived) ∙ append-nil (letters t)
 
 pub bytes-same :
     (s : List ℕ) (t : Tree) → tree-of s ≡ some t → (given : List Bool)
     → all (given-letter given) (byte-letters s) ≡ all (given-letter given) (letters t)
-unfolding letters-in
 bytes-same s t e given =
-    let y = parses-sound s t e in
-    ap (all (given-letter given))
-    (sym (subst (λ (o : Option (List Symbol)). agree o s) (y .spelling) (agreed (length s) s))
-    ∙ (expression-letters (y .derived) ∙ append-nil (letters t)))
+    let y = parses-sound s t e in ap (all (given-letter given)) (sym (spells-letters (y .spelling)) ∙ parsed-letters s t y)
 
 -- what holds of the bytes and of the tree holds of the tree
 pub given-tree :

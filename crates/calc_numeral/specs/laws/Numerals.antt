@@ -10,12 +10,15 @@ use lib.ListN.{length, getD, drop, length-append}
 use lib.Ieee.{Float}
 use Rattle.spec_lists.specs.Text.{among, digit, whole}
 use Rattle.spec_lists.specs.Select.{all, run, after, keep-if, skip-if}
-use Rattle.spec_calc.specs.Symbol.{decimal, numeral-byte, pointed, within-digits, numeral}
+use Rattle.spec_calc.specs.Symbol.{decimal, numeral-byte}
+use Rattle.spec_calc.specs.Scanner.{pointed, within-digits, numeral}
 use Rattle.calc_numeral.specs.declared.Figure.{Figure}
 use Rattle.calc_numeral.specs.declared.Figure.the-variants.{Is, Wrong}
 use Rattle.calc_numeral.specs.Numeral.{Counted, Fraction, Numbered}
 use Rattle.spec_lists.specs.laws.Both.{absurd-bool}
-use Rattle.calc_numeral.specs.laws.Runs.{all-run, after-head, head-at, passed-inside, run-more, after-more, stops}
+use Rattle.spec_lists.specs.laws.Front.{all-run}
+use Rattle.spec_calc.specs.laws.Numeral.{within-some, digits-behind}
+use Rattle.calc_numeral.specs.laws.Runs.{after-head, head-at, passed-inside, run-more, after-more, stops}
 
 -- ---- figures are digits, and then points and digits
 
@@ -75,9 +78,6 @@ whole-append n (d ∷ w) f = whole-append (n * 10 + (d - 48)) w f
 within-none : (w f : List ℕ) → 15 < length w + length f → within-digits w f ≡ none
 within-none w f h = rw (lt-leb (length w + length f) 15 h)
 
-within-some : (w f : List ℕ) → length w + length f ≤ 15 → within-digits w f ≡ some (decimal (whole 0 (w ++ f)) (length f))
-within-some w f h = rw (le-leb (length w + length f) 15 h)
-
 cond-none : (t : Bool) (o : Option Float) → o ≡ none → cond t o none ≡ none
 cond-none true o e = e
 cond-none false o e = refl
@@ -106,10 +106,6 @@ all-point (d ∷ f) g = go (digit d) (all-point f g)
 two-points : (w f g : List ℕ) → pointed w (46 ∷ (f ++ (46 ∷ g))) ≡ none
 two-points w [] g = refl
 two-points w (d ∷ f) g = rw (all-point (d ∷ f) g)
-
-digits-behind : (w f : List ℕ) → 0 < length f → all digit f ≡ true → pointed w (46 ∷ f) ≡ within-digits w f
-digits-behind w [] h e = absurd (omega arith)
-digits-behind w (d ∷ f) h e = rw e
 
 point-at : (s : List ℕ) (p : ℕ) → getD s p 0 ≡ 46 → run numeral-byte (drop p s) ≡ 46 ∷ run numeral-byte (drop (p + 1) s)
 point-at s p e = let h : numeral-byte (getD s p 0) ≡ true = rw e refl in run-more numeral-byte s p h (passed-inside numeral-byte s p refl h) ∙ rw e

@@ -10,7 +10,7 @@ use lib.Dec.{leb}
 use lib.ListN.{length, getD, drop, List·getD-eq-default}
 use lib.Seq.{drop-cons, getD-drop}
 use Rattle.spec_lists.specs.laws.Both.{absurd-bool}
-use Rattle.spec_lists.specs.Select.{all, run, after, keep-if, skip-if}
+use Rattle.spec_lists.specs.Select.{run, after, keep-if, skip-if}
 
 -- ---- a run from an offset on, of a test that 0 does not pass
 
@@ -18,14 +18,6 @@ module _ (p : ℕ → Bool) where
   pub run-stop : (y : List ℕ) → p (getD y 0 0) ≡ false → (run p y ≡ []) × (after p y ≡ y)
   run-stop [] e = (refl, refl)
   run-stop (b ∷ y) e = (rw e, rw e)
-
-  pub all-run : (y : List ℕ) → all p (run p y) ≡ true
-  all-run [] = refl
-  all-run (b ∷ y) = go (p b) refl (all-run y)
-    where
-      go : (t : Bool) → p b ≡ t → all p (run p y) ≡ true → all p (keep-if t b (run p y)) ≡ true
-      go true e h = rw (e, h)
-      go false e h = refl
 
   pub after-head : p 0 ≡ false → (y : List ℕ) → p (getD (after p y) 0 0) ≡ false
   after-head z [] = z

@@ -1,6 +1,6 @@
 use native.Mathlib.Omega.{arith}
 use mathlib.Core.Path.{refl}
-use Rattle.calc_symbol.specs.Scan.{spelling}
+use Rattle.spec_calc.specs.Scanner.{spelling}
 use Rattle.calc_symbol.specs.laws.Bytes.{no-pair}
 use Rattle.calc_symbol.proofs.before_equals.Statement.{statement}
 use Rattle.calc_symbol.proofs.before_equals.Tie as tie

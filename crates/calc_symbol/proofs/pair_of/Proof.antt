@@ -1,6 +1,6 @@
 use native.Mathlib.Omega.{arith}
 use mathlib.Core.Path.{refl}
-use Rattle.calc_symbol.specs.Scan.{spelling}
+use Rattle.spec_calc.specs.Scanner.{spelling}
 use Rattle.calc_symbol.specs.laws.Bytes.{no-second, pair-ok}
 use borrow.Author.Needs.{needs}
 use Rattle.calc_symbol.proofs.pair_of.Statement.{statement}

@@ -11,42 +11,23 @@ use lib.ListN.{length, getD, take}
 use Rattle.spec_lists.specs.Text.{same, within, among, digit}
 use Rattle.spec_lists.specs.Select.{all, first, first-if}
 use Rattle.spec_lists.specs.laws.Both.{both, absurd-bool}
+use Rattle.spec_lists.specs.laws.Member.{all-member, first-member}
 use Rattle.spec_calc.specs.declared.Operator.{Operator}
 use Rattle.spec_calc.specs.declared.Operator.the-variants as op
-use Rattle.spec_calc.specs.Symbol.{Symbol, number, letter, operator, not-sign, question, colon, open-paren, close-paren, Spelling, spellings, Start, blank}
-use Rattle.spec_calc.specs.Symbol.{figure, sign, sign-of, wrong, start, numeral-byte}
+use Rattle.spec_calc.specs.Symbol.{Symbol, number, letter, operator, not-sign, question, colon, open-paren, close-paren, Spelling, spellings}
+use Rattle.spec_calc.specs.Scanner.{Start, blank}
+use Rattle.spec_calc.specs.Symbol.{numeral-byte}
+use Rattle.spec_calc.specs.Scanner.{figure, sign, sign-of, wrong, start, spelling}
 use Rattle.calc_symbol.specs.declared.Spelled.{Spelled}
 use Rattle.calc_symbol.specs.declared.Spelled.the-variants.{As, Nothing}
-use Rattle.calc_symbol.specs.Scan.{spelling, single, Pair-ok}
-use Rattle.spec_lists.specs.laws.Range.{above, inside}
+use Rattle.calc_symbol.specs.Scan.{single, Pair-ok}
+use Rattle.spec_calc.specs.laws.Symbols.{start-by}
 
--- what a byte begins: a blank, a number, a capital letter, a small letter, or else x
-abbrev pub start-by : Bool → Bool → Bool → Bool → ℕ → Start → Start
-start-by p q u v b x = cond p blank (cond q figure (cond u (sign (letter (b - 65)) 0) (cond v (sign (letter (b - 97)) 0) x)))
-
--- what a byte begins that is neither blank nor part of a number
-module _ (b : ℕ) (n9 : b ≡ 9 → ⊥) (n32 : b ≡ 32 → ⊥) where
-  pub start-figure : (s : List ℕ) → 48 ≤ b → b ≤ 57 → start b s ≡ start 48 s
-  start-figure s l h = rw (ne-eqb b 32 n32, ne-eqb b 9 n9, inside 48 57 b l h)
-
-  module _ (n46 : b ≡ 46 → ⊥) where
-    pub start-upper : (s : List ℕ) → 65 ≤ b → b ≤ 85 → start b s ≡ sign (letter (b - 65)) 0
-    start-upper s l h = rw (ne-eqb b 32 n32, ne-eqb b 9 n9, above 48 57 b (omega arith), ne-eqb b 46 n46, inside 65 85 b l h)
-
-    pub start-lower : (s : List ℕ) → 97 ≤ b → b ≤ 117 → start b s ≡ sign (letter (b - 97)) 0
-    start-lower s l h =
-        rw (
-          ne-eqb b 32 n32,
-          ne-eqb b 9 n9,
-          above 48 57 b (omega arith),
-          ne-eqb b 46 n46,
-          above 65 85 b (omega arith),
-          inside 97 117 b l h,
-        )
-
-    pub start-other : (s : List ℕ) → digit b ≡ false → within 65 85 b ≡ false → within 97 117 b ≡ false → start b s ≡ spelling b s
-    unfolding spelling
-    start-other s d u l = rw (ne-eqb b 32 n32, ne-eqb b 9 n9, d, ne-eqb b 46 n46, u, l)
+-- what a byte begins that is neither blank nor part of a number nor a letter
+module _ (b : ℕ) (n9 : b ≡ 9 → ⊥) (n32 : b ≡ 32 → ⊥) (n46 : b ≡ 46 → ⊥) where
+  pub start-other : (s : List ℕ) → digit b ≡ false → within 65 85 b ≡ false → within 97 117 b ≡ false → start b s ≡ spelling b s
+  unfolding spelling
+  start-other s d u l = rw (ne-eqb b 32 n32, ne-eqb b 9 n9, d, ne-eqb b 46 n46, u, l)
 
 -- ---- spellings
 
@@ -116,16 +97,6 @@ no-single b n1 n2 n3 n4 n5 n6 n7 n8 n9 n10 n11 n12 n13 =
     other x n = ne-eqb x b (λ e. n (sym e))
 
 -- ---- the first byte of a sign
-
-pub first-all : {A : Type 0} (q p : A → Bool) (xs : List A) {x : A} → all q xs ≡ true → first p xs ≡ some x → (q x ≡ true) × (p x ≡ true)
-first-all q p [] h e = let z : _≡_ {A = ℕ} 0 1 = cc in absurd (omega arith)
-first-all {A} q p (y ∷ ys) {x} h e = let k = both (q y) (all q ys) h in go (p y) refl (k .0) (first-all q p ys (k .1)) e
-  where
-    go :
-        (t : Bool) → p y ≡ t → q y ≡ true → (first p ys ≡ some x → (q x ≡ true) × (p x ≡ true)) → first-if t y (first p ys) ≡ some x
-        → (q x ≡ true) × (p x ≡ true)
-    go true g k f e = let z : y ≡ x = cc in subst (λ (w : A). (q w ≡ true) × (p w ≡ true)) z (k, g)
-    go false g k f e = f e
 
 -- minus alone begins an operand
 abbrev minus-byte : Operator → ℕ → Bool
@@ -197,9 +168,9 @@ module _ (b : ℕ) (s : List ℕ) {x : Symbol} {m : ℕ} (e : spelling b s ≡ s
           → (begins-with x b ≡ true) × (sign-byte b ≡ true)
       go none q g = let z : _≡_ {A = ℕ} 0 1 = cc in absurd (omega arith)
       go (some y) q g =
-          let k = first-all first-byte-ok (λ x. same (x .spelled) (take (length (x .spelled)) (b ∷ s))) spellings all-first-bytes-ok q in
+          let k = first-member (λ x. same (x .spelled) (take (length (x .spelled)) (b ∷ s))) spellings q in
           let ex : y .symbol ≡ x = cc in
-          subst (λ (z : Symbol). (begins-with z b ≡ true) × (sign-byte b ≡ true)) ex (head (y .symbol) (y .spelled) (k .0) (k .1))
+          subst (λ (z : Symbol). (begins-with z b ≡ true) × (sign-byte b ≡ true)) ex (head (y .symbol) (y .spelled) (all-member first-byte-ok spellings all-first-bytes-ok (k .0)) (k .1))
 
   pub sign-begins-with : begins-with x b ≡ true
   sign-begins-with = first-byte .0

@@ -11,7 +11,8 @@ use lib.ListN.{length, getD, drop}
 use lib.Ieee.{Float}
 use Rattle.spec_calc.specs.declared.Operator.{Operator}
 use Rattle.spec_calc.specs.declared.Operator.the-variants as op
-use Rattle.spec_calc.specs.Symbol.{Symbol, number, letter, operator, not-sign, question, colon, open-paren, close-paren, wrong, then}
+use Rattle.spec_calc.specs.Symbol.{Symbol, number, letter, operator, not-sign, question, colon, open-paren, close-paren}
+use Rattle.spec_calc.specs.Scanner.{wrong, then}
 use Rattle.spec_calc.specs.Expression.{Tree}
 use Rattle.spec_calc.specs.Reader.{begun, paren, if-of, Stack, State, wanted, have, stuck, ends, reduce, step, prefix, first-of, run}
 use Rattle.calc_symbol.specs.declared.Sign.{Sign}

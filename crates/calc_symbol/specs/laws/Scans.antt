@@ -13,9 +13,11 @@ use lib.Seq.{drop-cons, drop-drop}
 use lib.Ieee.{Float}
 use Rattle.spec_lists.specs.Text.{same, among, within}
 use Rattle.spec_lists.specs.Select.{first, run, after}
-use Rattle.spec_calc.specs.Symbol.{Symbol, number, letter, operator, not-sign, Spelling, spellings, blank, figure, wrong, sign, sign-of, start, then}
-use Rattle.spec_calc.specs.Symbol.{then-number, numeral, numeral-byte, symbols}
-use Rattle.spec_calc.specs.laws.Symbols.{figure-byte, scan-end, scan-blank, scan-figure, scan-wrong, scan-sign}
+use Rattle.spec_calc.specs.Symbol.{Symbol, number, letter, operator, not-sign, Spelling, spellings}
+use Rattle.spec_calc.specs.Scanner.{blank, figure, wrong, sign, sign-of, start, spelling, then}
+use Rattle.spec_calc.specs.Symbol.{numeral-byte}
+use Rattle.spec_calc.specs.Scanner.{then-number, numeral, symbols}
+use Rattle.spec_calc.specs.laws.Symbols.{start-by, blank-start, blank-byte, figure-byte, scan-end, scan-blank, scan-figure, scan-wrong, scan-sign}
 use Rattle.spec_calc.specs.declared.Operator.the-variants as op
 use Rattle.calc_symbol.specs.declared.Class.{Class}
 use Rattle.calc_symbol.specs.declared.Class.the-variants as class
@@ -25,44 +27,16 @@ use Rattle.calc_symbol.specs.declared.Spelled.the-variants.{As, Nothing}
 use Rattle.calc_numeral.specs.declared.Figure.{Figure}
 use Rattle.calc_numeral.specs.declared.Figure.the-variants as fig
 use Rattle.calc_symbol.specs.declared.Next.the-variants.{Is, Wrong}
-use Rattle.calc_symbol.specs.Scan.{syms, start-at, spelling-at, Sign-only, symbol-of, spelling, single, started, Class-ok, spelled-as, Pair-ok}
+use Rattle.calc_symbol.specs.Scan.{syms, start-at, spelling-at, Sign-only, symbol-of, single, started, Class-ok, spelled-as, Pair-ok}
 use Rattle.calc_symbol.specs.Scan.{Symbol-at, Sign-at, Blanks-to}
 use Rattle.calc_numeral.specs.Numeral.{Numbered}
 use Rattle.spec_lists.specs.laws.Both.{absurd-bool}
 use Rattle.calc_numeral.specs.laws.Runs.{passed-inside, head-at}
-use Rattle.calc_symbol.specs.laws.Bytes.{start-by, two-bytes, sign-nonzero, sign-start, not-start, differs-start}
+use Rattle.calc_symbol.specs.laws.Bytes.{two-bytes, sign-nonzero, sign-start, not-start, differs-start}
 
 -- a byte that is not 0 stands in the text
 pub nonzero-inside : (s : List ℕ) (at : ℕ) {b : ℕ} → b ≡ getD s at 0 → 0 < b → at < length s
 nonzero-inside s at {b} e h = passed-inside (ltb 0) s at refl (lt-ltb 0 (getD s at 0) (omega arith))
-
--- a spelling is no blank
-spelling-not-blank : {A : Type 0} (b : ℕ) (s : List ℕ) → spelling b s ≡ blank → A
-unfolding spelling
-spelling-not-blank {A} b s e = go (first (λ x. same (x .spelled) (take (length (x .spelled)) (b ∷ s))) spellings) e
-  where
-    go : (o : Option Spelling) → sign-of o ≡ blank → A
-    go none e = let z : _≡_ {A = ℕ} 0 1 = cc in absurd (omega arith)
-    go (some x) e = let z : _≡_ {A = ℕ} 0 1 = cc in absurd (omega arith)
-
--- only a blank byte begins a blank
-blank-byte : (b : ℕ) (s : List ℕ) → start b s ≡ blank → among " \t" b ≡ true
-unfolding spelling
-blank-byte b s e = go (among " \t" b) (numeral-byte b) (within 65 85 b) (within 97 117 b) e
-  where
-    go : (p q u v : Bool) → start-by p q u v b (spelling b s) ≡ blank → p ≡ true
-    go true q u v e = refl
-    go false true u v e = cc
-    go false false true v e = cc
-    go false false false true e = cc
-    go false false false false e = spelling-not-blank b s e
-
-blank-start : (b : ℕ) (s : List ℕ) → among " \t" b ≡ true → start b s ≡ blank
-unfolding spelling
-blank-start b s e = go (among " \t" b) e
-  where
-    go : (p : Bool) → p ≡ true → start-by p (numeral-byte b) (within 65 85 b) (within 97 117 b) b (spelling b s) ≡ blank
-    go p e = rw e
 
 -- a sign stands at an offset, or the text is wrong there
 pub data Signed (s : List ℕ) (p : ℕ) : Type 0 where

@@ -13,7 +13,8 @@ use borrow.Author.Tests.{le-leb, lt-leb, ne-eqb}
 use Rattle.spec_lists.specs.Text.{among, within, digit}
 use Rattle.spec_lists.specs.Select.{all, run, after, keep-if, skip-if}
 use Rattle.spec_lists.specs.laws.Both.{both, absurd-bool}
-use Rattle.spec_calc.specs.Symbol.{numeral, numeral-byte, pointed, within-digits}
+use Rattle.spec_calc.specs.Symbol.{numeral-byte}
+use Rattle.spec_calc.specs.Scanner.{numeral, pointed, within-digits}
 use Rattle.calc_numeral.specs.declared.Figure.{Figure}
 use Rattle.calc_numeral.specs.declared.Figure.the-variants.{Is, Wrong}
 use Rattle.calc_numeral.specs.Numeral.{Ends, Numbered}

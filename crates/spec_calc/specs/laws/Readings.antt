@@ -1,21 +1,28 @@
 -- A calculation depends on the readings of its letters only, and no reading that goes bad makes it true.
 use mathlib.Core.Path.{_≡_, refl, sym, ap, _∙_}
-use mathlib.Core.Bool.{Bool, true, true≢false, and-eq-true-iff}
+use mathlib.Core.Bool.{Bool, true, false, cond, _&&_, true≢false, and-eq-true-iff}
 use mathlib.Core.List.{List, [], _∷_, _++_, List·Memᴰ, List·Memᴰ·head, List·Memᴰ·tail, Memᴰ·append-left, Memᴰ·append-right}
 use mathlib.Core.Logic.{inl, ⊎-elim}
 use Prim.Native.Nat.{ℕ}
+use lib.Ieee.{Float}
 use Rattle.spec_lists.specs.Select.{all}
+use Rattle.spec_lists.specs.laws.Member.{all-member}
 use Rattle.spec_calc.specs.declared.Reading.{Reading}
+use Rattle.spec_calc.specs.declared.Worth.the-variants.{Bad, Is}
 use Rattle.spec_calc.specs.Expression.{Tree, number-tree, letter-tree, minus, negation, binary, choice}
-use Rattle.spec_calc.specs.Value.{heard, reading, value, good, letters, near-one, holds}
+use Rattle.spec_calc.specs.Value.{heard, reading, value, good, letters, near-one, true-worth, holds}
 use Rattle.spec_calc.specs.Readings.{Gone-bad}
-
-each : (p : ℕ → Bool) (ls : List ℕ) → all p ls ≡ true → (i : ℕ) → List·Memᴰ i ls → p i ≡ true
-each p (j ∷ ls) e i (List·Memᴰ·head m) = rw m (and-eq-true-iff (p j) (all p ls) .0 e .0)
-each p (j ∷ ls) e i (List·Memᴰ·tail m) = each p ls (and-eq-true-iff (p j) (all p ls) .0 e .1) i m
 
 abbrev all-good : List Reading → List ℕ → Bool
 all-good rs ls = all (λ i. good (reading rs i)) ls
+
+-- true is a calculation whose letters are all good and whose value is near one
+pub holds-both : (rs : List Reading) (t : Tree) → holds rs t ≡ all-good rs (letters t) && near-one (value rs t)
+holds-both rs t = go (all-good rs (letters t)) (value rs t)
+  where
+    go : (b : Bool) (x : Float) → true-worth (cond b (Is x) Bad) ≡ b && near-one x
+    go true x = refl
+    go false x = refl
 
 module _ (rs qs : List Reading) where
   -- each of these letters has the same reading in both
@@ -58,8 +65,8 @@ module _ (rs qs : List Reading) where
 
   pub bad-never-true : Gone-bad rs qs → (t : Tree) → holds qs t ≡ true → holds rs t ≡ true
   bad-never-true g t e =
-      let h = and-eq-true-iff (all-good qs (letters t)) (near-one (value qs t)) .0 e .0 in
-      holds-agrees t (λ i m. unspoilt g i (each (λ j. good (reading qs j)) (letters t) h i m)) ∙ e
+      let h = and-eq-true-iff (all-good qs (letters t)) (near-one (value qs t)) .0 (sym (holds-both qs t) ∙ e) .0 in
+      holds-agrees t (λ i m. unspoilt g i (all-member (λ j. good (reading qs j)) (letters t) h m)) ∙ e
 
 pub gone-bad-refl : (rs : List Reading) → Gone-bad rs rs
 gone-bad-refl rs i = inl refl

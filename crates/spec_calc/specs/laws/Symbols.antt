@@ -5,11 +5,14 @@ use mathlib.Core.List.{List, [], _∷_}
 use mathlib.Core.Option.{Option, none, some}
 use Prim.Native.Nat.{ℕ, zero, suc, _-_, _≤_}
 use native.Mathlib.Omega.{arith}
+use borrow.Author.Tests.{ne-eqb}
 use lib.ListN.{length, take, drop, length-drop}
 use Rattle.spec_lists.specs.Text.{same, among, within}
 use Rattle.spec_lists.specs.Select.{first, run, after, skip-if}
-use Rattle.spec_calc.specs.Symbol.{Symbol, letter, numeral, numeral-byte, Spelling, spellings, Start, blank, figure, wrong, sign, sign-of, start, then}
-use Rattle.spec_calc.specs.Symbol.{then-number, symbols-in, symbols}
+use Rattle.spec_lists.specs.laws.Range.{above, inside}
+use Rattle.spec_calc.specs.Symbol.{Symbol, letter, numeral-byte, Spelling, spellings}
+use Rattle.spec_calc.specs.Scanner.{numeral, Start, blank, figure, wrong, sign, sign-of, start, spelling, then}
+use Rattle.spec_calc.specs.Scanner.{then-number, symbols-in, symbols}
 
 module _ {A : Type 0} (p : A → Bool) where
   after-shorter : (s : List A) → length (after p s) ≤ length s
@@ -20,27 +23,76 @@ module _ {A : Type 0} (p : A → Bool) where
       go true h = omega arith
       go false h = omega arith
 
--- only a number begins with a figure
-pub figure-byte : (b : ℕ) (s : List ℕ) → start b s ≡ figure → numeral-byte b ≡ true
-figure-byte b s e =
-    go
-    (among " \t" b)
-    (numeral-byte b)
-    (within 65 85 b)
-    (within 97 117 b)
-    (first (λ x. same (x .spelled) (take (length (x .spelled)) (b ∷ s))) spellings)
-    (b - 65)
-    (b - 97) e
-  where
-    go :
-        (p q u v : Bool) (o : Option Spelling) (i j : ℕ)
-        → cond p blank (cond q figure (cond u (sign (letter i) 0) (cond v (sign (letter j) 0) (sign-of o)))) ≡ figure → q ≡ true
-    go true q u v o i j e = cc
-    go false true u v o i j e = refl
-    go false false true v o i j e = cc
-    go false false false true o i j e = cc
-    go false false false false none i j e = cc
-    go false false false false (some x) i j e = cc
+-- ---- what a byte begins
+
+-- a blank, a number, a capital letter, a small letter, or else x
+abbrev pub start-by : Bool → Bool → Bool → Bool → ℕ → Start → Start
+start-by p q u v b x = cond p blank (cond q figure (cond u (sign (letter (b - 65)) 0) (cond v (sign (letter (b - 97)) 0) x)))
+
+module _ (b : ℕ) (s : List ℕ) where
+  pub blank-start : among " \t" b ≡ true → start b s ≡ blank
+  unfolding spelling
+  blank-start e = go (among " \t" b) e
+    where
+      go : (p : Bool) → p ≡ true → start-by p (numeral-byte b) (within 65 85 b) (within 97 117 b) b (spelling b s) ≡ blank
+      go p e = rw e
+
+  pub start-digit : 48 ≤ b → b ≤ 57 → start b s ≡ figure
+  start-digit l h = rw (ne-eqb b 32 (λ e. omega arith), ne-eqb b 9 (λ e. omega arith), inside 48 57 b l h)
+
+  pub start-upper : 65 ≤ b → b ≤ 85 → start b s ≡ sign (letter (b - 65)) 0
+  start-upper l h =
+      rw (
+        ne-eqb b 32 (λ e. omega arith),
+        ne-eqb b 9 (λ e. omega arith),
+        above 48 57 b (omega arith),
+        ne-eqb b 46 (λ e. omega arith),
+        inside 65 85 b l h,
+      )
+
+  pub start-lower : 97 ≤ b → b ≤ 117 → start b s ≡ sign (letter (b - 97)) 0
+  start-lower l h =
+      rw (
+        ne-eqb b 32 (λ e. omega arith),
+        ne-eqb b 9 (λ e. omega arith),
+        above 48 57 b (omega arith),
+        ne-eqb b 46 (λ e. omega arith),
+        above 65 85 b (omega arith),
+        inside 97 117 b l h,
+      )
+
+  -- a spelling is no blank and no number
+  spelling-only : (x : Start) → spelling b s ≡ x → (x ≡ blank → ⊥) × (x ≡ figure → ⊥)
+  unfolding spelling
+  spelling-only x e = rw (← e) (go (first (λ x. same (x .spelled) (take (length (x .spelled)) (b ∷ s))) spellings))
+    where
+      go : (o : Option Spelling) → (sign-of o ≡ blank → ⊥) × (sign-of o ≡ figure → ⊥)
+      go none = ((λ e. let z : _≡_ {A = ℕ} 0 1 = cc in omega arith), (λ e. let z : _≡_ {A = ℕ} 0 1 = cc in omega arith))
+      go (some x) = ((λ e. let z : _≡_ {A = ℕ} 0 1 = cc in omega arith), (λ e. let z : _≡_ {A = ℕ} 0 1 = cc in omega arith))
+
+  -- only a blank byte begins a blank
+  pub blank-byte : start b s ≡ blank → among " \t" b ≡ true
+  unfolding spelling
+  blank-byte e = go (among " \t" b) (numeral-byte b) (within 65 85 b) (within 97 117 b) e
+    where
+      go : (p q u v : Bool) → start-by p q u v b (spelling b s) ≡ blank → p ≡ true
+      go true q u v e = refl
+      go false true u v e = cc
+      go false false true v e = cc
+      go false false false true e = cc
+      go false false false false e = absurd (spelling-only (spelling b s) refl .0 e)
+
+  -- only a number begins with a figure
+  pub figure-byte : start b s ≡ figure → numeral-byte b ≡ true
+  unfolding spelling
+  figure-byte e = go (among " \t" b) (numeral-byte b) (within 65 85 b) (within 97 117 b) e
+    where
+      go : (p q u v : Bool) → start-by p q u v b (spelling b s) ≡ figure → q ≡ true
+      go true q u v e = cc
+      go false true u v e = refl
+      go false false true v e = cc
+      go false false false true e = cc
+      go false false false false e = absurd (spelling-only (spelling b s) refl .1 e)
 
 -- a number takes its first byte
 number-shorter : (b : ℕ) (s : List ℕ) → start b s ≡ figure → length (after numeral-byte (b ∷ s)) ≤ length s

@@ -8,7 +8,7 @@ use Prim.Native.String.{String}
 use lib.ListN.{replicate}
 use lib.Ieee.{Float, nan, ne, lt, le, eq, add, sub, mul, div, neg, ofBits, ofInt}
 use Rattle.spec_token.specs.Scanner.{scan}
-use Rattle.spec_calc.specs.Symbol.{symbols-in}
+use Rattle.spec_calc.specs.Scanner.{symbols-in}
 use Rattle.spec_calc.specs.Value.{value}
 use Rattle.spec_calc.specs.Reader.{tree-of, run, reduce}
 use Rattle.spec_rule.specs.declared.Access.the-variants as access
