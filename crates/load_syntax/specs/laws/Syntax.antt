@@ -27,7 +27,8 @@ use Rattle.load_syntax.specs.declared.Judgment.the-variants.{Tokens, Ref
 use Rattle.load_syntax.specs.Syntax.{Capacity, Parsed, Read}
 
 -- arrays that stayed as long as they were
-pub capacity-same : {s : List ℕ} {a b : Arrays} {roles roles′ : List ℕ} → Scratch-arrays a b → Scratch roles roles′ → Capacity s a roles → Capacity s b roles′
+pub capacity-same :
+    {s : List ℕ} {a b : Arrays} {roles roles′ : List ℕ} → Scratch-arrays a b → Scratch roles roles′ → Capacity s a roles → Capacity s b roles′
 capacity-same l e w = record { short = w .short; room = scratch-room l (w .room); role-room = omega (arith, w .role-room) }
 
 -- what the pass over the braces answers
