@@ -9,7 +9,7 @@ ghost use Rattle.byte_write.specs.Put.{Put, cased, usize-limit};
 // Each function writes at a place and returns the place behind what it wrote. A byte past the end is not written, so that the same
 // code measures and writes. Callers keep their places far below the greatest usize.
 
-pub fn put_byte(lent: &mut [u8], at: usize, b: u8) -> usize
+fn put_byte(lent: &mut [u8], at: usize, b: u8) -> usize
     requires { ⌜ at + 1 < usize-limit ⌝ }
     ensures { λ r. ⌜ Put (now (lent .entry)) (now (lent .exit)) at (b ∷ []) r ⌝ }
 {
@@ -20,7 +20,7 @@ pub fn put_byte(lent: &mut [u8], at: usize, b: u8) -> usize
 }
 
 // The lowest 16 bits of v, low byte first.
-pub fn put_word(lent: &mut [u8], at: usize, v: usize) -> usize
+fn put_word(lent: &mut [u8], at: usize, v: usize) -> usize
     requires { ⌜ at + 2 < usize-limit ⌝ }
     ensures { λ r. ⌜ Put (now (lent .entry)) (now (lent .exit)) at (word-bytes v) r ⌝ }
 {

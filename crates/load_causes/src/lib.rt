@@ -4,6 +4,7 @@ ghost use mathlib.Core.List.{List};
 ghost use Prim.Native.Nat.{ℕ, _≤_};
 ghost use lib.ListN.{length};
 ghost use Rattle.load_tokens.specs.Stores.{arrays-of};
+ghost use Rattle.load_tokens.specs.Scratch.{Scratch};
 ghost use Rattle.load_spans.specs.Roles.{Spans-fit};
 ghost use Rattle.load_spans.specs.Search.{first-of};
 ghost use Rattle.load_causes.specs.Cause.{cause-at, applies, Judged-tokens};
@@ -67,6 +68,7 @@ pub fn by_causes(
         ((kinds : List ℕ) → Judged-tokens (now (s .entry))
         (arrays-of kinds (now (places .entry)) (now (starts .entry)) (now (ends .entry))) (now (roles .entry)) n r)
         ⌝ }
+    ensures { λ r. ⌜ Scratch (now (seen .entry)) (now (seen .exit)) ⌝ }
 {
     let mut k = 0;
     while k < CAUSES {

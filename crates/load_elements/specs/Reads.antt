@@ -8,6 +8,7 @@ use lib.Dec.{ltb}
 use Rattle.spec_grammar.specs.Production.{_tagged_}
 use Rattle.spec_grammar.specs.Reader.{Stack, Entry, once, token}
 use Rattle.load_tokens.specs.Arrays.{kind-of-number, role-of-number}
+use Rattle.load_tokens.specs.Scratch.{Scratch}
 use Rattle.load_elements.specs.declared.Cursor.{Cursor}
 use Rattle.load_elements.specs.declared.Cursor.the-variants as cursor
 use Rattle.load_elements.specs.Parse.{Parsed, stopped-at, parse-from}
@@ -43,7 +44,8 @@ expected x r = once (token (kind-of-number x tagged role-of-number r))
 pub record Leads (kinds roles : List ℕ) (s : Cursor) (k : Stack) (x : Parsed) : Type 0 where
   pub same : parse-at kinds roles s k ≡ x
 
--- the stack l was read, with d tokens at least
+-- the stack l was read, with d tokens at least; the roles from the cursor on, and all of them at a stop, are scratch
 pub record Reads (d : ℕ) (l : Stack) (kinds roles : List ℕ) (s : Cursor) (roles' : List ℕ) (s' : Cursor) : Type 0 where
   pub leads : (k : Stack) → Leads kinds roles s (l ++ k) (parse-at kinds roles' s' k)
+  pub scratch : Scratch roles roles'
   pub less : remaining kinds s' ≤ remaining kinds s - d

@@ -14,7 +14,7 @@ ghost use Rattle.load_spans.specs.Roles.{Spans-fit, Role-code, tally, gap};
 ghost use Rattle.load_flags.specs.Flags.{level-bits, permission-bits, trap-bits, off-bits};
 ghost use Rattle.load_flags.specs.Tokens.{tokens-in, first-text, number-at};
 
-// How many tokens of a part have a role. Callers of this and of next have parts of the kept tokens, which end within roles.
+// How many tokens of a part have a role. Callers have a part of the kept tokens, which ends within roles.
 pub fn count(roles: &[u8], from: usize, to: usize, m: u8) -> usize
     requires { ⌜ to ≤ length (now roles) ⌝ }
     ensures { λ r. ⌜ r ≡ tally m (now (roles .entry)) from (to - from) ⌝ }
@@ -30,7 +30,7 @@ pub fn count(roles: &[u8], from: usize, to: usize, m: u8) -> usize
     k
 }
 
-// The first token of a part that has one of two roles, or the part's end.
+// The first token of a part that has one of two roles, or the part's end. Inner: callers have such a part too, as of count.
 pub fn next(roles: &[u8], from: usize, to: usize, a: u8, b: u8) -> usize
     requires { ⌜ to ≤ length (now roles) ⌝ }
     ensures { λ r. ⌜ r ≡ from + gap a b (now (roles .entry)) from (to - from) ⌝ }

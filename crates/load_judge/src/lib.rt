@@ -2,6 +2,7 @@
 ghost use Prim.Native.Nat.{_≤_};
 ghost use lib.ListN.{length};
 ghost use Rattle.load_tokens.specs.Stores.{arrays-of};
+ghost use Rattle.load_tokens.specs.Scratch.{Scratch};
 ghost use Rattle.load_syntax.specs.Syntax.{Capacity};
 ghost use Rattle.load_judge.specs.Judged.{Space, Judged};
 use load_syntax::Judgment;
@@ -61,7 +62,7 @@ fn judge_long(
     judge_in(s, &mut kinds, places, starts, ends, roles, &mut seen)
 }
 
-// The refusals 2 to 10. The arrays then hold the tokens of a text that has none.
+// The refusals 2 to 10. The arrays hold the tokens of a text that has none; else they are scratch.
 // The callers, load_listing and load, have looked at the text's length and have arrays as long as the text.
 pub fn judge(
     s: &[u8],
@@ -72,6 +73,10 @@ pub fn judge(
 ) -> Judgment
     requires { ⌜ Space (now s) (now places) (now starts) (now ends) (now roles) ⌝ }
     ensures { λ r. ⌜ Judged (now (s .entry)) (now (places .exit)) (now (starts .exit)) (now (ends .exit)) (now (roles .exit)) r ⌝ }
+    ensures { λ r. ⌜
+        Scratch (now (places .entry)) (now (places .exit)) × Scratch (now (starts .entry)) (now (starts .exit))
+        × Scratch (now (ends .entry)) (now (ends .exit)) × Scratch (now (roles .entry)) (now (roles .exit))
+        ⌝ }
 {
     if s.len() <= SHORT {
         return judge_short(s, places, starts, ends, roles);

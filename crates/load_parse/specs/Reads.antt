@@ -5,6 +5,7 @@ use Prim.Native.Nat.{ℕ}
 use lib.ListN.{take, drop}
 use Rattle.spec_grammar.specs.Reader.{Stack, Expected, perhaps, named, string-list, rules, braced}
 use Rattle.load_tokens.specs.Arrays.{role-of-number}
+use Rattle.load_tokens.specs.Scratch.{Scratch}
 use Rattle.load_elements.specs.declared.Cursor.{Cursor}
 use Rattle.load_elements.specs.declared.Cursor.the-variants as cursor
 use Rattle.load_elements.specs.Parse.{Parsed, parsed, stopped-at, parse}
@@ -30,7 +31,9 @@ abbrev pub answered : List ℕ → ParseEnd → Parsed
 answered roles outcome.File = parsed (map role-of-number roles)
 answered roles (outcome.Stopped i) = stopped-at i
 
--- The first n kinds were read: their roles stand in the first n roles, or reading stops at a token. The other roles stay.
+-- The first n kinds were read: their roles stand in the first n roles, or reading stops at a token, and these are scratch. The other
+-- roles stay.
 pub record Answers (kinds : List ℕ) (n : ℕ) (roles roles' : List ℕ) (r : ParseEnd) : Type 0 where
   pub answer : parse (take n kinds) ≡ answered (take n roles') r
+  pub scratch : Scratch (take n roles) (take n roles')
   pub rest : drop n roles' ≡ drop n roles

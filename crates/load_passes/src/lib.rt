@@ -115,8 +115,8 @@ fn rule_references(
     pass(work, s, starts, ends, roles, hags, a, e, h, h, users, lent)
 }
 
-// And for those of all rules. Callers of this and of plain_pass, the functions of load_sections, have the tokens of a file and a
-// cursor whose bound they hand on from section to section.
+// And for those of all rules. Inner: the functions of load_sections call it, with the tokens of a file and a cursor whose bound they
+// hand on from section to section.
 pub fn references(
     work: Work,
     s: &[u8],
@@ -147,7 +147,7 @@ pub fn references(
     p
 }
 
-// A pass for which no names are looked up.
+// A pass for which no names are looked up. Inner: the functions of load_sections call it, as they call references.
 pub fn plain_pass(
     work: Work,
     s: &[u8],

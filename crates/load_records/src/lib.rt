@@ -45,7 +45,7 @@ fn or_none(b: bool, n: usize) -> usize
 // Each function writes for the i-th token at the cursor p and returns the cursor behind. The caller, load_passes::put, has the
 // token in a part whose texts lie in s, and a cursor that a pass keeps bounded (load_passes/specs/laws/Loops.antt).
 
-// A group's name and the run of its members, which end where the next group begins.
+// A group's name and the run of its members, which end where the next group begins. Inner: load_passes::put calls it.
 pub fn put_group(
     s: &[u8],
     starts: &[u16],
@@ -76,7 +76,7 @@ pub fn put_group(
     }
 }
 
-// A member's name.
+// A member's name. Inner: load_passes::put calls it, with a token whose text lies in s.
 pub fn put_name(
     s: &[u8],
     starts: &[u16],
@@ -98,7 +98,7 @@ pub fn put_name(
     }
 }
 
-// An access group's name and its runs of inputs and rules.
+// An access group's name and its runs of inputs and rules. Inner: load_passes::put calls it.
 pub fn put_access(
     s: &[u8],
     starts: &[u16],
@@ -131,7 +131,7 @@ pub fn put_access(
     }
 }
 
-// An input's letter and the name behind it.
+// An input's letter and the name behind it. Inner: load_passes::put calls it.
 pub fn put_input(
     s: &[u8],
     starts: &[u16],
@@ -167,7 +167,7 @@ pub fn put_input(
     }
 }
 
-// A rule's flags, its runs of references and its calculation.
+// A rule's flags, its runs of references and its calculation. Inner: load_passes::put calls it.
 pub fn put_rule(
     s: &[u8],
     starts: &[u16],
@@ -203,7 +203,7 @@ pub fn put_rule(
     }
 }
 
-// A reference's number and name.
+// A reference's number and name. Inner: load_passes::put calls it, with the tokens that define groups.
 pub fn put_reference(
     s: &[u8],
     starts: &[u16],
@@ -237,7 +237,7 @@ pub fn put_reference(
     }
 }
 
-// A string, in lower case if asked.
+// A string, in lower case if asked. Inner: load_passes::put calls it with a token's text, and put_first.
 pub fn put_string(t: &[u8], low: bool, p: Cursor, lent: &mut [u8]) -> Cursor
     requires { ⌜ Bounded cursor-limit p × (length (now t) < cursor-limit) ⌝ }
     ensures { λ r. ⌜ String-put (map (cased low) (now (t .entry))) (now (lent .entry)) (now (lent .exit)) p r ⌝ }
@@ -251,7 +251,7 @@ pub fn put_string(t: &[u8], low: bool, p: Cursor, lent: &mut [u8]) -> Cursor
     }
 }
 
-// The first text of a role that belongs to a token.
+// The first text of a role that belongs to a token. Inner: load_passes::put calls it.
 pub fn put_first(
     s: &[u8],
     starts: &[u16],

@@ -3,6 +3,7 @@ ghost use mathlib.Core.Path.{_≡_};
 ghost use Prim.Native.Nat.{_≤_, min};
 ghost use lib.ListN.{length};
 ghost use Rattle.load_tokens.specs.Arrays.{role-of-number};
+ghost use Rattle.load_tokens.specs.Scratch.{Scratch};
 ghost use Rattle.spec_file.specs.Refusal.{given-again};
 ghost use Rattle.load_spans.specs.Roles.{Role-code, Spans-fit};
 ghost use Rattle.load_spans.specs.Search.{first-of};
@@ -87,6 +88,7 @@ pub fn given_again(
 ) -> usize
     requires { ⌜ Spans-fit (now s) (now starts) (now ends) (now roles) n × (n ≤ length (now seen)) ⌝ }
     ensures { λ r. ⌜ r ≡ first-of given-again (now (s .entry)) (now (starts .entry)) (now (ends .entry)) (now (roles .entry)) n ⌝ }
+    ensures { λ r. ⌜ Scratch (now (seen .entry)) (now (seen .exit)) ⌝ }
 {
     let name = name_repeated(s, starts, ends, roles, n, seen);
     let letter = repeated(s, starts, ends, roles, n, INPUT, ASG_NAME, seen);

@@ -6,7 +6,8 @@ use lib.ListN.{length}
 use Rattle.spec_token.specs.Token.{tokens, bad}
 use Rattle.spec_token.specs.Scanner.{scanned}
 use Rattle.load_tokens.specs.Arrays.{Arrays, tokens-from}
-use Rattle.load_tokens.specs.Stores.{Long, Good}
+use Rattle.load_tokens.specs.Stores.{Good}
+use Rattle.load_tokens.specs.Scratch.{Scratch-arrays}
 use Rattle.load_scan.specs.declared.Scanned.{Scanned}
 use Rattle.load_scan.specs.declared.Scanned.the-variants as scan
 
@@ -20,7 +21,7 @@ abbrev pub Result : List ℕ → Arrays → Scanned → Type 0
 Result s b (scan.Tokens n) = Whole s b n
 Result s b (scan.Bad p) = scanned s ≡ bad p
 
--- a: the arrays before, b: behind
+-- a: the arrays before, b: behind. Beyond the tokens of a text, and all of them after a bad byte, they are scratch.
 pub record Answer (s : List ℕ) (a b : Arrays) (r : Scanned) : Type 0 where
-  pub long : Long a b
+  pub scratch : Scratch-arrays a b
   pub result : Result s b r

@@ -27,7 +27,7 @@ pub struct GroupSections {
 
 // The caller of each function, load_write::table, has the tokens of a file, and hands on the cursor that the function before left.
 
-// Sections 1 to 3: user groups, host groups, and the members of both.
+// Sections 1 to 3: user groups, host groups, and the members of both. Inner: load_write::table calls it, first of all.
 pub fn group_sections(
     s: &[u8],
     starts: &[u16],
@@ -69,7 +69,7 @@ pub struct AccessSections {
     pub cursor: Cursor,
 }
 
-// Sections 4 and 5: access groups and inputs.
+// Sections 4 and 5: access groups and inputs. Inner: load_write::table calls it, behind group_sections.
 pub fn access_sections(
     s: &[u8],
     starts: &[u16],
@@ -122,6 +122,7 @@ pub struct RuleSections {
 }
 
 // Sections 6 and 7: rules and references. A reference's name stands before the rules' calculations, so rules are written last.
+// Inner: load_write::table calls it, behind access_sections.
 pub fn rule_sections(
     s: &[u8],
     starts: &[u16],
@@ -177,7 +178,7 @@ pub fn rule_sections(
     }
 }
 
-// The names of groups and members.
+// The names of groups and members. Inner: load_write::table calls it, behind rule_sections.
 pub fn group_strings(
     s: &[u8],
     starts: &[u16],
@@ -203,7 +204,7 @@ pub fn group_strings(
     load_passes::plain_pass(low, s, starts, ends, roles, b, n, HOST, HOST, users, lent)
 }
 
-// The names of access groups, inputs and references, and the calculations.
+// The names of access groups, inputs and references, and the calculations. Inner: load_write::table calls it, behind group_strings.
 pub fn access_strings(
     s: &[u8],
     starts: &[u16],

@@ -45,7 +45,7 @@ pub fn letter(s: &[u8], starts: &[u16], ends: &[u16], i: usize) -> usize
     b as usize - LETTER_A
 }
 
-pub fn same_text(s: &[u8], starts: &[u16], ends: &[u16], i: usize, j: usize) -> bool
+fn same_text(s: &[u8], starts: &[u16], ends: &[u16], i: usize, j: usize) -> bool
     requires { ⌜ Span-fits (now s) (now starts) (now ends) i × Span-fits (now s) (now starts) (now ends) j ⌝ }
     ensures { λ r. ⌜
         r

@@ -6,6 +6,7 @@ ghost use Prim.Native.Nat.{ℕ, _≤_};
 ghost use lib.Dec.{ltb};
 ghost use lib.ListN.{length, getD};
 ghost use Rattle.load_tokens.specs.Stores.{arrays-of};
+ghost use Rattle.load_tokens.specs.Scratch.{Scratch, Scratch-arrays};
 ghost use Rattle.load_syntax.specs.Syntax.{Capacity, Parsed, Read};
 
 // How many tokens of the arrays are the file's, or why the text is refused.
@@ -43,7 +44,7 @@ fn parse(kinds: &[u8], places: &[u16], n: usize, long: usize, roles: &mut [u8]) 
     }
 }
 
-// The refusals 2 to 4. The arrays then hold the tokens of the text.
+// The refusals 2 to 4. The arrays hold the tokens of a text that has none; else they are scratch.
 // The caller, load_judge, is called with arrays as long as a text that is not too long.
 pub fn read(
     s: &[u8],
@@ -56,6 +57,11 @@ pub fn read(
     requires { ⌜ Capacity (now s) (arrays-of (now kinds) (now places) (now starts) (now ends)) (now roles) ⌝ }
     ensures { λ r. ⌜
         Read (now (s .entry)) (arrays-of (now (kinds .exit)) (now (places .exit)) (now (starts .exit)) (now (ends .exit))) (now (roles .exit)) r
+        ⌝ }
+    ensures { λ r. ⌜
+        Scratch-arrays (arrays-of (now (kinds .entry)) (now (places .entry)) (now (starts .entry)) (now (ends .entry)))
+        (arrays-of (now (kinds .exit)) (now (places .exit)) (now (starts .exit)) (now (ends .exit)))
+        × Scratch (now (roles .entry)) (now (roles .exit))
         ⌝ }
 {
     match load_scan::scan(s, kinds, places, starts, ends) {

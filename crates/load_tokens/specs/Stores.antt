@@ -1,5 +1,4 @@
 -- A token stored behind the others, and what that leaves as it was.
-use mathlib.Core.Path.{_≡_}
 use mathlib.Core.List.{List}
 use Prim.Native.Nat.{ℕ, _<_, _≤_}
 use lib.ListN.{length, getD, set}
@@ -31,13 +30,6 @@ pub record Room (n : ℕ) (a : Arrays) : Type 0 where
   pub places : n ≤ length (a .places)
   pub starts : n ≤ length (a .starts)
   pub ends : n ≤ length (a .ends)
-
--- each array is as long as it was
-pub record Long (a b : Arrays) : Type 0 where
-  pub kinds : length (b .kinds) ≡ length (a .kinds)
-  pub places : length (b .places) ≡ length (a .places)
-  pub starts : length (b .starts) ≡ length (a .starts)
-  pub ends : length (b .ends) ≡ length (a .ends)
 
 -- a token's numbers are those of a text: its kind is one, its text lies in the file, and its place
 pub record Good (n : ℕ) (a : Arrays) (i : ℕ) : Type 0 where

@@ -70,14 +70,14 @@ fn name_word(s: Section) -> usize
 }
 
 // How many records a section has.
-pub fn count(table: &[u8], s: Section) -> usize
+fn count(table: &[u8], s: Section) -> usize
     requires { ⌜ is-table (now table) ≡ true ⌝ }
     ensures { λ r. ⌜ r ≡ length (view (now (table .entry)) .records (section s)) ⌝ }
 {
     table_fields::count(table, order_of(s))
 }
 
-// The j-th word of the i-th record of a section.
+// The j-th word of the i-th record of a section. Inner: ask and ask_rule call it, with a record that a search or a run gave them.
 pub fn field(table: &[u8], s: Section, i: usize, j: usize) -> usize
     requires { ⌜ Stored (now table) (section s) i × (j < width (section s)) ⌝ }
     ensures { λ r. ⌜ Word (word-of (now (table .entry)) (section s) i j) r ⌝ }
@@ -85,7 +85,7 @@ pub fn field(table: &[u8], s: Section, i: usize, j: usize) -> usize
     table_fields::field(table, order_of(s), i, j)
 }
 
-// The part of a table that a record's name is.
+// The part of a table that a record's name is. Inner: ask and ask_rule call it, with a record that a search or a run gave them.
 pub fn name_of(table: &[u8], s: Section, i: usize) -> &[u8]
     requires { ⌜ Stored (now table) (section s) i ⌝ }
     ensures { λ r. ⌜ now r ≡ name (view (now (table .entry))) (section s) (row (view (now (table .entry))) (section s) i) ⌝ }
@@ -98,7 +98,7 @@ pub fn name_of(table: &[u8], s: Section, i: usize) -> &[u8]
 }
 
 // The first access group of a name.
-pub fn first_named(table: &[u8], group: &[u8]) -> Index
+fn first_named(table: &[u8], group: &[u8]) -> Index
     requires { ⌜ is-table (now table) ≡ true ⌝ }
     ensures { λ r. ⌜ Finds-named (now (table .entry)) (now (group .entry)) r ⌝ }
 {
@@ -113,7 +113,7 @@ pub fn first_named(table: &[u8], group: &[u8]) -> Index
     Index::Missing
 }
 
-// The access group that answers for a name.
+// The access group that answers for a name. Inner: ask calls it, of a checked table.
 pub fn answering_group(table: &[u8], group: &[u8]) -> Index
     requires { ⌜ is-table (now table) ≡ true ⌝ }
     ensures { λ r. ⌜ Finds-answering (now (table .entry)) (now (group .entry)) r ⌝ }
@@ -127,7 +127,7 @@ pub fn answering_group(table: &[u8], group: &[u8]) -> Index
     }
 }
 
-// The first input of an access group that has the letter.
+// The first input of an access group that has the letter. Inner: ask calls it, with the answering group.
 pub fn first_input(table: &[u8], group: usize, letter: usize) -> Index
     requires { ⌜ Stored (now table) access-groups group ⌝ }
     ensures { λ r. ⌜ Finds-input (now (table .entry)) group letter r ⌝ }

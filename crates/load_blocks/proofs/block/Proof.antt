@@ -15,7 +15,7 @@ same-length : tie.Need-same-length
 same-length c = search needs
 
 returns : tie.Need-returns
-returns c = record { leads = λ k. then-equal (c .before .before .before .before .before .before .open-block .ensures .leads inner k) (c .before .before .nested .ensures .same k); less = omega (arith, c .before .before .before .before .before .before .open-block .ensures .less, c .before .before .nested .ensures .less) }
+returns c = record { leads = λ k. then-equal (c .before .before .before .before .before .before .open-block .ensures .leads inner k) (c .before .before .nested .ensures .same k); scratch = search needs; less = omega (arith, c .before .before .before .before .before .before .open-block .ensures .less, c .before .before .nested .ensures .less) }
 
 pub block-spec : {M : Type 1} → statement M
 block-spec = tie.close (tie.spec open-block-requires nested-requires same-length returns)

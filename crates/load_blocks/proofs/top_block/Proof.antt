@@ -31,20 +31,20 @@ same-length c = search needs
 
 returns : tie.Need-returns
 unfolding parse-opened remaining-opened
-returns c = record { leads = λ k. equal-then (c .before .before .second-block .ensures .leads k) (c .before .before .before .before .before .before .before .before .before .open-block .ensures .leads top k) (rw (c .before .before .before .before .before .opened .given .1)); less = omega (arith, c .before .before .before .before .before .before .before .before .before .open-block .ensures .less, c .before .before .second-block .ensures .less, ap (remaining-opened (c .before .before .before .before .before .before .before .before .before .before .before .before .before .args .kinds .now)) (c .before .before .before .before .before .opened .given .1)) }
+returns c = record { leads = λ k. equal-then (c .before .before .second-block .ensures .leads k) (c .before .before .before .before .before .before .before .before .before .open-block .ensures .leads top k) (rw (c .before .before .before .before .before .opened .given .1)); scratch = search needs; less = omega (arith, c .before .before .before .before .before .before .before .before .before .open-block .ensures .less, c .before .before .second-block .ensures .less, ap (remaining-opened (c .before .before .before .before .before .before .before .before .before .before .before .before .before .args .kinds .now)) (c .before .before .before .before .before .opened .given .1)) }
 
 same-length-2 : tie.Need-same-length-2
 same-length-2 c = search needs
 
 returns-2 : tie.Need-returns-2
 unfolding parse-opened remaining-opened
-returns-2 c = record { leads = λ k. then-equal (c .before .before .before .before .before .open-block .ensures .leads top k) (rw (c .before .opened2 .given .1)); less = omega (arith, c .before .before .before .before .before .open-block .ensures .less, ap (remaining-opened (c .before .before .before .before .before .before .before .before .before .args .kinds .now)) (c .before .opened2 .given .1)) }
+returns-2 c = record { leads = λ k. then-equal (c .before .before .before .before .before .open-block .ensures .leads top k) (rw (c .before .opened2 .given .1)); scratch = search needs; less = omega (arith, c .before .before .before .before .before .open-block .ensures .less, ap (remaining-opened (c .before .before .before .before .before .before .before .before .before .args .kinds .now)) (c .before .opened2 .given .1)) }
 
 same-length-3 : tie.Need-same-length-3
 same-length-3 c = search needs
 
 returns-3 : tie.Need-returns-3
-returns-3 c = record { leads = λ k. then-equal (c .before .before .before .before .before .before .before .before .open-block .ensures .leads top k) (same-depth (c .before .before .before .before .before .before .before .before .before .before .before .before .args .kinds .now) (c .before .before .before .before .before .before .before .before .open-block .last .1 .0) k (c .before .before .before .before .enum-told .given .1) ∙ c .before .before .nested .ensures .same k); less = omega (arith, c .before .before .before .before .before .before .before .before .open-block .ensures .less, c .before .before .nested .ensures .less) }
+returns-3 c = record { leads = λ k. then-equal (c .before .before .before .before .before .before .before .before .open-block .ensures .leads top k) (same-depth (c .before .before .before .before .before .before .before .before .before .before .before .before .args .kinds .now) (c .before .before .before .before .before .before .before .before .open-block .last .1 .0) k (c .before .before .before .before .enum-told .given .1) ∙ c .before .before .nested .ensures .same k); scratch = search needs; less = omega (arith, c .before .before .before .before .before .before .before .before .open-block .ensures .less, c .before .before .nested .ensures .less) }
 
 pub top-block-spec : {M : Type 1} → statement M
 top-block-spec =

@@ -35,7 +35,7 @@ same-length : tie.Need-same-length Inv-loop μ-loop
 same-length c = search needs
 
 returns : tie.Need-returns Inv-loop μ-loop
-returns c = λ kinds. rw (c .before .before .before .before .before .before .before .cause .ensures) (judging-found _ _ _ _ _ _ (c .before .before .before .before .before .before .before .before .before .loop .inv .0) (c .before .before .before .before .before .before .before .before .loop-test .taken) (rw (c .before .before .before .before .before .before .before .cause .ensures) at (c .before .before .before .before .before .first-of .ensures)) (c .before .before .if1 .taken) (c .wide .ensures) kinds)
+returns c = (λ kinds. rw (c .before .before .before .before .before .before .before .cause .ensures) (judging-found _ _ _ _ _ _ (c .before .before .before .before .before .before .before .before .before .loop .inv .0) (c .before .before .before .before .before .before .before .before .loop-test .taken) (rw (c .before .before .before .before .before .before .before .cause .ensures) at (c .before .before .before .before .before .first-of .ensures)) (c .before .before .if1 .taken) (c .wide .ensures) kinds), search needs)
 
 add-k : tie.Need-add-k Inv-loop μ-loop
 add-k c = search needs
@@ -50,7 +50,7 @@ same-length-2 : tie.Need-same-length-2 Inv-loop μ-loop
 same-length-2 c = search needs
 
 returns-2 : tie.Need-returns-2 Inv-loop μ-loop
-returns-2 c = λ kinds. judging-end _ _ _ _ _ _ (c .before .loop .inv .0) (c .loop-test .left) kinds
+returns-2 c = (λ kinds. judging-end _ _ _ _ _ _ (c .before .loop .inv .0) (c .loop-test .left) kinds, search needs)
 
 pub by-causes-spec : {M : Type 1} → statement M
 by-causes-spec =

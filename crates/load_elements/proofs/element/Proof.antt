@@ -18,7 +18,7 @@ same-length : tie.Need-same-length
 same-length c = search needs
 
 returns : tie.Need-returns
-returns c = record { leads = λ k. when (λ n. leb n 8) (λ n. expected n 0 ∷ k) (c .before .before .before .before .before .kind-at .ensures) (le-leb _ _ (c .before .before .before .before .if1 .taken)) (c .before .before .expect .ensures .leads k) (refl, refl, refl, refl, refl, refl, refl, refl, refl, tt, tt, tt, tt, tt, tt); less = c .before .before .expect .ensures .less }
+returns c = record { leads = λ k. when (λ n. leb n 8) (λ n. expected n 0 ∷ k) (c .before .before .before .before .before .kind-at .ensures) (le-leb _ _ (c .before .before .before .before .if1 .taken)) (c .before .before .expect .ensures .leads k) (refl, refl, refl, refl, refl, refl, refl, refl, refl, tt, tt, tt, tt, tt, tt); scratch = search needs; less = c .before .before .expect .ensures .less }
 
 expect-requires-2 : tie.Need-expect-requires-2
 expect-requires-2 c κs = search needs
@@ -27,7 +27,7 @@ same-length-2 : tie.Need-same-length-2
 same-length-2 c = search needs
 
 returns-2 : tie.Need-returns-2
-returns-2 c = record { leads = λ k. when (λ n. ltb 8 n) (λ n. expected 8 0 ∷ k) (c .before .before .before .before .before .kind-at .ensures) (lt-ltb _ _ (c .before .before .before .before .if1 .left)) (c .before .before .expect2 .ensures .leads k) (tt, tt, tt, tt, tt, tt, tt, tt, tt, refl, refl, refl, refl, refl, refl); less = c .before .before .expect2 .ensures .less }
+returns-2 c = record { leads = λ k. when (λ n. ltb 8 n) (λ n. expected 8 0 ∷ k) (c .before .before .before .before .before .kind-at .ensures) (lt-ltb _ _ (c .before .before .before .before .if1 .left)) (c .before .before .expect2 .ensures .leads k) (tt, tt, tt, tt, tt, tt, tt, tt, tt, refl, refl, refl, refl, refl, refl); scratch = search needs; less = c .before .before .expect2 .ensures .less }
 
 pub element-spec : {M : Type 1} → statement M
 element-spec =

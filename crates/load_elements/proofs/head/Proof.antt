@@ -14,7 +14,7 @@ same-length : tie.Need-same-length
 same-length c = search needs
 
 returns : tie.Need-returns
-returns c = record { leads = λ k. then (c .before .before .before .before .before .before .expect .ensures .leads _) (c .before .before .arguments .ensures .leads k); less = omega (arith, c .before .before .before .before .before .before .expect .ensures .less, c .before .before .arguments .ensures .less) }
+returns c = record { leads = λ k. then (c .before .before .before .before .before .before .expect .ensures .leads _) (c .before .before .arguments .ensures .leads k); scratch = search needs; less = omega (arith, c .before .before .before .before .before .before .expect .ensures .less, c .before .before .arguments .ensures .less) }
 
 pub head-spec : {M : Type 1} → statement M
 head-spec = tie.close (tie.spec expect-requires arguments-requires same-length returns)

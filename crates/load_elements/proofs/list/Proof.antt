@@ -14,7 +14,7 @@ same-length : tie.Need-same-length
 same-length c = search needs
 
 returns : tie.Need-returns
-returns c = record { leads = λ k. then (c .before .before .before .before .before .before .element .ensures .leads _) (c .before .before .list-rest .ensures .leads k); less = omega (arith, c .before .before .before .before .before .before .element .ensures .less, c .before .before .list-rest .ensures .less) }
+returns c = record { leads = λ k. then (c .before .before .before .before .before .before .element .ensures .leads _) (c .before .before .list-rest .ensures .leads k); scratch = search needs; less = omega (arith, c .before .before .before .before .before .before .element .ensures .less, c .before .before .list-rest .ensures .less) }
 
 pub list-spec : {M : Type 1} → statement M
 list-spec = tie.close (tie.spec element-requires list-rest-requires same-length returns)

@@ -41,7 +41,7 @@ same-length : tie.Need-same-length Inv-loop μ-loop
 same-length c = omega (arith, c .before .before .before .before .before .before .loop .inv .long)
 
 returns : tie.Need-returns Inv-loop μ-loop
-returns c = record { leads = λ k. then (c .before .before .before .before .before .before .loop .inv .leads k) (unless 13 (c .before .before .before .before .before .kind-at .ensures) (c .before .before .before .before .if1 .left) (c .before .before .expect2 .ensures .leads k) (refl, refl, refl, refl, refl, refl, refl, refl, refl, refl, refl, refl, refl, tt, refl)); less = omega (arith, c .before .before .before .before .before .before .loop .inv .less) }
+returns c = record { leads = λ k. then (c .before .before .before .before .before .before .loop .inv .leads k) (unless 13 (c .before .before .before .before .before .kind-at .ensures) (c .before .before .before .before .if1 .left) (c .before .before .expect2 .ensures .leads k) (refl, refl, refl, refl, refl, refl, refl, refl, refl, refl, refl, refl, refl, tt, refl)); scratch = search needs; less = omega (arith, c .before .before .before .before .before .before .loop .inv .less) }
 
 pub list-rest-spec : {M : Type 1} → statement M
 list-rest-spec =

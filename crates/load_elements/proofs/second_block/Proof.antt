@@ -9,7 +9,7 @@ kind-at-requires : tie.Need-kind-at-requires
 kind-at-requires c κs = search needs
 
 returns : tie.Need-returns
-returns c = record { leads = λ k. unless 11 (c .before .kind-at .ensures) (c .if1 .taken) unread (refl, refl, refl, refl, refl, refl, refl, refl, refl, refl, refl, tt, refl, refl, refl); less = omega arith }
+returns c = record { leads = λ k. unless 11 (c .before .kind-at .ensures) (c .if1 .taken) unread (refl, refl, refl, refl, refl, refl, refl, refl, refl, refl, refl, tt, refl, refl, refl); scratch = search needs; less = omega arith }
 
 expect-requires : tie.Need-expect-requires
 expect-requires c κs = search needs
@@ -27,7 +27,7 @@ same-length : tie.Need-same-length
 same-length c = search needs
 
 returns-2 : tie.Need-returns-2
-returns-2 c = record { leads = λ k. at 11 (c .before .before .before .before .before .before .before .before .before .before .before .before .before .before .before .before .before .kind-at .ensures) (c .before .before .before .before .before .before .before .before .before .before .before .before .before .before .before .before .if1 .left) (then (c .before .before .before .before .before .before .before .before .before .before .before .before .before .before .expect .ensures .leads _) (then (c .before .before .before .before .before .before .before .before .before .before .element .ensures .leads _) (then (c .before .before .before .before .before .before .expect2 .ensures .leads _) (c .before .before .list .ensures .leads k)))) refl; less = omega (arith, c .before .before .before .before .before .before .before .before .before .before .before .before .before .before .expect .ensures .less, c .before .before .before .before .before .before .before .before .before .before .element .ensures .less, c .before .before .before .before .before .before .expect2 .ensures .less, c .before .before .list .ensures .less) }
+returns-2 c = record { leads = λ k. at 11 (c .before .before .before .before .before .before .before .before .before .before .before .before .before .before .before .before .before .kind-at .ensures) (c .before .before .before .before .before .before .before .before .before .before .before .before .before .before .before .before .if1 .left) (then (c .before .before .before .before .before .before .before .before .before .before .before .before .before .before .expect .ensures .leads _) (then (c .before .before .before .before .before .before .before .before .before .before .element .ensures .leads _) (then (c .before .before .before .before .before .before .expect2 .ensures .leads _) (c .before .before .list .ensures .leads k)))) refl; scratch = search needs; less = omega (arith, c .before .before .before .before .before .before .before .before .before .before .before .before .before .before .expect .ensures .less, c .before .before .before .before .before .before .before .before .before .before .element .ensures .less, c .before .before .before .before .before .before .expect2 .ensures .less, c .before .before .list .ensures .less) }
 
 pub second-block-spec : {M : Type 1} → statement M
 second-block-spec =

@@ -5,7 +5,7 @@ use mathlib.Core.List.{List, [], _∷_, _++_, map, map-append}
 use Prim.Native.Nat.{ℕ, suc, _+_, _≤_, _<_}
 use native.Mathlib.Omega.{arith}
 use native.Mathlib.Numerals.{add-one}
-use lib.ListN.{length, getD, take, drop, set}
+use lib.ListN.{length, getD, take, drop, set, length-set}
 use lib.Seq.{take-suc-set}
 use lib.Dec.{ltb, eqb}
 use borrow.Author.Tests.{ltb-true, ltb-false, lt-ltb, eq-eqb, ne-eqb}
@@ -73,18 +73,18 @@ module _ {kinds roles : List ℕ} {s : Cursor} where
   expect-read {p} {x} {y} r e v h low n =
       let g : x ≡ kind-at kinds (cursor.At p) = sym h ∙ v in
       let lt : p < length kinds = token-there kinds p (omega arith) in
-      record { leads = λ k. rw e (token-read kinds roles p x r k lt n g); less = rw e (omega arith) }
+      record { leads = λ k. rw e (token-read kinds roles p x r k lt n g); scratch = length-set roles p r; less = rw e (omega arith) }
 
   pub expect-refused :
       {p x y : ℕ} (r : ℕ) → s ≡ cursor.At p → y ≡ kind-at kinds (cursor.At p) → (y ≡ x → ⊥) → x < 14
       → Reads 1 (expected x r ∷ []) kinds roles s roles (cursor.Stopped p)
   unfolding remaining parse-at
   expect-refused {p} {x} r e v h low =
-      record { leads = λ k. rw e (token-refused kinds roles p x r k low (λ q. h (v ∙ q))); less = rw e (omega arith) }
+      record { leads = λ k. rw e (token-refused kinds roles p x r k low (λ q. h (v ∙ q))); scratch = refl; less = rw e (omega arith) }
 
   pub stays-stopped : (l : Stack) (d : ℕ) {i : ℕ} → s ≡ cursor.Stopped i → Reads d l kinds roles s roles s
   unfolding remaining parse-at
-  stays-stopped l d e = record { leads = λ k. record { same = rw e }; less = rw e (omega arith) }
+  stays-stopped l d e = record { leads = λ k. record { same = rw e }; scratch = refl; less = rw e (omega arith) }
 
 -- a loop that began at s₀ with l to read, and has l to read again
 pub record Loops (l : Stack) (kinds roles₀ : List ℕ) (s₀ : Cursor) (roles : List ℕ) (s : Cursor) : Type 0 where

@@ -47,7 +47,7 @@ same-length : tie.Need-same-length Inv-loop μ-loop
 same-length c = omega (arith, c .before .before .before .before .before .before .loop .inv .long)
 
 returns : tie.Need-returns Inv-loop μ-loop
-returns c = record { leads = λ k. then (c .before .before .before .before .before .before .before .before .before .before .before .before .before .expect .ensures .leads _) (then (c .before .before .before .before .before .before .before .before .before .asg-item .ensures .leads _) (then (c .before .before .before .before .before .before .loop .inv .leads k) (when (λ n. leb 12 n) (λ n. expected 12 0 ∷ k) (c .before .before .before .before .before .kind-at .ensures) (le-leb _ _ (c .before .before .before .before .if1 .left)) (c .before .before .expect2 .ensures .leads k) (tt, tt, tt, tt, tt, tt, tt, tt, tt, tt, tt, tt, refl, refl, refl)))); less = omega (arith, c .before .before .before .before .before .before .loop .inv .less, c .before .before .before .before .before .before .before .before .before .before .before .before .before .expect .ensures .less, c .before .before .before .before .before .before .before .before .before .asg-item .ensures .less, c .before .before .expect2 .ensures .less) }
+returns c = record { leads = λ k. then (c .before .before .before .before .before .before .before .before .before .before .before .before .before .expect .ensures .leads _) (then (c .before .before .before .before .before .before .before .before .before .asg-item .ensures .leads _) (then (c .before .before .before .before .before .before .loop .inv .leads k) (when (λ n. leb 12 n) (λ n. expected 12 0 ∷ k) (c .before .before .before .before .before .kind-at .ensures) (le-leb _ _ (c .before .before .before .before .if1 .left)) (c .before .before .expect2 .ensures .leads k) (tt, tt, tt, tt, tt, tt, tt, tt, tt, tt, tt, tt, refl, refl, refl)))); scratch = search needs; less = omega (arith, c .before .before .before .before .before .before .loop .inv .less, c .before .before .before .before .before .before .before .before .before .before .before .before .before .expect .ensures .less, c .before .before .before .before .before .before .before .before .before .asg-item .ensures .less, c .before .before .expect2 .ensures .less) }
 
 pub asg-block-spec : {M : Type 1} → statement M
 asg-block-spec =

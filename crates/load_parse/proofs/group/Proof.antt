@@ -17,7 +17,7 @@ same-length : tie.Need-same-length
 same-length c = search needs
 
 returns : tie.Need-returns
-returns c = λ p e. record { leads = λ k. then (c .before .before .before .before .named .ensures .leads _) (no-braces-come p (string-list (role-of-number (c .before .before .before .before .before .before .before .before .args .member))) e (c .before .kind-at .ensures) (c .if1 .taken) unread); less = c .before .before .before .before .named .ensures .less }
+returns c = λ p e. record { leads = λ k. then (c .before .before .before .before .named .ensures .leads _) (no-braces-come p (string-list (role-of-number (c .before .before .before .before .before .before .before .before .args .member))) e (c .before .kind-at .ensures) (c .if1 .taken) unread); scratch = search needs; less = c .before .before .before .before .named .ensures .less }
 
 strings-in-requires : tie.Need-strings-in-requires
 strings-in-requires c κs = search needs
@@ -26,7 +26,7 @@ same-length-2 : tie.Need-same-length-2
 same-length-2 c = search needs
 
 returns-2 : tie.Need-returns-2
-returns-2 c = λ p e. record { leads = λ k. then (c .before .before .before .before .before .before .before .before .named .ensures .leads _) (braces-come p (string-list (role-of-number (c .before .before .before .before .before .before .before .before .before .before .before .before .args .member))) e (c .before .before .before .before .before .kind-at .ensures) (c .before .before .before .before .if1 .left) (c .before .before .strings-in .ensures .leads k)); less = omega (arith, c .before .before .before .before .before .before .before .before .named .ensures .less, c .before .before .strings-in .ensures .less) }
+returns-2 c = λ p e. record { leads = λ k. then (c .before .before .before .before .before .before .before .before .named .ensures .leads _) (braces-come p (string-list (role-of-number (c .before .before .before .before .before .before .before .before .before .before .before .before .args .member))) e (c .before .before .before .before .before .kind-at .ensures) (c .before .before .before .before .if1 .left) (c .before .before .strings-in .ensures .leads k)); scratch = search needs; less = omega (arith, c .before .before .before .before .before .before .before .before .named .ensures .less, c .before .before .strings-in .ensures .less) }
 
 pub group-spec : {M : Type 1} → statement M
 group-spec =

@@ -50,6 +50,7 @@ module _ (kinds roles part : List ℕ) (n : ℕ) (h : n ≤ length roles) (l : l
   answers-as : (r : ParseEnd) → parse (take n kinds) ≡ answered part r → Answers kinds n roles (part ++ drop n roles) r
   answers-as r e = record {
     answer = e ∙ ap (λ (x : List ℕ). answered x r) (sym (take-at part (drop n roles) n front));
+    scratch = ap length (take-at part (drop n roles) n front) ∙ l;
     rest = drop-at part (drop n roles) n front;
   }
 

@@ -23,7 +23,7 @@ same-length : tie.Need-same-length
 same-length c = search needs
 
 returns : tie.Need-returns
-returns c = c .least2 .ensures ∙ rw (c .before .least .ensures, c .before .before .before .before .before .before .before .before .before .before .before .before .name-repeated .ensures, c .before .before .before .before .before .before .before .before .repeated .ensures, c .before .before .before .before .repeated2 .ensures) (sym (first-again (c .before .before .before .before .before .before .before .before .before .before .before .before .before .before .before .before .before .before .before .args .s .now) (c .before .before .before .before .before .before .before .before .before .before .before .before .before .before .before .before .before .before .before .args .starts .now) (c .before .before .before .before .before .before .before .before .before .before .before .before .before .before .before .before .before .before .before .args .ends .now) (c .before .before .before .before .before .before .before .before .before .before .before .before .before .before .before .before .before .before .before .args .roles .now) (c .before .before .before .before .before .before .before .before .before .before .before .before .before .before .before .before .before .before .before .args .n)))
+returns c = (c .least2 .ensures ∙ rw (c .before .least .ensures, c .before .before .before .before .before .before .before .before .before .before .before .before .name-repeated .ensures, c .before .before .before .before .before .before .before .before .repeated .ensures, c .before .before .before .before .repeated2 .ensures) (sym (first-again (c .before .before .before .before .before .before .before .before .before .before .before .before .before .before .before .before .before .before .before .args .s .now) (c .before .before .before .before .before .before .before .before .before .before .before .before .before .before .before .before .before .before .before .args .starts .now) (c .before .before .before .before .before .before .before .before .before .before .before .before .before .before .before .before .before .before .before .args .ends .now) (c .before .before .before .before .before .before .before .before .before .before .before .before .before .before .before .before .before .before .before .args .roles .now) (c .before .before .before .before .before .before .before .before .before .before .before .before .before .before .before .before .before .before .before .args .n))), search needs)
 
 pub given-again-spec : {M : Type 1} → statement M
 given-again-spec =

@@ -14,7 +14,7 @@ same-length : tie.Need-same-length
 same-length c = search needs
 
 returns : tie.Need-returns
-returns c = record { leads = λ k. then (c .before .before .before .before .before .before .expect .ensures .leads _) (c .before .before .strings-in .ensures .leads k); less = omega (arith, c .before .before .before .before .before .before .expect .ensures .less, c .before .before .strings-in .ensures .less) }
+returns c = record { leads = λ k. then (c .before .before .before .before .before .before .expect .ensures .leads _) (c .before .before .strings-in .ensures .leads k); scratch = search needs; less = omega (arith, c .before .before .before .before .before .before .expect .ensures .less, c .before .before .strings-in .ensures .less) }
 
 pub groups-spec : {M : Type 1} → statement M
 groups-spec = tie.close (tie.spec expect-requires strings-in-requires same-length returns)

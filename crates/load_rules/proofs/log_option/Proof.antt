@@ -21,7 +21,7 @@ same-length : tie.Need-same-length
 same-length c = search needs
 
 returns : tie.Need-returns
-returns c = record { leads = λ k. at 13 (c .before .before .before .before .before .before .before .before .before .before .before .before .before .kind-at .ensures) (c .before .before .before .before .before .before .before .before .before .before .before .before .if1 .taken) (then (c .before .before .before .before .before .before .before .before .before .before .expect .ensures .leads _) (then (c .before .before .before .before .before .before .expect2 .ensures .leads _) (c .before .before .expect3 .ensures .leads k))) refl; less = omega (arith, c .before .before .before .before .before .before .before .before .before .before .expect .ensures .less, c .before .before .before .before .before .before .expect2 .ensures .less, c .before .before .expect3 .ensures .less) }
+returns c = record { leads = λ k. at 13 (c .before .before .before .before .before .before .before .before .before .before .before .before .before .kind-at .ensures) (c .before .before .before .before .before .before .before .before .before .before .before .before .if1 .taken) (then (c .before .before .before .before .before .before .before .before .before .before .expect .ensures .leads _) (then (c .before .before .before .before .before .before .expect2 .ensures .leads _) (c .before .before .expect3 .ensures .leads k))) refl; scratch = search needs; less = omega (arith, c .before .before .before .before .before .before .before .before .before .before .expect .ensures .less, c .before .before .before .before .before .before .expect2 .ensures .less, c .before .before .expect3 .ensures .less) }
 
 expect-requires-4 : tie.Need-expect-requires-4
 expect-requires-4 c κs = search needs
@@ -30,7 +30,7 @@ same-length-2 : tie.Need-same-length-2
 same-length-2 c = search needs
 
 returns-2 : tie.Need-returns-2
-returns-2 c = record { leads = λ k. unless 13 (c .before .before .before .before .before .kind-at .ensures) (c .before .before .before .before .if1 .left) (c .before .before .expect4 .ensures .leads k) (refl, refl, refl, refl, refl, refl, refl, refl, refl, refl, refl, refl, refl, tt, refl); less = omega (arith, c .before .before .expect4 .ensures .less) }
+returns-2 c = record { leads = λ k. unless 13 (c .before .before .before .before .before .kind-at .ensures) (c .before .before .before .before .if1 .left) (c .before .before .expect4 .ensures .leads k) (refl, refl, refl, refl, refl, refl, refl, refl, refl, refl, refl, refl, refl, tt, refl); scratch = search needs; less = omega (arith, c .before .before .expect4 .ensures .less) }
 
 pub log-option-spec : {M : Type 1} → statement M
 log-option-spec =

@@ -17,7 +17,7 @@ same-length : tie.Need-same-length
 same-length c = search needs
 
 returns : tie.Need-returns
-returns c = record { leads = λ k. then (c .before .before .before .before .before .before .before .before .before .before .expect .ensures .leads _) (then (c .before .before .before .before .before .before .head .ensures .leads _) (c .before .before .block .ensures .leads k)); less = omega (arith, c .before .before .before .before .before .before .before .before .before .before .expect .ensures .less, c .before .before .before .before .before .before .head .ensures .less, c .before .before .block .ensures .less) }
+returns c = record { leads = λ k. then (c .before .before .before .before .before .before .before .before .before .before .expect .ensures .leads _) (then (c .before .before .before .before .before .before .head .ensures .leads _) (c .before .before .block .ensures .leads k)); scratch = search needs; less = omega (arith, c .before .before .before .before .before .before .before .before .before .before .expect .ensures .less, c .before .before .before .before .before .before .head .ensures .less, c .before .before .block .ensures .less) }
 
 pub predicate-spec : {M : Type 1} → statement M
 predicate-spec =

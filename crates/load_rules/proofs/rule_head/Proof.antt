@@ -20,7 +20,7 @@ same-length : tie.Need-same-length
 same-length c = search needs
 
 returns : tie.Need-returns
-returns c = record { leads = λ k. then (c .before .before .before .before .before .before .before .before .before .before .before .before .before .before .expect .ensures .leads _) (then (c .before .before .before .before .before .before .before .before .before .before .expect2 .ensures .leads _) (then (c .before .before .before .before .before .before .expect3 .ensures .leads _) (c .before .before .permission .ensures .leads k))); less = omega (arith, c .before .before .before .before .before .before .before .before .before .before .before .before .before .before .expect .ensures .less, c .before .before .before .before .before .before .before .before .before .before .expect2 .ensures .less, c .before .before .before .before .before .before .expect3 .ensures .less, c .before .before .permission .ensures .less) }
+returns c = record { leads = λ k. then (c .before .before .before .before .before .before .before .before .before .before .before .before .before .before .expect .ensures .leads _) (then (c .before .before .before .before .before .before .before .before .before .before .expect2 .ensures .leads _) (then (c .before .before .before .before .before .before .expect3 .ensures .leads _) (c .before .before .permission .ensures .leads k))); scratch = search needs; less = omega (arith, c .before .before .before .before .before .before .before .before .before .before .before .before .before .before .expect .ensures .less, c .before .before .before .before .before .before .before .before .before .before .expect2 .ensures .less, c .before .before .before .before .before .before .expect3 .ensures .less, c .before .before .permission .ensures .less) }
 
 pub rule-head-spec : {M : Type 1} → statement M
 rule-head-spec =

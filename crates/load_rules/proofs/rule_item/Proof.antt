@@ -21,7 +21,7 @@ same-length : tie.Need-same-length
 same-length c = search needs
 
 returns : tie.Need-returns
-returns c = record { leads = λ k. at 0 (c .before .before .before .before .before .kind-at .ensures) (c .before .before .before .before .if1 .taken) (c .before .before .groups .ensures .leads k) refl; less = c .before .before .groups .ensures .less }
+returns c = record { leads = λ k. at 0 (c .before .before .before .before .before .kind-at .ensures) (c .before .before .before .before .if1 .taken) (c .before .before .groups .ensures .leads k) refl; scratch = search needs; less = c .before .before .groups .ensures .less }
 
 groups-requires-2 : tie.Need-groups-requires-2
 groups-requires-2 c κs = search needs
@@ -30,7 +30,7 @@ same-length-2 : tie.Need-same-length-2
 same-length-2 c = search needs
 
 returns-2 : tie.Need-returns-2
-returns-2 c = record { leads = λ k. at 1 (c .before .before .before .before .before .before .kind-at .ensures) (c .before .before .before .before .if2 .taken) (c .before .before .groups2 .ensures .leads k) refl; less = c .before .before .groups2 .ensures .less }
+returns-2 c = record { leads = λ k. at 1 (c .before .before .before .before .before .before .kind-at .ensures) (c .before .before .before .before .if2 .taken) (c .before .before .groups2 .ensures .leads k) refl; scratch = search needs; less = c .before .before .groups2 .ensures .less }
 
 named-requires : tie.Need-named-requires
 named-requires c κs = search needs
@@ -39,7 +39,7 @@ same-length-3 : tie.Need-same-length-3
 same-length-3 c = search needs
 
 returns-3 : tie.Need-returns-3
-returns-3 c = record { leads = λ k. at 4 (c .before .before .before .before .before .before .before .kind-at .ensures) (c .before .before .before .before .if3 .taken) (c .before .before .named .ensures .leads k) refl; less = c .before .before .named .ensures .less }
+returns-3 c = record { leads = λ k. at 4 (c .before .before .before .before .before .before .before .kind-at .ensures) (c .before .before .before .before .if3 .taken) (c .before .before .named .ensures .leads k) refl; scratch = search needs; less = c .before .before .named .ensures .less }
 
 name-or-string-requires : tie.Need-name-or-string-requires
 name-or-string-requires c κs = search needs
@@ -51,7 +51,7 @@ same-length-4 : tie.Need-same-length-4
 same-length-4 c = search needs
 
 returns-4 : tie.Need-returns-4
-returns-4 c = record { leads = λ k. when-as (none-of (0 ∷ 1 ∷ 4 ∷ [])) name-or-string (λ n. expected n 17 ∷ headed (perhaps (block inner) ∷ k)) (c .before .before .before .before .before .before .before .before .kind-at .ensures) (none-of-true (0 ∷ 1 ∷ 4 ∷ []) (c .before .before .before .before .before .before .before .before .kind-at .result) (c .before .before .before .before .before .before .before .if1 .left, (c .before .before .before .before .before .before .if2 .left, (c .before .before .before .before .before .if3 .left, tt)))) (c .before .before .before .name-or-string .ensures) (c .before .before .predicate .ensures .leads k) (tt, tt, refl, refl, tt, refl, refl, refl, refl, refl, refl, refl, refl, refl, refl); less = c .before .before .predicate .ensures .less }
+returns-4 c = record { leads = λ k. when-as (none-of (0 ∷ 1 ∷ 4 ∷ [])) name-or-string (λ n. expected n 17 ∷ headed (perhaps (block inner) ∷ k)) (c .before .before .before .before .before .before .before .before .kind-at .ensures) (none-of-true (0 ∷ 1 ∷ 4 ∷ []) (c .before .before .before .before .before .before .before .before .kind-at .result) (c .before .before .before .before .before .before .before .if1 .left, (c .before .before .before .before .before .before .if2 .left, (c .before .before .before .before .before .if3 .left, tt)))) (c .before .before .before .name-or-string .ensures) (c .before .before .predicate .ensures .leads k) (tt, tt, refl, refl, tt, refl, refl, refl, refl, refl, refl, refl, refl, refl, refl); scratch = search needs; less = c .before .before .predicate .ensures .less }
 
 pub rule-item-spec : {M : Type 1} → statement M
 rule-item-spec =

@@ -1,9 +1,10 @@
-use Rattle.load_scan.specs.laws.Filled.{Filled, filled-none, filled-past, room-more, filled-more, filled-whole, filled-bad, small, long-put}
+use Rattle.load_scan.specs.laws.Filled.{Filled, filled-none, filled-past, room-more, filled-more, filled-whole, filled-bad, small, scratch-put}
 use Prim.Native.Nat.{_-_}
 use native.Mathlib.Omega.{arith}
 use lib.ListN.{length}
-use Rattle.load_tokens.specs.Stores.{arrays-of, Long}
-use Rattle.load_tokens.specs.laws.Stores.{long-same, long-room}
+use Rattle.load_tokens.specs.Stores.{arrays-of}
+use Rattle.load_tokens.specs.Scratch.{Scratch-arrays}
+use Rattle.load_tokens.specs.laws.Stores.{scratch-same, scratch-room}
 use Rattle.load_scan.specs.Found.{Token-at, Blank-to}
 use borrow.Author.Needs.{needs}
 use Rattle.load_scan.proofs.scan.Statement.{statement}
@@ -11,13 +12,13 @@ use Rattle.load_scan.proofs.scan.Tie as tie
 
 abbrev Inv-loop : tie.InvT-loop
 Inv-loop s kinds₀ places₀ starts₀ ends₀ at₀ n₀ kinds places starts ends at n =
-    Filled s (arrays-of kinds places starts ends) at n × Long (arrays-of kinds₀ places₀ starts₀ ends₀) (arrays-of kinds places starts ends)
+    Filled s (arrays-of kinds places starts ends) at n × Scratch-arrays (arrays-of kinds₀ places₀ starts₀ ends₀) (arrays-of kinds places starts ends)
 
 abbrev μ-loop : tie.MeasureT-loop
 μ-loop s kinds₀ places₀ starts₀ ends₀ at₀ n₀ kinds places starts ends at n = length s - at
 
 loop-holds : tie.Need-loop-holds Inv-loop μ-loop
-loop-holds c = (filled-none _ _, long-same _)
+loop-holds c = (filled-none _ _, scratch-same _)
 
 step-at-requires : tie.Need-step-at-requires Inv-loop μ-loop
 step-at-requires c κs = search needs
@@ -32,7 +33,7 @@ put-requires c κs =
     let at-loop-test = at-step-at .before in
     let at-loop = at-loop-test .before in
     let at-start = at-loop .before .before .before .before .before .before in
-    let room = long-room (at-loop .loop .inv .1) (at-start .pre .1) in
+    let room = scratch-room (at-loop .loop .inv .1) (at-start .pre .1) in
     (room-more (at-loop .loop .inv .0) room (at-loop-test .loop-test .taken), small {at = at-loop .loop .at} {to = at-entry .entry .given .0 .1 .0} (at-start .pre .0) (rw (at-entry .entry .given .1) at (at-step-at .step-at .ensures)))
 
 add-n : tie.Need-add-n Inv-loop μ-loop
@@ -58,7 +59,7 @@ loop-again c =
     let at-loop-test = at-step-at .before in
     let at-loop = at-loop-test .before in
     let at-start = at-loop .before .before .before .before .before .before in
-    (filled-more (at-loop .loop .inv .0) (long-room (at-loop .loop .inv .1) (at-start .pre .1)) (at-loop-test .loop-test .taken) (rw (at-entry .entry .given .1) at (at-step-at .step-at .ensures)) (at-put .put .ensures), long-put (at-loop .loop .n) (at-entry .entry .given .0 .0) (at-loop .loop .inv .1) (at-put .put .ensures))
+    (filled-more (at-loop .loop .inv .0) (scratch-room (at-loop .loop .inv .1) (at-start .pre .1)) (at-loop-test .loop-test .taken) (rw (at-entry .entry .given .1) at (at-step-at .step-at .ensures)) (at-put .put .ensures), scratch-put (at-loop .loop .n) (at-entry .entry .given .0 .0) (at-loop .loop .inv .1) (at-put .put .ensures))
 
 enum-known-to : tie.Need-enum-known-to Inv-loop μ-loop
 enum-known-to c = search needs
@@ -99,7 +100,7 @@ returns c =
     let at-p = c .before in
     let at-step-at = at-p .before .before in
     let at-loop = at-step-at .before .before in
-    record { long = at-loop .loop .inv .1; result = filled-bad (at-loop .loop .inv .0) (rw (at-p .p .given .1) at (at-step-at .step-at .ensures)) }
+    record { scratch = at-loop .loop .inv .1; result = filled-bad (at-loop .loop .inv .0) (rw (at-p .p .given .1) at (at-step-at .step-at .ensures)) }
 
 same-length-5 : tie.Need-same-length-5 Inv-loop μ-loop
 same-length-5 c = search needs
@@ -114,7 +115,7 @@ same-length-8 : tie.Need-same-length-8 Inv-loop μ-loop
 same-length-8 c = search needs
 
 returns-2 : tie.Need-returns-2 Inv-loop μ-loop
-returns-2 c = record { long = c .before .loop .inv .1; result = filled-whole (c .before .loop .inv .0) (c .loop-test .left) }
+returns-2 c = record { scratch = c .before .loop .inv .1; result = filled-whole (c .before .loop .inv .0) (c .loop-test .left) }
 
 pub scan-spec : {M : Type 1} → statement M
 scan-spec =

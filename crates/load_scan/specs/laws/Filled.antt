@@ -9,8 +9,9 @@ use Rattle.spec_token.specs.Token.{Token, bad}
 use Rattle.spec_token.specs.Scanner.{scanned, scan-from}
 use Rattle.spec_token.specs.laws.Steps.{from-end, prefixed, prefixed-more, prefixed-bad, prefixed-none}
 use Rattle.load_tokens.specs.Arrays.{Arrays, tokens-from}
-use Rattle.load_tokens.specs.Stores.{stored, Room, Long, Good}
-use Rattle.load_tokens.specs.laws.Stores.{long-on, stored-long, good-stored, good-other, tokens-stored}
+use Rattle.load_tokens.specs.Stores.{stored, Room, Good}
+use Rattle.load_tokens.specs.Scratch.{Scratch-arrays}
+use Rattle.load_tokens.specs.laws.Stores.{scratch-on, stored-scratch, good-stored, good-other, tokens-stored}
 use Rattle.load_scan.specs.declared.Entry.{Entry}
 use Rattle.load_scan.specs.Found.{token-of, Token-at, Blank-to}
 use Rattle.load_scan.specs.Stored.{numbers, Small, Put}
@@ -86,5 +87,5 @@ small h d =
     let e = d .end in
     record { place = omega (arith, d .place); start = omega (arith, d .start); end = omega arith }
 
-pub long-put : {o a b : Arrays} (n : ℕ) (t : Entry) → Long o a → Put a n t b → Long o b
-long-put {o} {a} n t l p = rw p (long-on l (stored-long a n (numbers t)))
+pub scratch-put : {o a b : Arrays} (n : ℕ) (t : Entry) → Scratch-arrays o a → Put a n t b → Scratch-arrays o b
+scratch-put {o} {a} n t l p = rw p (scratch-on l (stored-scratch a n (numbers t)))

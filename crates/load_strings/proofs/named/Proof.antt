@@ -20,7 +20,7 @@ same-length : tie.Need-same-length
 same-length c = search needs
 
 returns : tie.Need-returns
-returns c = record { leads = λ k. then (c .before .before .before .before .before .before .before .before .before .before .before .before .before .before .expect .ensures .leads _) (then (c .before .before .before .before .before .before .before .before .before .before .expect2 .ensures .leads _) (then (c .before .before .before .before .before .before .expect3 .ensures .leads _) (c .before .before .expect4 .ensures .leads k))); less = omega (arith, c .before .before .before .before .before .before .before .before .before .before .before .before .before .before .expect .ensures .less, c .before .before .before .before .before .before .before .before .before .before .expect2 .ensures .less, c .before .before .before .before .before .before .expect3 .ensures .less, c .before .before .expect4 .ensures .less) }
+returns c = record { leads = λ k. then (c .before .before .before .before .before .before .before .before .before .before .before .before .before .before .expect .ensures .leads _) (then (c .before .before .before .before .before .before .before .before .before .before .expect2 .ensures .leads _) (then (c .before .before .before .before .before .before .expect3 .ensures .leads _) (c .before .before .expect4 .ensures .leads k))); scratch = search needs; less = omega (arith, c .before .before .before .before .before .before .before .before .before .before .before .before .before .before .expect .ensures .less, c .before .before .before .before .before .before .before .before .before .before .expect2 .ensures .less, c .before .before .before .before .before .before .expect3 .ensures .less, c .before .before .expect4 .ensures .less) }
 
 pub named-spec : {M : Type 1} → statement M
 named-spec =

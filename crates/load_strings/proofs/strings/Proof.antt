@@ -42,7 +42,7 @@ same-length : tie.Need-same-length Inv-loop μ-loop
 same-length c = omega (arith, c .before .before .loop .inv .long)
 
 returns : tie.Need-returns Inv-loop μ-loop
-returns c = record { leads = λ k. then (c .before .before .before .before .before .expect .ensures .leads _) (then (c .before .before .loop .inv .leads k) (unless 13 (c .before .kind-at .ensures) (c .if1 .left) unread (refl, refl, refl, refl, refl, refl, refl, refl, refl, refl, refl, refl, refl, tt, refl))); less = omega (arith, c .before .before .loop .inv .less, c .before .before .before .before .before .expect .ensures .less) }
+returns c = record { leads = λ k. then (c .before .before .before .before .before .expect .ensures .leads _) (then (c .before .before .loop .inv .leads k) (unless 13 (c .before .kind-at .ensures) (c .if1 .left) unread (refl, refl, refl, refl, refl, refl, refl, refl, refl, refl, refl, refl, refl, tt, refl))); scratch = search needs; less = omega (arith, c .before .before .loop .inv .less, c .before .before .before .before .before .expect .ensures .less) }
 
 pub strings-spec : {M : Type 1} → statement M
 strings-spec =

@@ -17,7 +17,7 @@ enum-known-n : tie.Need-enum-known-n
 enum-known-n c = search needs
 
 parse-requires : tie.Need-parse-requires
-parse-requires c κs = let w = c .before .before .before .before .before .before .before .before .before .before .before .before .before .before .before .before .before .before .before .before .before .before .before .before .before .pre .room in let l = c .before .before .before .before .before .before .before .before .before .before .before .before .before .before .scan .ensures .long in let v = whole (c .before .before .before .before .before .before .before .before .before .before .before .before .before .before .scan .ensures) (c .before .before .before .before .n .given .1) in (omega (arith, v .few, l .kinds, w .kinds), omega (arith, v .few, l .places, w .places), omega (arith, v .few, c .before .before .before .before .before .before .before .before .before .before .before .before .before .before .before .before .before .before .before .before .before .before .before .before .before .pre .role-room))
+parse-requires c κs = let w = c .before .before .before .before .before .before .before .before .before .before .before .before .before .before .before .before .before .before .before .before .before .before .before .before .before .pre .room in let l = c .before .before .before .before .before .before .before .before .before .before .before .before .before .before .scan .ensures .scratch in let v = whole (c .before .before .before .before .before .before .before .before .before .before .before .before .before .before .scan .ensures) (c .before .before .before .before .n .given .1) in (omega (arith, v .few, l .kinds, w .kinds), omega (arith, v .few, l .places, w .places), omega (arith, v .few, c .before .before .before .before .before .before .before .before .before .before .before .before .before .before .before .before .before .before .before .before .before .before .before .before .before .pre .role-room))
 
 same-length : tie.Need-same-length
 same-length c = search needs
@@ -32,7 +32,7 @@ same-length-4 : tie.Need-same-length-4
 same-length-4 c = search needs
 
 returns : tie.Need-returns
-returns c = bad-read (capacity-same (c .before .before .before .before .before .before .before .before .before .before .before .scan .ensures .long) refl (c .before .before .before .before .before .before .before .before .before .before .before .before .before .before .before .before .before .before .before .before .before .before .pre)) (bad-byte (c .before .before .before .before .before .before .before .before .before .before .before .scan .ensures) (c .before .p .given .1))
+returns c = (bad-read (capacity-same (c .before .before .before .before .before .before .before .before .before .before .before .scan .ensures .scratch) refl (c .before .before .before .before .before .before .before .before .before .before .before .before .before .before .before .before .before .before .before .before .before .before .pre)) (bad-byte (c .before .before .before .before .before .before .before .before .before .before .before .scan .ensures) (c .before .p .given .1)), (c .before .before .before .before .before .before .before .before .before .before .before .scan .ensures .scratch, refl))
 
 same-length-5 : tie.Need-same-length-5
 same-length-5 c = search needs
@@ -50,7 +50,7 @@ same-length-9 : tie.Need-same-length-9
 same-length-9 c = search needs
 
 returns-2 : tie.Need-returns-2
-returns-2 c = tokens-read (capacity-same (c .before .before .before .before .before .before .before .before .before .before .before .before .before .before .before .before .before .scan .ensures .long) (c .before .before .parse .kept .1 .1 .1 .1 .0) (c .before .before .before .before .before .before .before .before .before .before .before .before .before .before .before .before .before .before .before .before .before .before .before .before .before .before .before .before .pre)) (whole (c .before .before .before .before .before .before .before .before .before .before .before .before .before .before .before .before .before .scan .ensures) (c .before .before .before .before .before .before .before .n .given .1)) (c .before .before .parse .ensures _ _ _)
+returns-2 c = (tokens-read (capacity-same (c .before .before .before .before .before .before .before .before .before .before .before .before .before .before .before .before .before .scan .ensures .scratch) (c .before .before .parse .kept .1 .1 .1 .1 .0) (c .before .before .before .before .before .before .before .before .before .before .before .before .before .before .before .before .before .before .before .before .before .before .before .before .before .before .before .before .pre)) (whole (c .before .before .before .before .before .before .before .before .before .before .before .before .before .before .before .before .before .scan .ensures) (c .before .before .before .before .before .before .before .n .given .1)) (c .before .before .parse .ensures _ _ _), (c .before .before .before .before .before .before .before .before .before .before .before .before .before .before .before .before .before .scan .ensures .scratch, c .before .before .parse .kept .1 .1 .1 .1 .0))
 
 pub read-spec : {M : Type 1} → statement M
 read-spec =

@@ -10,8 +10,8 @@ use lib.ListN.{length, getD}
 use Rattle.spec_token.specs.Token.{bad}
 use Rattle.spec_token.specs.Scanner.{scanned}
 use Rattle.load_tokens.specs.Arrays.{Arrays, tokens-from}
-use Rattle.load_tokens.specs.Stores.{Long}
-use Rattle.load_tokens.specs.laws.Stores.{long-room}
+use Rattle.load_tokens.specs.Scratch.{Scratch, Scratch-arrays}
+use Rattle.load_tokens.specs.laws.Stores.{scratch-room}
 use Rattle.spec_file.specs.Depth.{too-deep}
 use Rattle.spec_file.specs.Load.{by-tokens}
 use Rattle.spec_file.specs.declared.Refusal.the-variants.{BadByte, TooDeep, Ungrammatical}
@@ -28,8 +28,9 @@ use Rattle.load_syntax.specs.declared.Judgment.the-variants.{Tokens, Ref
 use Rattle.load_syntax.specs.Syntax.{Capacity, Parsed, Read}
 
 -- arrays that stayed as long as they were
-pub capacity-same : {s : List ℕ} {a b : Arrays} {roles roles′ : List ℕ} → Long a b → length roles′ ≡ length roles → Capacity s a roles → Capacity s b roles′
-capacity-same l e w = record { short = w .short; room = long-room l (w .room); role-room = omega (arith, w .role-room) }
+pub capacity-same :
+    {s : List ℕ} {a b : Arrays} {roles roles′ : List ℕ} → Scratch-arrays a b → Scratch roles roles′ → Capacity s a roles → Capacity s b roles′
+capacity-same l e w = record { short = w .short; room = scratch-room l (w .room); role-room = omega (arith, w .role-room) }
 
 -- what the pass over the braces answers
 deep-of : {r : Deep} {p : ℕ} (o : Option ℕ) → r ≡ answer o → r ≡ At p → o ≡ some p

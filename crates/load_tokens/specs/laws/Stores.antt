@@ -7,17 +7,18 @@ use lib.ListN.{length, getD, set, length-set}
 use lib.Seq.{getD-set-same, getD-set-other}
 use Rattle.load_tokens.specs.Arrays.{kind-of-number, between, Arrays, token-at, tokens-from}
 use Rattle.load_tokens.specs.laws.Arrays.{tokens-more}
-use Rattle.load_tokens.specs.Stores.{Numbers, stored, Room, Long, Good}
+use Rattle.load_tokens.specs.Stores.{Numbers, stored, Room, Good}
+use Rattle.load_tokens.specs.Scratch.{Scratch-arrays}
 
-pub long-same : (a : Arrays) → Long a a
-long-same a = record { kinds = refl; places = refl; starts = refl; ends = refl }
+pub scratch-same : (a : Arrays) → Scratch-arrays a a
+scratch-same a = record { kinds = refl; places = refl; starts = refl; ends = refl }
 
-pub long-on : {a b c : Arrays} → Long a b → Long b c → Long a c
-long-on f g =
+pub scratch-on : {a b c : Arrays} → Scratch-arrays a b → Scratch-arrays b c → Scratch-arrays a c
+scratch-on f g =
     record { kinds = g .kinds ∙ f .kinds; places = g .places ∙ f .places; starts = g .starts ∙ f .starts; ends = g .ends ∙ f .ends }
 
-pub long-room : {n : ℕ} {a b : Arrays} → Long a b → Room n a → Room n b
-long-room f r =
+pub scratch-room : {n : ℕ} {a b : Arrays} → Scratch-arrays a b → Room n a → Room n b
+scratch-room f r =
     record {
       kinds = omega (arith, f .kinds, r .kinds);
       places = omega (arith, f .places, r .places);
@@ -25,8 +26,8 @@ long-room f r =
       ends = omega (arith, f .ends, r .ends);
     }
 
-pub stored-long : (a : Arrays) (i : ℕ) (t : Numbers) → Long a (stored a i t)
-stored-long a i t =
+pub stored-scratch : (a : Arrays) (i : ℕ) (t : Numbers) → Scratch-arrays a (stored a i t)
+stored-scratch a i t =
     record {
       kinds = length-set (a .kinds) i (t .kind);
       places = length-set (a .places) i (t .place);
