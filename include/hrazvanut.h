@@ -60,13 +60,13 @@ uint8_t hrazvanut_is_table(const uint8_t *table, size_t table_len);
  * end of states was never heard, one past the end of values has no value and is invalid. Never heard, invalid, NaN and infinite readings
  * are bad: a rule whose calculation names one does not match. */
 uint32_t hrazvanut_decide(const uint8_t *table, size_t table_len, const uint8_t *group, size_t group_len, const uint8_t *user,
-                          size_t user_len, const uint8_t *host, size_t host_len, uint8_t level, const uint8_t *states, size_t states_len,
+                          size_t user_len, const uint8_t *host, size_t host_len, uint32_t level, const uint8_t *states, size_t states_len,
                           const double *values, size_t values_len);
 
 /* The same, for bytes of which hrazvanut_is_table has said 1 and that were not written since: the one precondition of this library. It
  * spares the check, which takes most of the time of a question. */
 uint32_t hrazvanut_decide_checked(const uint8_t *table, size_t table_len, const uint8_t *group, size_t group_len, const uint8_t *user,
-                                  size_t user_len, const uint8_t *host, size_t host_len, uint8_t level, const uint8_t *states,
+                                  size_t user_len, const uint8_t *host, size_t host_len, uint32_t level, const uint8_t *states,
                                   size_t states_len, const double *values, size_t values_len);
 
 /* Of the answer to a question: 0 NONE, 1 READ, 2 WRITE; whether writes are to be trapped; 0, or the refusal: 20 no table, 21 level
@@ -78,7 +78,7 @@ uint32_t hrazvanut_decide_checked(const uint8_t *table, size_t table_len, const 
 /* ---- a look-up */
 
 /* Where the name of the process variable stands that feeds a letter (A is 0) of a group: a part of the table. */
-uint64_t hrazvanut_find_input(const uint8_t *table, size_t table_len, const uint8_t *group, size_t group_len, uint8_t letter);
+uint64_t hrazvanut_find_input(const uint8_t *table, size_t table_len, const uint8_t *group, size_t group_len, uint32_t letter);
 #define HRAZVANUT_AT(answer) ((unsigned)((answer) & 0xffff))
 #define HRAZVANUT_NAME_LENGTH(answer) ((unsigned)((answer) >> 16 & 0xffff))
 /* 0 if found; 20 no table, 22 no such input. */

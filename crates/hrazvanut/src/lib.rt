@@ -44,7 +44,7 @@ pub extern "C" fn hrazvanut_abi_decide(
     group: &[u8],
     user: &[u8],
     host: &[u8],
-    level: u8,
+    level: u32,
     states: &[u8],
     values: &[f64],
 ) -> u64
@@ -63,7 +63,7 @@ pub extern "C" fn hrazvanut_abi_decide_checked(
     group: &[u8],
     user: &[u8],
     host: &[u8],
-    level: u8,
+    level: u32,
     states: &[u8],
     values: &[f64],
 ) -> u64
@@ -77,7 +77,7 @@ pub extern "C" fn hrazvanut_abi_decide_checked(
 }
 
 #[no_mangle]
-pub extern "C" fn hrazvanut_abi_find_input(table: &[u8], group: &[u8], letter: u8) -> u64
+pub extern "C" fn hrazvanut_abi_find_input(table: &[u8], group: &[u8], letter: u32) -> u64
     ensures { λ r. ⌜ r ≡ found-number (look-up (now (table .entry)) (now (group .entry)) letter) ⌝ }
 {
     api_numbers::found_number(ask::find_input(table, group, letter))
