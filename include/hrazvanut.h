@@ -353,7 +353,7 @@ static inline struct hrazvanut_found hrazvanut_find_input(struct hrazvanut_table
 
 /* ---- a calculation */
 
-/* Whether a text is a calculation that 01 allows, apart from its letters having inputs. */
+/* Whether a text is a calculation that 01 allows, of at most 79 bytes, apart from its letters having inputs. */
 static inline bool hrazvanut_allowed(struct hrazvanut_text text)
 {
     return hrazvanut_abi_allowed(hrazvanut_abi_bytes(text.start, text.length), text.length) == 1;
