@@ -18,7 +18,7 @@ use std::hint::black_box;
 
 /// A and B read these; all other letters were never heard.
 const VALUES: [f64; 2] = [0.25, 2.0];
-const LEVEL: u8 = 1;
+const LEVEL: u32 = 1;
 
 /// A sample with all that is needed to ask about it.
 struct Prepared<'a> {

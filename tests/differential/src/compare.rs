@@ -121,7 +121,7 @@ impl Comparison {
         self.same(paper, library, || describe("decide_checked"))
     }
 
-    pub fn find_input(&mut self, table: &[u8], group: &[u8], letter: u8) -> Go {
+    pub fn find_input(&mut self, table: &[u8], group: &[u8], letter: u32) -> Go {
         let paper = match paper::find_input(table, group, letter) {
             Ok((place, length)) => Found { place: place as u16, length: length as u16, refusal: 0, rest: 0 },
             Err(refusal) => Found { place: 0, length: 0, refusal, rest: 0 },

@@ -60,7 +60,7 @@ pub struct Asked<'a> {
     pub group: &'a [u8],
     pub user: &'a [u8],
     pub host: &'a [u8],
-    pub level: u8,
+    pub level: u32,
     pub states: &'a [u8],
     pub values: &'a [f64],
 }
@@ -88,7 +88,7 @@ mod abi {
             user_len: usize,
             host: *const u8,
             host_len: usize,
-            level: u8,
+            level: u32,
             states: *const u8,
             states_len: usize,
             values: *const f64,
@@ -103,7 +103,7 @@ mod abi {
             user_len: usize,
             host: *const u8,
             host_len: usize,
-            level: u8,
+            level: u32,
             states: *const u8,
             states_len: usize,
             values: *const f64,
@@ -114,7 +114,7 @@ mod abi {
             table_len: usize,
             group: *const u8,
             group_len: usize,
-            letter: u8,
+            letter: u32,
         ) -> u64;
         pub fn hrazvanut_allowed(text: *const u8, text_len: usize) -> u8;
     }
@@ -137,9 +137,9 @@ mod abi {
         hrazvanut_load(In, usize, *mut u8, usize) -> u64;
         hrazvanut_list_warnings(In, usize, usize, *mut u8, usize, *mut u16, usize) -> u64;
         hrazvanut_is_table(In, usize) -> u8;
-        hrazvanut_decide(In, usize, In, usize, In, usize, In, usize, u8, In, usize, Values, usize) -> u32;
-        hrazvanut_decide_checked(In, usize, In, usize, In, usize, In, usize, u8, In, usize, Values, usize) -> u32;
-        hrazvanut_find_input(In, usize, In, usize, u8) -> u64;
+        hrazvanut_decide(In, usize, In, usize, In, usize, In, usize, u32, In, usize, Values, usize) -> u32;
+        hrazvanut_decide_checked(In, usize, In, usize, In, usize, In, usize, u32, In, usize, Values, usize) -> u32;
+        hrazvanut_find_input(In, usize, In, usize, u32) -> u64;
         hrazvanut_allowed(In, usize) -> u8;
     }
 }
@@ -230,7 +230,7 @@ fn decision(bits: u32) -> Decision {
     }
 }
 
-pub fn find_input(table: &[u8], group: &[u8], letter: u8) -> Found {
+pub fn find_input(table: &[u8], group: &[u8], letter: u32) -> Found {
     // SAFETY: as above.
     let bits = unsafe {
         abi::hrazvanut_find_input(table.as_ptr(), table.len(), group.as_ptr(), group.len(), letter)
