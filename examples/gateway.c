@@ -1,73 +1,79 @@
 /* A gateway in small: loads an access security file, hears some readings, and asks who may write. */
+#include <math.h>
 #include <stdio.h>
-#include <string.h>
 
 #include "hrazvanut.h"
 
-static const char *const access_word[] = {"NONE", "READ", "WRITE", "?"};
-
-static const uint8_t *bytes(const char *s) { return (const uint8_t *)s; }
+static const char *const access_word[] = {"NONE", "READ", "WRITE"};
 
 /* Prints the warnings of a file, eight at a time. */
-static void print_warnings(const uint8_t *text, size_t n)
+static void print_warnings(struct hrazvanut_text text)
 {
-    uint8_t numbers[8];
-    uint16_t places[8];
+    struct hrazvanut_warning warnings[8];
     size_t skip = 0;
     for (;;) {
-        size_t count = HRAZVANUT_COUNT(hrazvanut_list_warnings(text, n, skip, numbers, 8, places, 8));
-        if (count <= skip)
+        struct hrazvanut_listed listed = hrazvanut_list_warnings(text, skip, warnings, 8);
+        if (listed.written == 0)
             return;
-        for (size_t i = 0; i < 8 && skip + i < count; i++)
-            printf("warning %u at %u\n", numbers[i], places[i]);
-        skip += 8;
+        for (size_t i = 0; i < listed.written; i++)
+            printf("warning %d at %zu\n", (int)warnings[i].kind, warnings[i].place);
+        skip += listed.written;
     }
 }
 
-/* Asks about one channel's group and prints the answer. */
-static void ask(const uint8_t *table, size_t n, const char *group, const char *user, const char *host, const uint8_t *states,
-                const double *values)
+/* Asks and prints the answer. */
+static void ask(struct hrazvanut_table table, const struct hrazvanut_question *question)
 {
-    uint32_t answer = hrazvanut_decide(table, n, bytes(group), strlen(group), bytes(user), strlen(user), bytes(host), strlen(host), 1,
-                                       states, HRAZVANUT_READINGS, values, HRAZVANUT_READINGS);
-    if (HRAZVANUT_QUESTION_REFUSED(answer))
-        printf("refused %u\n", HRAZVANUT_QUESTION_REFUSED(answer));
+    struct hrazvanut_answer answer = hrazvanut_decide(table, question);
+    if (answer.refusal)
+        printf("refused %d: %s\n", (int)answer.refusal, hrazvanut_refusal_words(answer.refusal));
     else
-        printf("%s %s\n", access_word[HRAZVANUT_ACCESS(answer)], HRAZVANUT_TRAP(answer) ? "TRAPWRITE" : "NOTRAPWRITE");
+        printf("%s %s\n", access_word[answer.access], answer.trap ? "TRAPWRITE" : "NOTRAPWRITE");
+}
+
+/* A file that cannot be read to its end counts as empty, so that no part of it is taken for the whole. */
+static size_t read_all(FILE *f, char *bytes, size_t length)
+{
+    size_t n = fread(bytes, 1, length, f);
+    return ferror(f) ? 0 : n;
 }
 
 int main(int argc, char **argv)
 {
-    static uint8_t text[HRAZVANUT_FILE + 1]; /* one byte more, so that a longer file is seen to be longer */
-    static uint8_t table[HRAZVANUT_TABLE];
-    uint8_t states[HRAZVANUT_READINGS] = {HRAZVANUT_NEVER_HEARD};
-    double values[HRAZVANUT_READINGS] = {0};
+    static char bytes[HRAZVANUT_FILE + 1]; /* one byte more, so that a longer file is seen to be longer */
+    static uint8_t lent[HRAZVANUT_TABLE];
+    struct hrazvanut_text text = {.start = bytes};
+    struct hrazvanut_room room = {.start = lent, .length = sizeof lent};
 
     FILE *f = argc > 1 ? fopen(argv[1], "rb") : NULL;
     if (!f) {
         fprintf(stderr, "usage: gateway FILE\n");
         return 2;
     }
-    size_t n = fread(text, 1, sizeof text, f);
+    text.length = read_all(f, bytes, sizeof bytes);
     fclose(f);
 
-    uint64_t loaded = hrazvanut_load(text, n, table, sizeof table);
-    if (HRAZVANUT_REFUSAL(loaded)) {
-        printf("refusal %u at %u\n", HRAZVANUT_REFUSAL(loaded), HRAZVANUT_PLACE(loaded));
+    struct hrazvanut_loaded loaded = hrazvanut_load(text, room);
+    if (loaded.refusal) {
+        printf("refusal %d at %zu: %s\n", (int)loaded.refusal, loaded.place, hrazvanut_refusal_words(loaded.refusal));
         return 1;
     }
-    print_warnings(text, n);
-    printf("table of %u bytes\n", HRAZVANUT_LENGTH(loaded));
+    print_warnings(text);
+    printf("table of %zu bytes\n", loaded.table.length);
 
-    uint64_t input = hrazvanut_find_input(table, sizeof table, bytes("DEFAULT"), 7, 0);
-    if (!HRAZVANUT_LOOK_UP_REFUSED(input))
-        printf("A is %.*s\n", (int)HRAZVANUT_NAME_LENGTH(input), (const char *)table + HRAZVANUT_AT(input));
+    struct hrazvanut_found input = hrazvanut_find_input(loaded.table, hrazvanut_string("DEFAULT"), 0);
+    if (!input.refusal)
+        printf("A is %.*s\n", (int)input.name.length, input.name.start);
 
-    ask(table, sizeof table, "", "ann", "pc1", states, values); /* A never heard */
-    states[0] = HRAZVANUT_VALUE;
-    values[0] = 0.25;
-    ask(table, sizeof table, "", "ann", "pc1", states, values); /* a calm building */
-    values[0] = 0.0 / 0.0;
-    ask(table, sizeof table, "", "ann", "pc1", states, values); /* an aftershock: the sensor answers not-a-number */
+    struct hrazvanut_question question = {
+        .user = hrazvanut_string("ann"),
+        .host = hrazvanut_string("pc1"),
+        .level = 1,
+    };
+    ask(loaded.table, &question); /* A never heard */
+    question.readings[0] = (struct hrazvanut_reading){.state = HRAZVANUT_VALUE, .value = 0.25};
+    ask(loaded.table, &question); /* a calm building */
+    question.readings[0].value = NAN;
+    ask(loaded.table, &question); /* an aftershock: the sensor answers not-a-number */
     return 0;
 }

@@ -1,9 +1,18 @@
-/* Verified access security for EPICS gateways: the proved library, for C.
+/* Verified access security for EPICS gateways: the proved library, for C (C99 or later) and C++ (C++11 or later).
  *
- * Every function below is total but the one whose name ends in _checked: any bytes, any lengths, any numbers get an answer, in
- * bounds and in bounded time. A pointer must be good for the length beside it; with a length of 0 it may be any pointer but NULL.
- * Bytes that are lent as const are only read. Nothing is kept between calls: no heap, no static storage, so any thread may call,
- * as long as nobody writes a table while another call reads it. A load needs less than 180 KiB of stack.
+ * A gateway calls hrazvanut_load, hrazvanut_list_warnings, hrazvanut_is_table, hrazvanut_decide, hrazvanut_decide_checked,
+ * hrazvanut_find_input and hrazvanut_allowed. They stand at the end of this file, each with its contract in words, and are inline:
+ * they pass the parts of their structs on to the proved functions, hrazvanut_abi_*, and take the answers apart.
+ *
+ * Of every call but hrazvanut_decide_checked: any bytes, any lengths, any numbers get an answer, in bounds and in bounded time.
+ *
+ * - A pointer is good for the length beside it. With a length of 0 it may be any pointer, NULL too.
+ * - What is lent to be written (the room of a load, the array of warnings) overlaps nothing else that is lent to the same call. What is
+ *   only read may overlap.
+ * - Bytes need no alignment; structs and arrays of them have that of their type, as the compiler lays them.
+ * - Nothing is kept between calls: no heap, no static storage, no pointer. Any thread may call, as long as nobody writes what another
+ *   call reads.
+ * - A load and a list of warnings need less than 180 KiB of stack. Every call runs in a thread of 256 KiB, whatever it is given.
  *
  * Documents: 01 is the paper that says what is made; docs/USING.md tells each refusal and warning with its cure.
  */
@@ -12,85 +21,342 @@
 
 #include <stddef.h>
 #include <stdint.h>
+#include <string.h>
+#ifndef __cplusplus
+#include <stdbool.h>
+#endif
+
+/* The version of this interface. MAJOR grows when something that compiled compiles no more, or means something else. MINOR grows when
+ * something is new: a function, an enumerator, a field behind the others of its struct.
+ *
+ * So that new fields do no harm, start each struct from zeros (= {0}, in C++ = {}) and set its fields by their names: a field that you do
+ * not know is zero, and zero asks for nothing and says nothing. Expect numbers of refusals and warnings that you do not know.
+ *
+ * Header and library are of one revision of the repository. A library knows no struct of this header; a function hrazvanut_abi_* whose
+ * parameters or answer change gets another name, so that a header does not link with a library that means something else. */
+#define HRAZVANUT_VERSION_MAJOR 2
+#define HRAZVANUT_VERSION_MINOR 0
+
+/* No file is longer, no table is longer, so many readings has a question: those of the letters A to U. */
+#define HRAZVANUT_FILE 16384
+#define HRAZVANUT_TABLE 35108
+#define HRAZVANUT_READINGS 21
+
+/* ---- what is given */
+
+/* The bytes of a file, a name or a calculation. No NUL ends them. */
+struct hrazvanut_text {
+    const char *start;
+    size_t length;
+};
+
+/* The bytes of a table, or any others: hrazvanut_is_table tells. More may stand behind the table. */
+struct hrazvanut_table {
+    const uint8_t *start;
+    size_t length;
+};
+
+/* Lent bytes for a table to be written into. */
+struct hrazvanut_room {
+    uint8_t *start;
+    size_t length;
+};
+
+/* What a sensor last answered. Any other number counts as HRAZVANUT_INVALID. */
+enum hrazvanut_state {
+    HRAZVANUT_NEVER_HEARD = 0,
+    HRAZVANUT_INVALID = 1,
+    HRAZVANUT_VALUE = 2
+};
+
+/* A value is looked at only in the state HRAZVANUT_VALUE. Never heard, invalid, not-a-number and infinite readings are bad. */
+struct hrazvanut_reading {
+    enum hrazvanut_state state;
+    double value;
+};
+
+/* Who asks, for a channel of which group, at which level. A zeroed question is that of nobody, from nowhere, with no reading heard. */
+struct hrazvanut_question {
+    struct hrazvanut_text group; /* empty: DEFAULT */
+    struct hrazvanut_text user;
+    struct hrazvanut_text host;
+    uint32_t level;
+    struct hrazvanut_reading readings[HRAZVANUT_READINGS]; /* by letter: A is 0 */
+};
+
+/* ---- what is answered */
+
+/* 01's numbers. A refused call writes nothing, grants nothing and finds nothing. */
+enum hrazvanut_refusal {
+    HRAZVANUT_NOT_REFUSED = 0,
+    /* of a load; 1 to 10 of a list of warnings too */
+    HRAZVANUT_REFUSED_FILE_TOO_LONG = 1,
+    HRAZVANUT_REFUSED_BAD_BYTE = 2,
+    HRAZVANUT_REFUSED_TOO_DEEP = 3,
+    HRAZVANUT_REFUSED_UNGRAMMATICAL = 4,
+    HRAZVANUT_REFUSED_STRING_TOO_LONG = 5,
+    HRAZVANUT_REFUSED_TOO_MANY = 6,
+    HRAZVANUT_REFUSED_GIVEN_AGAIN = 7,
+    HRAZVANUT_REFUSED_RULE_LEVEL = 8,
+    HRAZVANUT_REFUSED_UNKNOWN_WORD = 9,
+    HRAZVANUT_REFUSED_CALCULATION = 10,
+    HRAZVANUT_REFUSED_NO_ROOM = 11,
+    /* of a question and of a look-up */
+    HRAZVANUT_REFUSED_NOT_TABLE = 20,
+    HRAZVANUT_REFUSED_LEVEL = 21,
+    HRAZVANUT_REFUSED_NO_INPUT = 22
+};
+
+enum hrazvanut_access {
+    HRAZVANUT_NONE = 0,
+    HRAZVANUT_READ = 1,
+    HRAZVANUT_WRITE = 2
+};
+
+/* 01's numbers. */
+enum hrazvanut_warning_kind {
+    HRAZVANUT_UNKNOWN_ITEM = 1,
+    HRAZVANUT_UNKNOWN_PREDICATE = 2,
+    HRAZVANUT_UNDEFINED_GROUP = 3
+};
+
+struct hrazvanut_warning {
+    enum hrazvanut_warning_kind kind;
+    size_t place; /* in bytes from the start of the text */
+};
+
+/* Of a load. */
+struct hrazvanut_loaded {
+    enum hrazvanut_refusal refusal;
+    size_t place;                 /* of a refusal 1 to 10, in bytes from the start of the text */
+    size_t needed;                /* of refusal 11: the bytes that the table needs */
+    size_t warnings;              /* how many an accepted file has */
+    struct hrazvanut_table table; /* where it was written; no bytes if refused */
+};
+
+/* Of a list of warnings. */
+struct hrazvanut_listed {
+    enum hrazvanut_refusal refusal;
+    size_t place;   /* of a refusal */
+    size_t count;   /* how many warnings there are in all */
+    size_t written; /* how many of them were written */
+};
+
+/* Of a question. */
+struct hrazvanut_answer {
+    enum hrazvanut_refusal refusal;
+    enum hrazvanut_access access; /* HRAZVANUT_NONE if refused */
+    bool trap;                    /* whether writes are to be trapped; not if refused */
+};
+
+/* Of a look-up. */
+struct hrazvanut_found {
+    enum hrazvanut_refusal refusal;
+    struct hrazvanut_text name; /* a part of the table; no bytes if refused, and a name may have none too */
+    size_t at;                  /* where it starts in the table, in bytes */
+};
+
+/* ---- the proved functions, on numbers and slices. Gateways call those of the next part. */
 
 #ifdef __cplusplus
 extern "C" {
 #endif
 
-/* No file is longer, no table is longer, so many readings has a question. */
-#define HRAZVANUT_FILE 16384
-#define HRAZVANUT_TABLE 35108
-#define HRAZVANUT_READINGS 21
-
-/* ---- a load */
-
-/* Reads the text of an access security file and writes its table at the start of the lent bytes. Accepted: those bytes are the table
- * that 01 lays down, and every byte behind it is as it was. Refused: every lent byte is as it was. The refusal is the lowest number
- * that applies, at its earliest place. */
-uint64_t hrazvanut_load(const uint8_t *text, size_t text_len, uint8_t *table, size_t table_len);
-
-/* Of the answer of a load or of a list of warnings: 0 if accepted, else the refusal's number, 1 to 11. */
-#define HRAZVANUT_REFUSAL(answer) ((unsigned)((answer) >> 32))
-/* The place of a refusal; the bytes that refusal 11 needs; the length of the table of an accepted load. */
-#define HRAZVANUT_PLACE(answer) ((unsigned)((answer) & 0xffff))
-#define HRAZVANUT_LENGTH(answer) HRAZVANUT_PLACE(answer)
-/* How many warnings an accepted load has. */
-#define HRAZVANUT_WARNINGS(answer) ((unsigned)((answer) >> 16 & 0xffff))
-
-/* The warnings of a text, by place: 1 unknown item, 2 unknown predicate, 3 undefined group. Those behind the first `skip` are written,
- * numbers into one array and places into the other, as many as each has room for. HRAZVANUT_COUNT says how many there are in all. A
- * text that a load refuses with 1 to 10 is refused here too, and nothing is written. */
-uint64_t hrazvanut_list_warnings(const uint8_t *text, size_t text_len, size_t skip, uint8_t *numbers, size_t numbers_len,
-                                 uint16_t *places, size_t places_len);
-#define HRAZVANUT_COUNT(answer) HRAZVANUT_PLACE(answer)
-
-/* ---- a table */
-
-/* 1 if the bytes begin with a table that a load can have written and that was not damaged into something else, else 0. */
-uint8_t hrazvanut_is_table(const uint8_t *table, size_t table_len);
-
-/* ---- a question */
-
-/* The state of a reading. Any other state counts as invalid. */
-#define HRAZVANUT_NEVER_HEARD 0
-#define HRAZVANUT_INVALID 1
-#define HRAZVANUT_VALUE 2
-
-/* Who may do what with a channel of a group. The readings of the letters A to U are states[0..20] with values[0..20]: a letter past the
- * end of states was never heard, one past the end of values has no value and is invalid. Never heard, invalid, NaN and infinite readings
- * are bad: a rule whose calculation names one does not match. */
-uint32_t hrazvanut_decide(const uint8_t *table, size_t table_len, const uint8_t *group, size_t group_len, const uint8_t *user,
-                          size_t user_len, const uint8_t *host, size_t host_len, uint8_t level, const uint8_t *states, size_t states_len,
-                          const double *values, size_t values_len);
-
-/* The same, for bytes of which hrazvanut_is_table has said 1 and that were not written since: the one precondition of this library. It
- * spares the check, which takes most of the time of a question. */
-uint32_t hrazvanut_decide_checked(const uint8_t *table, size_t table_len, const uint8_t *group, size_t group_len, const uint8_t *user,
-                                  size_t user_len, const uint8_t *host, size_t host_len, uint8_t level, const uint8_t *states,
-                                  size_t states_len, const double *values, size_t values_len);
-
-/* Of the answer to a question: 0 NONE, 1 READ, 2 WRITE; whether writes are to be trapped; 0, or the refusal: 20 no table, 21 level
- * neither 0 nor 1. A refused question answers NONE without trap. */
-#define HRAZVANUT_ACCESS(answer) ((unsigned)((answer) & 3))
-#define HRAZVANUT_TRAP(answer) ((unsigned)((answer) >> 2 & 1))
-#define HRAZVANUT_QUESTION_REFUSED(answer) ((unsigned)((answer) >> 8))
-
-/* ---- a look-up */
-
-/* Where the name of the process variable stands that feeds a letter (A is 0) of a group: a part of the table. */
-uint64_t hrazvanut_find_input(const uint8_t *table, size_t table_len, const uint8_t *group, size_t group_len, uint8_t letter);
-#define HRAZVANUT_AT(answer) ((unsigned)((answer) & 0xffff))
-#define HRAZVANUT_NAME_LENGTH(answer) ((unsigned)((answer) >> 16 & 0xffff))
-/* 0 if found; 20 no table, 22 no such input. */
-#define HRAZVANUT_LOOK_UP_REFUSED(answer) ((unsigned)((answer) >> 32))
-
-/* ---- a calculation */
-
-/* 1 if a text is a calculation that 01 allows, apart from its letters having inputs, else 0. */
-uint8_t hrazvanut_allowed(const uint8_t *text, size_t text_len);
+/* No pointer may be NULL. `values` is aligned as double, `places` as uint16_t. An answer of 64 bits holds a first number in bits 0 to 31, a
+ * second in bits 32 to 47, and the refusal above them: of a load the length and the number of warnings, or the place; of a list of warnings
+ * their number, or the place; of a question the access in bits 0 and 1 and the trap flag in bit 2; of a look-up the place and the length.
+ * An answer of 8 bits is 1 or 0. The letter i has states[i] and values[i]: past the end of states it was never heard, past the end of
+ * values it is not a number. */
+uint64_t hrazvanut_abi_load(const uint8_t *text, size_t text_length, uint8_t *table, size_t table_length);
+uint64_t hrazvanut_abi_list_warnings(const uint8_t *text, size_t text_length, size_t skip, uint8_t *numbers, size_t numbers_length,
+                                     uint16_t *places, size_t places_length);
+uint8_t hrazvanut_abi_is_table(const uint8_t *table, size_t table_length);
+typedef uint64_t hrazvanut_abi_question(const uint8_t *table, size_t table_length, const uint8_t *group, size_t group_length,
+                                        const uint8_t *user, size_t user_length, const uint8_t *host, size_t host_length,
+                                        uint32_t level, const uint8_t *states, size_t states_length, const double *values,
+                                        size_t values_length);
+hrazvanut_abi_question hrazvanut_abi_decide;
+hrazvanut_abi_question hrazvanut_abi_decide_checked;
+uint64_t hrazvanut_abi_find_input(const uint8_t *table, size_t table_length, const uint8_t *group, size_t group_length, uint32_t letter);
+uint8_t hrazvanut_abi_allowed(const uint8_t *text, size_t text_length);
 
 #ifdef __cplusplus
 }
 #endif
+
+/* Bytes to be read; with a length of 0 some pointer that is not NULL. */
+static inline const uint8_t *hrazvanut_abi_bytes(const void *start, size_t length)
+{
+    return (const uint8_t *)(length == 0 ? "" : start);
+}
+
+/* The parts of an answer. */
+static inline size_t hrazvanut_abi_first(uint64_t answer) { return (size_t)(answer & 0xffffffffu); }
+static inline size_t hrazvanut_abi_second(uint64_t answer) { return (size_t)(answer >> 32 & 0xffffu); }
+static inline enum hrazvanut_refusal hrazvanut_abi_refusal(uint64_t answer) { return (enum hrazvanut_refusal)(answer >> 48); }
+
+/* The readings as bytes and values; a state is compared, not cut to a byte. */
+static inline void hrazvanut_abi_readings(const struct hrazvanut_reading *readings, uint8_t *states, double *values)
+{
+    int i;
+    for (i = 0; i < HRAZVANUT_READINGS; i++) {
+        bool heard = readings[i].state != HRAZVANUT_NEVER_HEARD;
+        bool value = readings[i].state == HRAZVANUT_VALUE;
+        states[i] = (uint8_t)(!heard ? HRAZVANUT_NEVER_HEARD : value ? HRAZVANUT_VALUE : HRAZVANUT_INVALID);
+        values[i] = value ? readings[i].value : 0;
+    }
+}
+
+/* A question's parts, put to one of the two functions. */
+static inline struct hrazvanut_answer hrazvanut_abi_ask(hrazvanut_abi_question *decide, struct hrazvanut_table table,
+                                                        const struct hrazvanut_question *question)
+{
+    struct hrazvanut_text group = question->group, user = question->user, host = question->host;
+    uint8_t states[HRAZVANUT_READINGS];
+    double values[HRAZVANUT_READINGS];
+    struct hrazvanut_answer a;
+    uint64_t answer;
+    hrazvanut_abi_readings(question->readings, states, values);
+    answer = decide(hrazvanut_abi_bytes(table.start, table.length), table.length, hrazvanut_abi_bytes(group.start, group.length),
+                    group.length, hrazvanut_abi_bytes(user.start, user.length), user.length, hrazvanut_abi_bytes(host.start, host.length),
+                    host.length, question->level, states, HRAZVANUT_READINGS, values, HRAZVANUT_READINGS);
+    a.refusal = hrazvanut_abi_refusal(answer);
+    a.access = (enum hrazvanut_access)(answer & 3);
+    a.trap = (answer & 4) != 0;
+    return a;
+}
+
+/* ---- texts and words */
+
+/* A text that a NUL ends; NULL is the empty one. */
+static inline struct hrazvanut_text hrazvanut_string(const char *s)
+{
+    struct hrazvanut_text text;
+    text.start = s;
+    text.length = s ? strlen(s) : 0;
+    return text;
+}
+
+/* What a refusal says, in 01's words. */
+static inline const char *hrazvanut_refusal_words(enum hrazvanut_refusal refusal)
+{
+    switch (refusal) {
+    case HRAZVANUT_NOT_REFUSED: return "not refused";
+    case HRAZVANUT_REFUSED_FILE_TOO_LONG: return "file over 16,384 bytes";
+    case HRAZVANUT_REFUSED_BAD_BYTE: return "bad byte or unclosed quote";
+    case HRAZVANUT_REFUSED_TOO_DEEP: return "more than 16 braces open at once";
+    case HRAZVANUT_REFUSED_UNGRAMMATICAL: return "grammar";
+    case HRAZVANUT_REFUSED_STRING_TOO_LONG: return "string too long";
+    case HRAZVANUT_REFUSED_TOO_MANY: return "table limit passed";
+    case HRAZVANUT_REFUSED_GIVEN_AGAIN: return "name or letter given again";
+    case HRAZVANUT_REFUSED_RULE_LEVEL: return "level neither 0 nor 1";
+    case HRAZVANUT_REFUSED_UNKNOWN_WORD: return "permission or log word unknown";
+    case HRAZVANUT_REFUSED_CALCULATION: return "calculation not allowed";
+    case HRAZVANUT_REFUSED_NO_ROOM: return "lent table too short";
+    case HRAZVANUT_REFUSED_NOT_TABLE: return "not a table";
+    case HRAZVANUT_REFUSED_LEVEL: return "level neither 0 nor 1";
+    case HRAZVANUT_REFUSED_NO_INPUT: return "no such input in the group";
+    }
+    return "unknown refusal";
+}
+
+/* ---- a load */
+
+/* Reads the text of an access security file and writes its table at the start of the room. Accepted: those bytes are the table that 01
+ * lays down, and every byte behind it is as it was. Refused: every byte of the room is as it was, so that a table there still stands. The
+ * refusal is the lowest number that applies, at its earliest place. HRAZVANUT_TABLE bytes are enough for every file. */
+static inline struct hrazvanut_loaded hrazvanut_load(struct hrazvanut_text text, struct hrazvanut_room room)
+{
+    uint8_t none = 0;
+    uint64_t answer = hrazvanut_abi_load(hrazvanut_abi_bytes(text.start, text.length), text.length, room.length == 0 ? &none : room.start,
+                                         room.length);
+    enum hrazvanut_refusal refusal = hrazvanut_abi_refusal(answer);
+    bool accepted = refusal == HRAZVANUT_NOT_REFUSED, full = refusal == HRAZVANUT_REFUSED_NO_ROOM;
+    struct hrazvanut_loaded loaded;
+    loaded.refusal = refusal;
+    loaded.place = accepted || full ? 0 : hrazvanut_abi_first(answer);
+    loaded.needed = full ? hrazvanut_abi_first(answer) : 0;
+    loaded.warnings = hrazvanut_abi_second(answer);
+    loaded.table.start = accepted ? room.start : NULL;
+    loaded.table.length = accepted ? hrazvanut_abi_first(answer) : 0;
+    return loaded;
+}
+
+/* The warnings of a text, by place. Those behind the first `skip` are written, as many as there is room for. A text that a load refuses with
+ * 1 to 10 is refused here too, and nothing is written. The text is read anew for each 64 that are written. */
+static inline struct hrazvanut_listed hrazvanut_list_warnings(struct hrazvanut_text text, size_t skip, struct hrazvanut_warning *warnings,
+                                                              size_t room)
+{
+    uint8_t numbers[64];
+    uint16_t places[64];
+    struct hrazvanut_listed listed;
+    size_t i;
+    listed.written = 0;
+    do {
+        size_t batch = room - listed.written < 64 ? room - listed.written : 64;
+        uint64_t answer = hrazvanut_abi_list_warnings(hrazvanut_abi_bytes(text.start, text.length), text.length, skip + listed.written,
+                                                      numbers, batch, places, batch);
+        bool accepted;
+        listed.refusal = hrazvanut_abi_refusal(answer);
+        accepted = listed.refusal == HRAZVANUT_NOT_REFUSED;
+        listed.place = accepted ? 0 : hrazvanut_abi_first(answer);
+        listed.count = accepted ? hrazvanut_abi_first(answer) : 0;
+        for (i = 0; i < batch && skip + listed.written < listed.count; i++) {
+            warnings[listed.written].kind = (enum hrazvanut_warning_kind)numbers[i];
+            warnings[listed.written].place = places[i];
+            listed.written++;
+        }
+    } while (i == 64 && listed.written < room);
+    return listed;
+}
+
+/* ---- a table */
+
+/* Whether the bytes begin with a well-formed table: one that a question can be asked of. That is no proof against damage, for a byte
+ * changed in a name leaves it well-formed; and it holds of tables that no load writes, with shared strings or names given twice. Keep
+ * a sum of your own beside a table that is stored or sent. */
+static inline bool hrazvanut_is_table(struct hrazvanut_table table)
+{
+    return hrazvanut_abi_is_table(hrazvanut_abi_bytes(table.start, table.length), table.length) == 1;
+}
+
+/* ---- a question */
+
+/* Who may do what with a channel of a group. A rule whose calculation names a letter with a bad reading does not match. Refused: 20 not a
+ * table, then 21 a level neither 0 nor 1. */
+static inline struct hrazvanut_answer hrazvanut_decide(struct hrazvanut_table table, const struct hrazvanut_question *question)
+{
+    return hrazvanut_abi_ask(hrazvanut_abi_decide, table, question);
+}
+
+/* The same, for bytes of which hrazvanut_is_table has said true and that were not written since: the one precondition of this library. It
+ * spares the check, which takes most of the time of a question. Of other bytes nothing is promised, not even that it stays in bounds. */
+static inline struct hrazvanut_answer hrazvanut_decide_checked(struct hrazvanut_table table, const struct hrazvanut_question *question)
+{
+    return hrazvanut_abi_ask(hrazvanut_abi_decide_checked, table, question);
+}
+
+/* ---- a look-up */
+
+/* The name of the process variable that feeds a letter (A is 0) of a group. Refused: 20 not a table, then 22 no such input. */
+static inline struct hrazvanut_found hrazvanut_find_input(struct hrazvanut_table table, struct hrazvanut_text group, uint32_t letter)
+{
+    uint64_t answer = hrazvanut_abi_find_input(hrazvanut_abi_bytes(table.start, table.length), table.length,
+                                               hrazvanut_abi_bytes(group.start, group.length), group.length, letter);
+    struct hrazvanut_found found;
+    found.refusal = hrazvanut_abi_refusal(answer);
+    found.at = hrazvanut_abi_first(answer);
+    found.name.length = hrazvanut_abi_second(answer);
+    found.name.start = found.refusal == HRAZVANUT_NOT_REFUSED ? (const char *)table.start + found.at : NULL;
+    return found;
+}
+
+/* ---- a calculation */
+
+/* Whether a text is a calculation that 01 allows, of at most 79 bytes, apart from its letters having inputs. */
+static inline bool hrazvanut_allowed(struct hrazvanut_text text)
+{
+    return hrazvanut_abi_allowed(hrazvanut_abi_bytes(text.start, text.length), text.length) == 1;
+}
 
 #endif

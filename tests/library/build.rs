@@ -1,23 +1,58 @@
 //! Links the static library of the proved code, from the folder that the
-//! environment variable HRAZVANUT_LIB names. Without it the crate still
-//! builds, but says that nothing is linked.
+//! environment variable HRAZVANUT_LIB names, and the calls of its header,
+//! which a C compiler makes (CC, or `cc`). Without the library the crate
+//! still builds, but says that nothing is linked.
 
-use std::path::PathBuf;
+use std::path::{Path, PathBuf};
+use std::process::Command;
 
 const NAME: &str = "hrazvanut";
+const FLAGS: [&str; 7] = ["-std=c11", "-O2", "-fPIC", "-Wall", "-Wextra", "-Wconversion", "-Werror"];
+
+fn here(path: &str) -> PathBuf {
+    Path::new(env!("CARGO_MANIFEST_DIR")).join(path)
+}
 
 fn folder() -> PathBuf {
     match std::env::var_os("HRAZVANUT_LIB") {
         Some(folder) => PathBuf::from(folder),
-        None => PathBuf::from(env!("CARGO_MANIFEST_DIR")).join("../../target/staticlib"),
+        None => here("../../target/staticlib"),
     }
+}
+
+fn run(command: &mut Command) {
+    let ended = command.status().unwrap_or_else(|e| panic!("{command:?}: {e}"));
+    assert!(ended.success(), "{command:?}: {ended}");
+}
+
+/// The calls of the header, as a library for Rust to link.
+fn compile_calls() {
+    let out = PathBuf::from(std::env::var_os("OUT_DIR").expect("cargo names a folder"));
+    let (source, object, archive) = (here("src/library.c"), out.join("calls.o"), out.join("libcalls.a"));
+    let compiler = std::env::var("CC").unwrap_or("cc".to_string());
+    run(Command::new(compiler)
+        .args(FLAGS)
+        .arg("-I")
+        .arg(here("../../include"))
+        .arg("-c")
+        .arg(source)
+        .arg("-o")
+        .arg(&object));
+    let _ = std::fs::remove_file(&archive);
+    run(Command::new("ar").arg("rcs").arg(&archive).arg(&object));
+    println!("cargo:rustc-link-search=native={}", out.display());
+    println!("cargo:rustc-link-lib=static=calls");
 }
 
 fn main() {
     println!("cargo:rustc-check-cfg=cfg(linked)");
     println!("cargo:rerun-if-env-changed=HRAZVANUT_LIB");
+    println!("cargo:rerun-if-env-changed=CC");
     println!("cargo:rerun-if-changed=build.rs");
+    println!("cargo:rerun-if-changed=src/library.c");
+    println!("cargo:rerun-if-changed={}", here("../../include/hrazvanut.h").display());
     if std::env::var_os("CARGO_FEATURE_STUB").is_some() {
+        compile_calls();
         println!("cargo:rustc-cfg=linked");
         return;
     }
@@ -25,6 +60,7 @@ fn main() {
     let archive = folder.join(format!("lib{NAME}.a"));
     println!("cargo:rerun-if-changed={}", archive.display());
     if archive.exists() {
+        compile_calls();
         println!("cargo:rustc-link-search=native={}", folder.display());
         println!("cargo:rustc-link-lib=static={NAME}");
         println!("cargo:rustc-cfg=linked");

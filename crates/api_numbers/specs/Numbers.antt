@@ -1,5 +1,6 @@
--- The answers as numbers, for callers in C. include/hrazvanut.h says the same in its macros.
+-- The answers as numbers, for callers in C: include/hrazvanut.h takes them apart again.
 use mathlib.Core.Bool.{Bool, cond}
+use mathlib.Core.Option.{Option, none, some}
 use Prim.Native.Nat.{ℕ, _+_, _*_, min}
 use Rattle.spec_rule.specs.Rule.{rank}
 use Rattle.spec_file.specs.Refusal as refusal
@@ -8,18 +9,20 @@ use Rattle.spec_load.specs.declared.Loaded.the-variants as loaded
 use Rattle.spec_load.specs.declared.Listed.{Listed}
 use Rattle.spec_load.specs.declared.Listed.the-variants as listed
 use Rattle.spec_decision.specs.declared.Answer.{Answer}
-use Rattle.spec_decision.specs.declared.Answer.the-variants as answer
 use Rattle.spec_decision.specs.declared.Found.{Found}
 use Rattle.spec_decision.specs.declared.Found.the-variants as found
-use Rattle.spec_decision.specs.Decision.{not-table-number}
+use Rattle.spec_decision.specs.Decision as decision
+use Rattle.spec_decision.specs.LookUp as look-up
 
--- a number in 16 bits; no place, length or count of 01 is greater than they hold
-abbrev pub word : ℕ → ℕ
-word n = min n 65535
-
--- bits 0 to 15, bits 16 to 31, and a refusal's number above them
+-- a first number in bits 0 to 31, a second in bits 32 to 47, a refusal's number above them. Greater numbers do not come: no place and
+-- no length of a text or a table needs more than 32 bits, no number of warnings and no length of a name more than 16.
 abbrev pub packed : ℕ → ℕ → ℕ → ℕ
-packed low high number = word low + word high * 65536 + number * 4294967296
+packed first second number = min first 4294967295 + min second 65535 * 4294967296 + number * 281474976710656
+
+-- 01 has no refusal 0: it says that there is none
+abbrev pub or-zero : Option ℕ → ℕ
+or-zero none = 0
+or-zero (some n) = n
 
 -- a load: the length and the number of warnings, or the place and the refusal
 abbrev pub load-number : Loaded → ℕ
@@ -31,17 +34,24 @@ abbrev pub listed-number : Listed → ℕ
 listed-number (listed.Warnings n) = packed n 0 0
 listed-number (listed.Refused k p) = packed p 0 (refusal.number k)
 
--- a question: access in bits 0 and 1, trap in bit 2, a refusal's number from bit 8
+-- a question: access in bits 0 and 1, trap in bit 2, and the refusal
 abbrev pub answer-number : Answer → ℕ
-answer-number (answer.Answered d) = rank (d .access) + cond (d .trap) 4 0
-answer-number answer.NotTable = not-table-number * 256
-answer-number answer.BadLevel = 21 * 256
+answer-number a = packed (rank (decision.access-in a) + cond (decision.trap-in a) 4 0) 0 (or-zero (decision.number a))
 
--- a look-up: where the name stands and its length, or the refusal
+-- where a name stands, and its length
+abbrev pub at-in : Found → ℕ
+at-in (found.Part at n) = at
+at-in found.NotTable = 0
+at-in found.NoInput = 0
+
+abbrev pub length-in : Found → ℕ
+length-in (found.Part at n) = n
+length-in found.NotTable = 0
+length-in found.NoInput = 0
+
+-- a look-up: these, and the refusal
 abbrev pub found-number : Found → ℕ
-found-number (found.Part at n) = packed at n 0
-found-number found.NotTable = packed 0 0 not-table-number
-found-number found.NoInput = packed 0 0 22
+found-number f = packed (at-in f) (length-in f) (or-zero (look-up.number f))
 
 -- yes or no
 abbrev pub yes : Bool → ℕ

@@ -1,4 +1,4 @@
-// The answers as numbers, for callers in C: include/hrazvanut.h has them as macros.
+// The answers as numbers, for callers in C: include/hrazvanut.h takes them apart again.
 use spec_decision::Answer;
 use spec_decision::Found;
 use spec_file::Refusal;
@@ -6,24 +6,24 @@ use spec_load::Listed;
 use spec_load::Loaded;
 use spec_rule::Access;
 ghost use mathlib.Core.Path.{_≡_};
-ghost use Prim.Native.Nat.{_<_};
+ghost use Prim.Native.Nat.{_<_, min};
 ghost use Rattle.spec_file.specs.Refusal as refusal;
 ghost use Rattle.spec_rule.specs.Rule.{rank};
-ghost use Rattle.api_numbers.specs.Numbers.{word, packed, load-number, listed-number, answer-number, found-number};
+ghost use Rattle.api_numbers.specs.Numbers.{packed, load-number, listed-number, answer-number, found-number};
 
-// A number in 16 bits.
-fn word(n: usize) -> u64
-    ensures { λ r. ⌜ r ≡ word n ⌝ }
+fn at_most(n: usize, most: u32) -> u64
+    ensures { λ r. ⌜ r ≡ min n most ⌝ }
 {
-    if n < 65535 { n as u64 } else { 65535 }
+    let m = most as usize;
+    if n < m { n as u64 } else { most as u64 }
 }
 
-// Two words and a refusal's number.
-fn packed(low: usize, high: usize, number: u64) -> u64
+// 32 bits, 16 bits, and a refusal's number.
+fn packed(first: usize, second: usize, number: u64) -> u64
     requires { ⌜ number < 256 ⌝ }
-    ensures { λ r. ⌜ r ≡ packed low high number ⌝ }
+    ensures { λ r. ⌜ r ≡ packed first second number ⌝ }
 {
-    word(low) + word(high) * 65536 + number * 4294967296
+    at_most(first, 4294967295) + at_most(second, 65535) * 4294967296 + number * 281474976710656
 }
 
 // 01's number of a refusal.
@@ -63,7 +63,7 @@ pub fn listed_number(l: Listed) -> u64
     }
 }
 
-fn access_number(a: Access) -> u32
+fn access_number(a: Access) -> usize
     ensures { λ r. ⌜ r ≡ rank a ⌝ }
 {
     match a {
@@ -73,22 +73,21 @@ fn access_number(a: Access) -> u32
     }
 }
 
-// Refusals 20 and 21, from bit 8.
-const NOT_TABLE: u32 = 20 * 256;
-
-const BAD_LEVEL: u32 = 21 * 256;
-
-pub fn answer_number(a: Answer) -> u32
+pub fn answer_number(a: Answer) -> u64
     ensures { λ r. ⌜ r ≡ answer-number a ⌝ }
 {
     match a {
         Answer::Answered(d) => {
             let access = d.access;
             let low = access_number(access);
-            if d.trap { low + 4 } else { low }
+            if d.trap {
+                packed(low + 4, 0, 0)
+            } else {
+                packed(low, 0, 0)
+            }
         }
-        Answer::NotTable => NOT_TABLE,
-        Answer::BadLevel => BAD_LEVEL,
+        Answer::NotTable => packed(0, 0, 20),
+        Answer::BadLevel => packed(0, 0, 21),
     }
 }
 

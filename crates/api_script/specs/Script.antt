@@ -1,6 +1,6 @@
 -- A script of calls, in numbers, so that a program can lend one. 01, "What the contracts owe": "any sequence of calls".
 use mathlib.Core.List.{List, [], _∷_}
-use Prim.Native.Nat.{ℕ, zero, suc, _+_, _*_, _/_, _%_}
+use Prim.Native.Nat.{ℕ, zero, suc, _+_, _*_, _/_}
 use lib.ListN.{length, getD}
 use lib.Ieee.{Float}
 use Rattle.spec_rule.specs.Question.{question-of}
@@ -40,7 +40,7 @@ word words i j = getD words (i * 16 + j) 0
 abbrev pub text-at : List ℕ → List ℕ → ℕ → ℕ → List ℕ
 text-at words pool i j = between pool (word words i j) (word words i (j + 1))
 
--- the i-th call of a script; a level and a letter are bytes
+-- the i-th call of a script
 abbrev pub call-at : Script → ℕ → Call
 call-at s i =
     call-of
@@ -48,7 +48,7 @@ call-at s i =
     (text-at (s .words) (s .pool) i 1)
     (text-at (s .words) (s .pool) i 3)
     (text-at (s .words) (s .pool) i 5)
-    (word (s .words) i 7 % 256)
+    (word (s .words) i 7)
     (readings (s .states) (s .values) (word (s .words) i 8))
 
 -- n calls from the i-th on

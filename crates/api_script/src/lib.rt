@@ -5,7 +5,7 @@ use spec_decision::Found;
 use spec_load::Listed;
 use spec_load::Loaded;
 ghost use mathlib.Core.Path.{_≡_};
-ghost use Prim.Native.Nat.{_+_, _*_, _%_, _≤_, _<_};
+ghost use Prim.Native.Nat.{_+_, _*_, _≤_, _<_};
 ghost use lib.ListN.{length};
 ghost use Rattle.load_tokens.specs.Arrays.{between};
 ghost use Rattle.api_script.specs.Script.{word, text-at};
@@ -51,12 +51,18 @@ pub fn word(script: &[u16], i: usize, j: usize) -> usize
     load_tokens::wide(script[i * 16 + j])
 }
 
-// The lower byte of a word.
-pub fn byte(script: &[u16], i: usize, j: usize) -> u8
-    requires { ⌜ (i * 16 + 16 ≤ length (now script)) × (j < 16) ⌝ }
-    ensures { λ r. ⌜ r ≡ word (now (script .entry)) i j % 256 ⌝ }
+fn wide(n: u16) -> u32
+    ensures { λ r. ⌜ r ≡ n ⌝ }
 {
-    (word(script, i, j) % 256) as u8
+    n as u32
+}
+
+// The same, as a level or a letter.
+pub fn number(script: &[u16], i: usize, j: usize) -> u32
+    requires { ⌜ (i * 16 + 16 ≤ length (now script)) × (j < 16) ⌝ }
+    ensures { λ r. ⌜ r ≡ word (now (script .entry)) i j ⌝ }
+{
+    wide(script[i * 16 + j])
 }
 
 // The text that the j-th word of the i-th call and the next give.

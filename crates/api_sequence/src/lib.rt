@@ -17,7 +17,7 @@ fn call_reading(
     a: &[u8],
     b: &[u8],
     c: &[u8],
-    n: u8,
+    n: u32,
     rs: [Reading; 21],
     lent: &[u8],
 ) -> Reply
@@ -64,7 +64,7 @@ fn call(
     }
     let b = api_script::text_at(script, pool, i, 3);
     let c = api_script::text_at(script, pool, i, 5);
-    let n = api_script::byte(script, i, 7);
+    let n = api_script::number(script, i, 7);
     let rs = api_readings::readings(states, values, api_script::word(script, i, 8));
     call_reading(what, a, b, c, n, rs, lent)
 }
@@ -94,7 +94,7 @@ pub fn load_then_ask(
     group: &[u8],
     user: &[u8],
     host: &[u8],
-    level: u8,
+    level: u32,
     rs: [Reading; 21],
     lent: &mut [u8],
 ) -> Asked

@@ -18,6 +18,13 @@ ghost use Rattle.spec_decision.specs.LookUp.{look-up, part-in};
 ghost use Rattle.table_read.specs.Stored.{Stored};
 ghost use Rattle.ask.specs.Group.{By-group, Finds-letter};
 
+// A level or a letter as a number.
+fn wide(n: u32) -> usize
+    ensures { λ r. ⌜ r ≡ n ⌝ }
+{
+    n as usize
+}
+
 // What the rules of an access group give: each is tried at most once.
 fn decision_of_group(
     table: &[u8],
@@ -54,7 +61,7 @@ pub fn decide_checked(
     group: &[u8],
     user: &[u8],
     host: &[u8],
-    level: u8,
+    level: u32,
     rs: [Reading; 21],
 ) -> Answer
     requires { ⌜ is-table (now table) ≡ true ⌝ }
@@ -72,15 +79,7 @@ pub fn decide_checked(
             let h = calc::inputs_of(rs);
             let values = h.values;
             let goods = h.good;
-            let d = decision_of_group(
-                table,
-                i,
-                user,
-                host,
-                table_fields::wide(level),
-                &values,
-                &goods,
-            );
+            let d = decision_of_group(table, i, user, host, wide(level), &values, &goods);
             Answer::Answered(d)
         }
     }
@@ -92,7 +91,7 @@ pub fn decide(
     group: &[u8],
     user: &[u8],
     host: &[u8],
-    level: u8,
+    level: u32,
     rs: [Reading; 21],
 ) -> Answer
     ensures { λ r. ⌜ r ≡ decide (now (table .entry)) (question-of (now (group .entry)) (now (user .entry)) (now (host .entry)) level rs) ⌝ }
@@ -106,18 +105,18 @@ pub fn decide(
 
 // ---- the look-up
 
-fn input_of(table: &[u8], group: &[u8], letter: u8) -> Index
+fn input_of(table: &[u8], group: &[u8], letter: u32) -> Index
     requires { ⌜ is-table (now table) ≡ true ⌝ }
     ensures { λ r. ⌜ Finds-letter (now (table .entry)) (now (group .entry)) letter r ⌝ }
 {
     match table_read::answering_group(table, group) {
         Index::Missing => Index::Missing,
-        Index::At(i) => table_read::first_input(table, i, table_fields::wide(letter)),
+        Index::At(i) => table_read::first_input(table, i, wide(letter)),
     }
 }
 
 // Where the name of a letter's input stands, in a table that was checked before. Callers as of decide_checked; others call find_input.
-pub fn find_input_checked(table: &[u8], group: &[u8], letter: u8) -> Found
+pub fn find_input_checked(table: &[u8], group: &[u8], letter: u32) -> Found
     requires { ⌜ is-table (now table) ≡ true ⌝ }
     ensures { λ r. ⌜ r ≡ look-up (now (table .entry)) (now (group .entry)) letter ⌝ }
 {
@@ -136,7 +135,7 @@ pub fn find_input_checked(table: &[u8], group: &[u8], letter: u8) -> Found
 }
 
 // The same of any bytes.
-pub fn find_input(table: &[u8], group: &[u8], letter: u8) -> Found
+pub fn find_input(table: &[u8], group: &[u8], letter: u32) -> Found
     ensures { λ r. ⌜ r ≡ look-up (now (table .entry)) (now (group .entry)) letter ⌝ }
 {
     if table_check::is_table(table) {
@@ -147,7 +146,7 @@ pub fn find_input(table: &[u8], group: &[u8], letter: u8) -> Found
 }
 
 // The part of a table that is the name of a letter's input; empty if there is none.
-pub fn look_up<'a>(table: &'a [u8], group: &[u8], letter: u8) -> &'a [u8]
+pub fn look_up<'a>(table: &'a [u8], group: &[u8], letter: u32) -> &'a [u8]
     ensures { λ r. ⌜ now r ≡ part-in (look-up (now (table .entry)) (now (group .entry)) letter) (now (table .entry)) ⌝ }
 {
     if table_check::is_table(table) {

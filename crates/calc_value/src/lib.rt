@@ -3,7 +3,7 @@ ghost use mathlib.Core.Path.{_≡_};
 ghost use mathlib.Core.List.{map};
 ghost use Prim.Native.Nat.{_+_, _≤_};
 ghost use lib.ListN.{length};
-ghost use Rattle.spec_calc.specs.Expression.{Tree};
+ghost use Rattle.spec_calc.specs.Expression.{Tree, longest-calculation};
 ghost use Rattle.spec_calc.specs.Reader.{wanted, have, tree-of};
 ghost use Rattle.calc_value.specs.Parse.{value-with, Parses-as, Continues-as, in-if, in-else};
 ghost use Rattle.calc_value.specs.Answer.{worth};
@@ -11,6 +11,9 @@ use calc_symbol::First;
 use calc_symbol::Joint;
 use calc_symbol::Place;
 use spec_calc::Reading;
+
+// A longer text is no calculation, and no function here is called on one: their calls nest as deep as the text does.
+const LONGEST: usize = 79;
 
 // A value, and the offset behind its text.
 pub enum Parsed {
@@ -26,7 +29,7 @@ pub enum Worth {
 
 // An operand, and the operators of level l and tighter behind it; at level 0 conditionals too.
 fn expression(s: &[u8], vs: &[f64; 21], at: usize, l: usize) -> Parsed
-    requires { ⌜ (at ≤ length (now s)) × (length (now vs) ≡ 21) ⌝ }
+    requires { ⌜ (at ≤ length (now s)) × ((length (now s) ≤ longest-calculation) × (length (now vs) ≡ 21)) ⌝ }
     ensures { λ r. ⌜ Parses-as (now (vs .entry)) (now (s .entry)) wanted l at (at + 1) r ⌝ }
 {
     match operand(s, vs, at) {
@@ -37,7 +40,7 @@ fn expression(s: &[u8], vs: &[f64; 21], at: usize, l: usize) -> Parsed
 
 // What continues behind an operand of value v, at level l.
 fn rest(s: &[u8], vs: &[f64; 21], at: usize, l: usize, v: f64) -> Parsed
-    requires { ⌜ (at ≤ length (now s)) × (length (now vs) ≡ 21) ⌝ }
+    requires { ⌜ (at ≤ length (now s)) × ((length (now s) ≤ longest-calculation) × (length (now vs) ≡ 21)) ⌝ }
     ensures { λ r. ⌜ Continues-as (now (vs .entry)) (now (s .entry)) have l at v r ⌝ }
 {
     match calc_symbol::joint_at(s, at, l) {
@@ -52,7 +55,7 @@ fn rest(s: &[u8], vs: &[f64; 21], at: usize, l: usize, v: f64) -> Parsed
 
 // The two branches of a conditional whose condition has the value v.
 fn branches(s: &[u8], vs: &[f64; 21], at: usize, v: f64) -> Parsed
-    requires { ⌜ (at ≤ length (now s)) × (length (now vs) ≡ 21) ⌝ }
+    requires { ⌜ (at ≤ length (now s)) × ((length (now s) ≤ longest-calculation) × (length (now vs) ≡ 21)) ⌝ }
     ensures { λ r. ⌜ Continues-as (now (vs .entry)) (now (s .entry)) in-if 0 at v r ⌝ }
 {
     match expression(s, vs, at, 0) {
@@ -66,7 +69,7 @@ fn branches(s: &[u8], vs: &[f64; 21], at: usize, v: f64) -> Parsed
 
 // The second branch, the first having the value x.
 fn other(s: &[u8], vs: &[f64; 21], at: usize, v: f64, x: f64) -> Parsed
-    requires { ⌜ (at ≤ length (now s)) × (length (now vs) ≡ 21) ⌝ }
+    requires { ⌜ (at ≤ length (now s)) × ((length (now s) ≤ longest-calculation) × (length (now vs) ≡ 21)) ⌝ }
     ensures { λ r. ⌜ ((c : Tree) → value-with (now (vs .entry)) c ≡ v → Continues-as (now (vs .entry)) (now (s .entry)) (in-else c) 0 at x r) ⌝ }
 {
     match expression(s, vs, at, 0) {
@@ -77,7 +80,7 @@ fn other(s: &[u8], vs: &[f64; 21], at: usize, v: f64, x: f64) -> Parsed
 
 // A number, a letter, a prefix and its operand, or a parenthesis.
 fn operand(s: &[u8], vs: &[f64; 21], at: usize) -> Parsed
-    requires { ⌜ (at ≤ length (now s)) × (length (now vs) ≡ 21) ⌝ }
+    requires { ⌜ (at ≤ length (now s)) × ((length (now s) ≤ longest-calculation) × (length (now vs) ≡ 21)) ⌝ }
     ensures { λ r. ⌜ Parses-as (now (vs .entry)) (now (s .entry)) wanted 6 at (at + 1) r ⌝ }
 {
     match calc_symbol::first_at(s, at) {
@@ -107,6 +110,9 @@ pub fn worth_of(s: &[u8], vs: &[f64; 21]) -> Worth
     requires { ⌜ length (now vs) ≡ 21 ⌝ }
     ensures { λ r. ⌜ r ≡ worth (map Reading.Value (now (vs .entry))) (tree-of (now (s .entry))) ⌝ }
 {
+    if LONGEST < s.len() {
+        return Worth::NoCalculation;
+    }
     match expression(s, vs, 0, 0) {
         Parsed::Bad => Worth::NoCalculation,
         Parsed::Value(v, n) => {

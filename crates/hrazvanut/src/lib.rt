@@ -1,4 +1,4 @@
-// The library for gateways, which are written in C: include/hrazvanut.h has each function in words.
+// The library for gateways, which are written in C: what they call are the functions of include/hrazvanut.h, and these call the ones here.
 ghost use mathlib.Core.Path.{_≡_};
 ghost use mathlib.Core.Bool.{not, true};
 ghost use Rattle.spec_lists.specs.Select.{missing};
@@ -11,14 +11,14 @@ ghost use Rattle.api_numbers.specs.Numbers.{found-number, yes};
 ghost use Rattle.hrazvanut.specs.Answers.{Leaves, Lists, Answers};
 
 #[no_mangle]
-pub extern "C" fn hrazvanut_load(text: &[u8], table: &mut [u8]) -> u64
+pub extern "C" fn hrazvanut_abi_load(text: &[u8], table: &mut [u8]) -> u64
     ensures { λ r. ⌜ Leaves (load (now (table .entry)) (now (text .entry))) (now (table .exit)) r ⌝ }
 {
     api_numbers::load_number(load::load(text, table))
 }
 
 #[no_mangle]
-pub extern "C" fn hrazvanut_list_warnings(
+pub extern "C" fn hrazvanut_abi_list_warnings(
     text: &[u8],
     skip: usize,
     numbers: &mut [u8],
@@ -32,22 +32,22 @@ pub extern "C" fn hrazvanut_list_warnings(
 }
 
 #[no_mangle]
-pub extern "C" fn hrazvanut_is_table(table: &[u8]) -> u8
+pub extern "C" fn hrazvanut_abi_is_table(table: &[u8]) -> u8
     ensures { λ r. ⌜ r ≡ yes (is-table (now (table .entry))) ⌝ }
 {
     if table_check::is_table(table) { 1 } else { 0 }
 }
 
 #[no_mangle]
-pub extern "C" fn hrazvanut_decide(
+pub extern "C" fn hrazvanut_abi_decide(
     table: &[u8],
     group: &[u8],
     user: &[u8],
     host: &[u8],
-    level: u8,
+    level: u32,
     states: &[u8],
     values: &[f64],
-) -> u32
+) -> u64
     ensures { λ r. ⌜
         Answers (now (table .entry)) (now (group .entry)) (now (user .entry)) (now (host .entry)) level (now (states .entry)) (now (values .entry)) r
         ⌝ }
@@ -56,17 +56,17 @@ pub extern "C" fn hrazvanut_decide(
     api_numbers::answer_number(ask::decide(table, group, user, host, level, rs))
 }
 
-// The one that asks something of its caller: hrazvanut_is_table has said 1 of the same bytes.
+// The one that asks something of its caller: hrazvanut_abi_is_table has said 1 of the same bytes.
 #[no_mangle]
-pub extern "C" fn hrazvanut_decide_checked(
+pub extern "C" fn hrazvanut_abi_decide_checked(
     table: &[u8],
     group: &[u8],
     user: &[u8],
     host: &[u8],
-    level: u8,
+    level: u32,
     states: &[u8],
     values: &[f64],
-) -> u32
+) -> u64
     requires { ⌜ is-table (now table) ≡ true ⌝ }
     ensures { λ r. ⌜
         Answers (now (table .entry)) (now (group .entry)) (now (user .entry)) (now (host .entry)) level (now (states .entry)) (now (values .entry)) r
@@ -77,14 +77,14 @@ pub extern "C" fn hrazvanut_decide_checked(
 }
 
 #[no_mangle]
-pub extern "C" fn hrazvanut_find_input(table: &[u8], group: &[u8], letter: u8) -> u64
+pub extern "C" fn hrazvanut_abi_find_input(table: &[u8], group: &[u8], letter: u32) -> u64
     ensures { λ r. ⌜ r ≡ found-number (look-up (now (table .entry)) (now (group .entry)) letter) ⌝ }
 {
     api_numbers::found_number(ask::find_input(table, group, letter))
 }
 
 #[no_mangle]
-pub extern "C" fn hrazvanut_allowed(text: &[u8]) -> u8
+pub extern "C" fn hrazvanut_abi_allowed(text: &[u8]) -> u8
     ensures { λ r. ⌜ r ≡ yes (not (missing (tree-of (now (text .entry))))) ⌝ }
 {
     if calc::allowed(text) { 1 } else { 0 }

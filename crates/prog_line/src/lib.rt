@@ -21,7 +21,7 @@ pub enum Names {
 }
 
 pub enum Level {
-    Is(u8),
+    Is(u32),
     Nothing,
 }
 
@@ -32,7 +32,7 @@ pub enum Line {
         user: usize,
         host: usize,
         level_at: usize,
-        level: u8,
+        level: u32,
     },
 }
 
@@ -84,6 +84,12 @@ fn find_names(line: &[u8]) -> Names
     Names::At(user, host, level_at)
 }
 
+fn wide(b: u8) -> u32
+    ensures { λ r. ⌜ r ≡ b ⌝ }
+{
+    b as u32
+}
+
 // The level, a part of one digit.
 fn level_of(line: &[u8], at: usize) -> Level
     requires { ⌜ at ≤ length (now line) ⌝ }
@@ -95,7 +101,7 @@ fn level_of(line: &[u8], at: usize) -> Level
     }
     let b = line[at];
     match b {
-        b'0'..=b'9' => Level::Is(b - b'0'),
+        b'0'..=b'9' => Level::Is(wide(b - b'0')),
         _ => Level::Nothing,
     }
 }

@@ -2,7 +2,8 @@
 use mathlib.Core.Path.{_≡_}
 use mathlib.Core.List.{List, [], _∷_}
 use mathlib.Core.Option.{some}
-use Prim.Native.Nat.{ℕ, suc}
+use Prim.Native.Nat.{ℕ, suc, _≤_}
+use lib.ListN.{length}
 use lib.Ieee.{Float}
 use Rattle.spec_calc.specs.declared.Operator.{Operator}
 use Rattle.spec_calc.specs.declared.Operator.the-variants.{Or, And, Less, AtMost, More, AtLeast, Equal, Differs, Plus, Minus, Times, Over}
@@ -65,8 +66,13 @@ mutual
     a-letter : {i : ℕ} {r : List Symbol} → Operand (letter i ∷ r) r (letter-tree i)
     parenthesised : {s r : List Symbol} {t : Tree} → Expression s (close-paren ∷ r) t → Operand (open-paren ∷ s) r t
 
+-- 01, of refusal 5: "79 [bytes are allowed] in a calculation"
+abbrev pub longest-calculation : ℕ
+longest-calculation = 79
+
 -- the text s is a calculation, and says t
 pub record Parses (s : List ℕ) (t : Tree) : Type 0 where
+  pub short : length s ≤ longest-calculation
   pub spelled : List Symbol
   pub spelling : symbols s ≡ some spelled
   pub derived : Expression spelled [] t

@@ -1,13 +1,14 @@
 -- The reader of a calculation: a stack of what is begun, and one step for each symbol.
-use mathlib.Core.Bool.{true, false}
+use mathlib.Core.Bool.{true, false, cond}
 use mathlib.Core.List.{List, [], _∷_}
 use mathlib.Core.Option.{Option, none, some}
 use Prim.Native.Nat.{ℕ, suc}
 use lib.Dec.{leb}
+use lib.ListN.{length}
 use Rattle.spec_calc.specs.declared.Operator.{Operator}
 use Rattle.spec_calc.specs.declared.Operator.the-variants.{Or, And, Less, AtMost, More, AtLeast, Equal, Differs, Plus, Minus, Times, Over}
 use Rattle.spec_calc.specs.Symbol.{Symbol, number, letter, operator, not-sign, question, colon, open-paren, close-paren, symbols}
-use Rattle.spec_calc.specs.Expression.{Tree, number-tree, letter-tree, minus, negation, binary, choice, level, prefix-level}
+use Rattle.spec_calc.specs.Expression.{Tree, number-tree, letter-tree, minus, negation, binary, choice, level, prefix-level, longest-calculation}
 
 -- a tree that lacks its last part: a prefix, an operator with its left side, a condition with its first branch
 pub data Begun : Type 0 where
@@ -137,9 +138,9 @@ abbrev pub read-spelled : Option (List Symbol) → Option Tree
 read-spelled none = none
 read-spelled (some s) = read-tree s
 
--- what a text says, if it is a calculation
+-- what a text says, if it is a calculation; a longer text is none, whatever it spells
 unfoldable pub tree-of : List ℕ → Option Tree
-tree-of s = read-spelled (symbols s)
+tree-of s = cond (leb (length s) longest-calculation) (read-spelled (symbols s)) none
 
 -- what the first symbol ends, or the end of the symbols
 abbrev pub first-ends : List Symbol → ℕ

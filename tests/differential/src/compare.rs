@@ -28,6 +28,9 @@ pub fn hex(bytes: &[u8]) -> String {
     bytes.iter().map(|b| format!("{b:02x}")).collect()
 }
 
+/// A load that says nothing yet.
+const NOTHING: Load = Load { refusal: 0, place: 0, needed: 0, warnings: 0, length: 0, agrees: true };
+
 /// Bytes that stand before and behind each lent buffer.
 const GUARD: usize = 24;
 
@@ -76,8 +79,9 @@ impl Comparison {
         let mut ours = Lent::new(random, length);
         let mut theirs = Lent { whole: ours.whole.clone() };
         let paper = match paper::load(text, ours.part()) {
-            Ok(l) => Load { number: l.length as u16, warnings: l.warnings as u16, refusal: 0, rest: 0 },
-            Err(r) => Load { number: r.place as u16, warnings: 0, refusal: r.number, rest: 0 },
+            Ok(l) => Load { length: l.length as u64, warnings: l.warnings as u64, ..NOTHING },
+            Err(r) if r.number == 11 => Load { refusal: 11, needed: r.place as u64, ..NOTHING },
+            Err(r) => Load { refusal: r.number.into(), place: r.place as u64, ..NOTHING },
         };
         self.count(format!("load {:2}", paper.refusal));
         let library = library::load(text, theirs.part());
@@ -102,7 +106,7 @@ impl Comparison {
     }
 
     pub fn is_table(&mut self, slice: &[u8]) -> Go {
-        let paper = u8::from(paper::is_table(slice));
+        let paper = paper::is_table(slice);
         self.count(format!("table {paper}"));
         self.same(paper, library::is_table(slice), || format!("is_table\n{}", hex(slice)))
     }
@@ -113,18 +117,20 @@ impl Comparison {
         self.count(format!("decide {:2} {} {}", paper.refusal, paper.access, paper.trap));
         let describe = |name: &str| format!("{name}\ntable {}\n{}", hex(table), described(question));
         self.same(paper, library::decide(table, &asked(question)), || describe("decide"))?;
-        if !paper::is_table(table) || library::is_table(table) != 1 {
+        if !paper::is_table(table) || !library::is_table(table) {
             return Ok(());
         }
-        // SAFETY: the library has just said 1 of these bytes.
+        // SAFETY: the library has just said so of these bytes.
         let library = unsafe { library::decide_checked(table, &asked(question)) };
         self.same(paper, library, || describe("decide_checked"))
     }
 
-    pub fn find_input(&mut self, table: &[u8], group: &[u8], letter: u8) -> Go {
+    pub fn find_input(&mut self, table: &[u8], group: &[u8], letter: u32) -> Go {
         let paper = match paper::find_input(table, group, letter) {
-            Ok((place, length)) => Found { place: place as u16, length: length as u16, refusal: 0, rest: 0 },
-            Err(refusal) => Found { place: 0, length: 0, refusal, rest: 0 },
+            Ok((place, length)) => {
+                Found { refusal: 0, place: place as u64, length: length as u64, agrees: true }
+            }
+            Err(refusal) => Found { refusal: refusal.into(), place: 0, length: 0, agrees: true },
         };
         self.count(format!("find_input {:2}", paper.refusal));
         self.same(paper, library::find_input(table, group, letter), || {
@@ -133,7 +139,7 @@ impl Comparison {
     }
 
     pub fn allowed(&mut self, text: &[u8]) -> Go {
-        let paper = u8::from(paper::allowed(text));
+        let paper = paper::allowed(text);
         self.count(format!("allowed {paper}"));
         self.same(paper, library::allowed(text), || format!("allowed\n{}", hex(text)))
     }
@@ -149,7 +155,9 @@ fn first_difference(ours: &[u8], theirs: &[u8]) -> Option<(isize, u8, u8)> {
 fn list_by_paper(text: &[u8], skip: usize, numbers: &mut [u8], places: &mut [u16]) -> List {
     let warnings = match paper::warnings(text) {
         Ok(warnings) => warnings,
-        Err(r) => return List { number: r.place as u16, refusal: r.number, rest: 0 },
+        Err(r) => {
+            return List { refusal: r.number.into(), place: r.place as u64, count: 0, agrees: true };
+        }
     };
     let listed = warnings.get(skip..).unwrap_or(&[]);
     for (to, warning) in numbers.iter_mut().zip(listed) {
@@ -158,7 +166,7 @@ fn list_by_paper(text: &[u8], skip: usize, numbers: &mut [u8], places: &mut [u16
     for (to, warning) in places.iter_mut().zip(listed) {
         *to = warning.place as u16;
     }
-    List { number: warnings.len() as u16, refusal: 0, rest: 0 }
+    List { refusal: 0, place: 0, count: warnings.len() as u64, agrees: true }
 }
 
 /// As the library is asked.
@@ -175,14 +183,14 @@ fn asked(question: &Owned) -> Asked<'_> {
 
 fn decision_by_paper(table: &[u8], question: &Owned) -> Decision {
     match paper::decide(table, &question.question()) {
-        Err(refusal) => Decision { access: 0, trap: false, refusal, rest: 0 },
+        Err(refusal) => Decision { refusal: refusal.into(), access: 0, trap: false, agrees: true },
         Ok(answer) => {
             let access = match answer.access {
                 Access::None => 0,
                 Access::Read => 1,
                 Access::Write => 2,
             };
-            Decision { access, trap: answer.trap, refusal: 0, rest: 0 }
+            Decision { refusal: 0, access, trap: answer.trap, agrees: true }
         }
     }
 }

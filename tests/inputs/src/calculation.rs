@@ -139,6 +139,7 @@ fn symbols(random: &mut Random) -> Vec<u8> {
 pub fn at_the_limit(random: &mut Random) -> Vec<u8> {
     let length = random.between(CALCULATION_BYTES - 2, CALCULATION_BYTES + 3);
     let length = if random.percent(10) { random.between(100, 400) } else { length };
+    let length = if random.percent(1) { 60_000 } else { length }; // nested as deep as that
     let mut text = match random.below(4) {
         0 => vec![b' '; length - 1],
         1 => vec![*random.pick(b"-!"); length - 1],

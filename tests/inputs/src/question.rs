@@ -55,13 +55,13 @@ impl Names {
     }
 
     /// A group and a letter to look up.
-    pub fn input(&self, random: &mut Random) -> (Vec<u8>, u8) {
+    pub fn input(&self, random: &mut Random) -> (Vec<u8>, u32) {
         if self.inputs.is_empty() || random.percent(25) {
-            let letter = if random.percent(95) { random.below(LETTERS + 1) as u8 } else { random.byte() };
+            let letter = if random.percent(95) { random.below(LETTERS + 1) as u32 } else { wide(random) };
             return (self.group(random), letter);
         }
         let (group, letter) = *random.pick(&self.inputs);
-        (self.groups[group].clone(), letter)
+        (self.groups[group].clone(), letter.into())
     }
 
     fn member(&self, random: &mut Random) -> Vec<u8> {
@@ -125,7 +125,7 @@ pub struct Owned {
     pub group: Vec<u8>,
     pub user: Vec<u8>,
     pub host: Vec<u8>,
-    pub level: u8,
+    pub level: u32,
     pub states: Vec<u8>,
     pub values: Vec<f64>,
 }
@@ -157,7 +157,7 @@ pub fn any(random: &mut Random, names: &Names) -> Owned {
         group: names.group(random),
         user: names.member(random),
         host: names.member(random),
-        level: if random.percent(90) { random.below(2) as u8 } else { random.byte() },
+        level: if random.percent(90) { random.below(2) as u32 } else { wide(random) },
         states,
         values,
     };
@@ -168,6 +168,16 @@ pub fn any(random: &mut Random, names: &Names) -> Owned {
         question.host = other_case(random, &question.host);
     }
     question
+}
+
+/// A level or a letter of any size: a byte, a small one with more bits above,
+/// or any.
+fn wide(random: &mut Random) -> u32 {
+    match random.below(4) {
+        0 => random.bits() as u32,
+        1 => (random.below(22) as u32).wrapping_add(1 << (8 + random.below(24))),
+        _ => random.byte().into(),
+    }
 }
 
 /// Ask as somebody who passes the lists of some rule.

@@ -1,9 +1,11 @@
-//! The C ABI of the proved code's static library, behind safe functions on
-//! slices. Nothing checks these declarations against the proved code but the
-//! comparison itself.
+//! The proved code's static library behind safe functions on slices. What is
+//! called is `library.c`, which calls it by the functions of its header.
 
 #[cfg(feature = "stub")]
 extern crate stub as _;
+
+use std::ffi::c_int;
+use std::marker::PhantomData;
 
 /// Whether there is anything to call: the static library, or the stub.
 pub const LINKED: bool = cfg!(linked);
@@ -11,45 +13,50 @@ pub const LINKED: bool = cfg!(linked);
 /// Whether it is the stub.
 pub const STUB: bool = cfg!(feature = "stub");
 
-/// What a load answers, as its bits say it.
+/// What a load answers.
 #[derive(Clone, Copy, Debug, PartialEq, Eq)]
 pub struct Load {
-    /// The table's length, the refusal's place, or for refusal 11 the bytes needed.
-    pub number: u16,
-    pub warnings: u16,
     /// 0 if accepted.
-    pub refusal: u8,
-    /// The bits that no field has.
-    pub rest: u32,
+    pub refusal: u64,
+    pub place: u64,
+    /// The bytes that refusal 11 needs.
+    pub needed: u64,
+    pub warnings: u64,
+    pub length: u64,
+    /// The table starts where it was to be, or nowhere if refused.
+    pub agrees: bool,
 }
 
 /// What the list of warnings answers.
 #[derive(Clone, Copy, Debug, PartialEq, Eq)]
 pub struct List {
-    /// How many warnings, or the refusal's place.
-    pub number: u16,
-    pub refusal: u8,
-    pub rest: u64,
+    pub refusal: u64,
+    pub place: u64,
+    pub count: u64,
+    /// The header's list is that of the proved function.
+    pub agrees: bool,
 }
 
 #[derive(Clone, Copy, Debug, PartialEq, Eq)]
 pub struct Decision {
-    /// 0 NONE, 1 READ, 2 WRITE.
-    pub access: u8,
-    pub trap: bool,
     /// 20, 21, or 0 if answered.
-    pub refusal: u8,
-    pub rest: u32,
+    pub refusal: u64,
+    /// 0 NONE, 1 READ, 2 WRITE.
+    pub access: u64,
+    pub trap: bool,
+    /// The proved function's number says the same.
+    pub agrees: bool,
 }
 
 /// Where an input's name stands in the table.
 #[derive(Clone, Copy, Debug, PartialEq, Eq)]
 pub struct Found {
-    pub place: u16,
-    pub length: u16,
     /// 20, 22, or 0 if found.
-    pub refusal: u8,
-    pub rest: u32,
+    pub refusal: u64,
+    pub place: u64,
+    pub length: u64,
+    /// The name is the part of the table at the place.
+    pub agrees: bool,
 }
 
 /// A question without its table. Letter i has `states[i]`: 0 never heard, 2
@@ -60,105 +67,84 @@ pub struct Asked<'a> {
     pub group: &'a [u8],
     pub user: &'a [u8],
     pub host: &'a [u8],
-    pub level: u8,
+    pub level: u32,
     pub states: &'a [u8],
     pub values: &'a [f64],
 }
 
-#[cfg(linked)]
-mod abi {
-    extern "C" {
-        pub fn hrazvanut_load(text: *const u8, text_len: usize, table: *mut u8, table_len: usize) -> u64;
-        pub fn hrazvanut_list_warnings(
-            text: *const u8,
-            text_len: usize,
-            skip: usize,
-            numbers: *mut u8,
-            numbers_len: usize,
-            places: *mut u16,
-            places_len: usize,
-        ) -> u64;
-        pub fn hrazvanut_is_table(table: *const u8, table_len: usize) -> u8;
-        pub fn hrazvanut_decide(
-            table: *const u8,
-            table_len: usize,
-            group: *const u8,
-            group_len: usize,
-            user: *const u8,
-            user_len: usize,
-            host: *const u8,
-            host_len: usize,
-            level: u8,
-            states: *const u8,
-            states_len: usize,
-            values: *const f64,
-            values_len: usize,
-        ) -> u32;
-        pub fn hrazvanut_decide_checked(
-            table: *const u8,
-            table_len: usize,
-            group: *const u8,
-            group_len: usize,
-            user: *const u8,
-            user_len: usize,
-            host: *const u8,
-            host_len: usize,
-            level: u8,
-            states: *const u8,
-            states_len: usize,
-            values: *const f64,
-            values_len: usize,
-        ) -> u32;
-        pub fn hrazvanut_find_input(
-            table: *const u8,
-            table_len: usize,
-            group: *const u8,
-            group_len: usize,
-            letter: u8,
-        ) -> u64;
-        pub fn hrazvanut_allowed(text: *const u8, text_len: usize) -> u8;
-    }
+/// A question as C has it.
+pub struct Question<'a> {
+    made: *mut Made,
+    parts: PhantomData<&'a [u8]>,
 }
 
-/// The same names with nothing behind them, so that the tests build.
-#[cfg(not(linked))]
-#[allow(clippy::too_many_arguments)]
-mod abi {
-    macro_rules! missing {
-        ($($name:ident($($t:ty),*) -> $answer:ty;)*) => {
-            $(pub unsafe fn $name($(_: $t),*) -> $answer {
+/// The header's struct, which Rust does not look into.
+pub enum Made {}
+
+/// `library.c`, or the same names with nothing behind them, so that the tests
+/// build.
+macro_rules! calls {
+    ($(fn $name:ident($($part:ident: $t:ty),* $(,)?) $(-> $answer:ty)?;)*) => {
+        #[cfg(linked)]
+        mod calls {
+            use super::*;
+            extern "C" {
+                $(pub fn $name($($part: $t),*) $(-> $answer)?;)*
+            }
+        }
+        #[cfg(not(linked))]
+        #[allow(clippy::too_many_arguments)]
+        mod calls {
+            use super::*;
+            $(pub unsafe fn $name($(_: $t),*) $(-> $answer)? {
                 panic!("the static library is not linked")
             })*
-        };
-    }
-    type In = *const u8;
-    type Values = *const f64;
-    missing! {
-        hrazvanut_load(In, usize, *mut u8, usize) -> u64;
-        hrazvanut_list_warnings(In, usize, usize, *mut u8, usize, *mut u16, usize) -> u64;
-        hrazvanut_is_table(In, usize) -> u8;
-        hrazvanut_decide(In, usize, In, usize, In, usize, In, usize, u8, In, usize, Values, usize) -> u32;
-        hrazvanut_decide_checked(In, usize, In, usize, In, usize, In, usize, u8, In, usize, Values, usize) -> u32;
-        hrazvanut_find_input(In, usize, In, usize, u8) -> u64;
-        hrazvanut_allowed(In, usize) -> u8;
-    }
+        }
+    };
+}
+
+type In = *const u8;
+
+calls! {
+    fn library_load(text: In, text_length: usize, table: *mut u8, table_length: usize, out: *mut u64);
+    fn library_list_warnings(
+        text: In, text_length: usize, skip: usize, numbers: *mut u8, numbers_length: usize, places: *mut u16,
+        places_length: usize, out: *mut u64,
+    );
+    fn library_is_table(table: In, table_length: usize) -> c_int;
+    fn library_question(
+        group: In, group_length: usize, user: In, user_length: usize, host: In, host_length: usize, level: u32,
+        states: In, states_length: usize, values: *const f64, values_length: usize,
+    ) -> *mut Made;
+    fn library_forget(question: *mut Made);
+    fn library_decide(checked: c_int, table: In, table_length: usize, question: *const Made, out: *mut u64);
+    fn library_decide_number(
+        checked: c_int, table: In, table_length: usize, group: In, group_length: usize, user: In,
+        user_length: usize, host: In, host_length: usize, level: u32, states: In, states_length: usize,
+        values: *const f64, values_length: usize,
+    ) -> u64;
+    fn library_find_input(
+        table: In, table_length: usize, group: In, group_length: usize, letter: u32, out: *mut u64,
+    );
+    fn library_allowed(text: In, text_length: usize) -> c_int;
 }
 
 pub fn load(text: &[u8], table: &mut [u8]) -> Load {
-    // SAFETY: each pointer is a slice's own, with its length.
-    let bits = unsafe { abi::hrazvanut_load(text.as_ptr(), text.len(), table.as_mut_ptr(), table.len()) };
-    Load {
-        number: bits as u16,
-        warnings: (bits >> 16) as u16,
-        refusal: (bits >> 32) as u8,
-        rest: (bits >> 40) as u32,
+    let mut out = [0; 6];
+    // SAFETY: each pointer is a slice's own, with its length; `out` has as many
+    // numbers as are written.
+    unsafe {
+        calls::library_load(text.as_ptr(), text.len(), table.as_mut_ptr(), table.len(), out.as_mut_ptr());
     }
+    let [refusal, place, needed, warnings, length, agrees] = out;
+    Load { refusal, place, needed, warnings, length, agrees: agrees != 0 }
 }
 
 pub fn list_warnings(text: &[u8], skip: usize, numbers: &mut [u8], places: &mut [u16]) -> List {
+    let mut out = [0; 4];
     // SAFETY: as above.
-    let bits = unsafe {
-        abi::hrazvanut_list_warnings(
+    unsafe {
+        calls::library_list_warnings(
             text.as_ptr(),
             text.len(),
             skip,
@@ -166,45 +152,90 @@ pub fn list_warnings(text: &[u8], skip: usize, numbers: &mut [u8], places: &mut 
             numbers.len(),
             places.as_mut_ptr(),
             places.len(),
-        )
-    };
-    let rest = bits & !0xff_0000_ffff;
-    List { number: bits as u16, refusal: (bits >> 32) as u8, rest }
+            out.as_mut_ptr(),
+        );
+    }
+    let [refusal, place, count, agrees] = out;
+    List { refusal, place, count, agrees: agrees != 0 }
 }
 
-/// The answer as it came: 1 or 0 is promised.
-pub fn is_table(table: &[u8]) -> u8 {
+pub fn is_table(table: &[u8]) -> bool {
     // SAFETY: as above.
-    unsafe { abi::hrazvanut_is_table(table.as_ptr(), table.len()) }
+    unsafe { calls::library_is_table(table.as_ptr(), table.len()) != 0 }
 }
 
+impl<'a> Question<'a> {
+    pub fn new(asked: &Asked<'a>) -> Question<'a> {
+        // SAFETY: as above; the parts live as long as the question.
+        let made = unsafe {
+            calls::library_question(
+                asked.group.as_ptr(),
+                asked.group.len(),
+                asked.user.as_ptr(),
+                asked.user.len(),
+                asked.host.as_ptr(),
+                asked.host.len(),
+                asked.level,
+                asked.states.as_ptr(),
+                asked.states.len(),
+                asked.values.as_ptr(),
+                asked.values.len(),
+            )
+        };
+        Question { made, parts: PhantomData }
+    }
+
+    pub fn decide(&self, table: &[u8]) -> Decision {
+        // SAFETY: any bytes may be asked.
+        unsafe { self.ask(false, table) }
+    }
+
+    /// The same without the check.
+    ///
+    /// # Safety
+    /// `is_table` has said so of these bytes.
+    pub unsafe fn decide_checked(&self, table: &[u8]) -> Decision {
+        self.ask(true, table)
+    }
+
+    unsafe fn ask(&self, checked: bool, table: &[u8]) -> Decision {
+        let mut out = [0; 3];
+        calls::library_decide(checked.into(), table.as_ptr(), table.len(), self.made, out.as_mut_ptr());
+        let [refusal, access, trap] = out;
+        Decision { refusal, access, trap: trap != 0, agrees: true }
+    }
+}
+
+impl Drop for Question<'_> {
+    fn drop(&mut self) {
+        // SAFETY: it was made by `library_question`, and is forgotten once.
+        unsafe { calls::library_forget(self.made) }
+    }
+}
+
+/// By the header's question, and by the number of the proved function.
 pub fn decide(table: &[u8], asked: &Asked) -> Decision {
-    // SAFETY: as above.
-    decision(unsafe {
-        abi::hrazvanut_decide(
-            table.as_ptr(),
-            table.len(),
-            asked.group.as_ptr(),
-            asked.group.len(),
-            asked.user.as_ptr(),
-            asked.user.len(),
-            asked.host.as_ptr(),
-            asked.host.len(),
-            asked.level,
-            asked.states.as_ptr(),
-            asked.states.len(),
-            asked.values.as_ptr(),
-            asked.values.len(),
-        )
-    })
+    let decision = Question::new(asked).decide(table);
+    // SAFETY: any bytes may be asked.
+    beside(decision, unsafe { decide_number(false, table, asked) })
 }
 
 /// The same without the check.
 ///
 /// # Safety
-/// `is_table` has said 1 of these bytes.
+/// `is_table` has said so of these bytes.
 pub unsafe fn decide_checked(table: &[u8], asked: &Asked) -> Decision {
-    decision(abi::hrazvanut_decide_checked(
+    beside(Question::new(asked).decide_checked(table), decide_number(true, table, asked))
+}
+
+fn beside(decision: Decision, number: u64) -> Decision {
+    let packed = decision.access | u64::from(decision.trap) << 2 | decision.refusal << 48;
+    Decision { agrees: number == packed, ..decision }
+}
+
+unsafe fn decide_number(checked: bool, table: &[u8], asked: &Asked) -> u64 {
+    calls::library_decide_number(
+        checked.into(),
         table.as_ptr(),
         table.len(),
         asked.group.as_ptr(),
@@ -218,33 +249,27 @@ pub unsafe fn decide_checked(table: &[u8], asked: &Asked) -> Decision {
         asked.states.len(),
         asked.values.as_ptr(),
         asked.values.len(),
-    ))
+    )
 }
 
-fn decision(bits: u32) -> Decision {
-    Decision {
-        access: (bits & 3) as u8,
-        trap: bits >> 2 & 1 == 1,
-        refusal: (bits >> 8) as u8,
-        rest: bits & !0xff07,
-    }
-}
-
-pub fn find_input(table: &[u8], group: &[u8], letter: u8) -> Found {
+pub fn find_input(table: &[u8], group: &[u8], letter: u32) -> Found {
+    let mut out = [0; 4];
     // SAFETY: as above.
-    let bits = unsafe {
-        abi::hrazvanut_find_input(table.as_ptr(), table.len(), group.as_ptr(), group.len(), letter)
-    };
-    Found {
-        place: bits as u16,
-        length: (bits >> 16) as u16,
-        refusal: (bits >> 32) as u8,
-        rest: (bits >> 40) as u32,
+    unsafe {
+        calls::library_find_input(
+            table.as_ptr(),
+            table.len(),
+            group.as_ptr(),
+            group.len(),
+            letter,
+            out.as_mut_ptr(),
+        );
     }
+    let [refusal, place, length, agrees] = out;
+    Found { refusal, place, length, agrees: agrees != 0 }
 }
 
-/// The answer as it came: 1 or 0 is promised.
-pub fn allowed(text: &[u8]) -> u8 {
+pub fn allowed(text: &[u8]) -> bool {
     // SAFETY: as above.
-    unsafe { abi::hrazvanut_allowed(text.as_ptr(), text.len()) }
+    unsafe { calls::library_allowed(text.as_ptr(), text.len()) != 0 }
 }

@@ -1,6 +1,6 @@
 //! The calculation inside a rule: which texts are one, their value, their truth.
 
-use crate::LETTERS;
+use crate::{CALCULATION_BYTES, LETTERS};
 
 #[derive(Clone, Copy, Debug)]
 pub enum Reading {
@@ -64,8 +64,12 @@ pub fn allowed(text: &[u8]) -> bool {
     parse(text).is_some()
 }
 
-/// The tree of a text, if it is a calculation.
+/// The tree of a text, if it is a calculation. A longer text than refusal 5
+/// lets pass is none, in a file or by itself.
 pub fn parse(text: &[u8]) -> Option<Tree> {
+    if text.len() > CALCULATION_BYTES {
+        return None;
+    }
     let symbols = symbols(text)?;
     let mut reader = Reader { symbols: &symbols };
     let tree = reader.choice()?;

@@ -70,7 +70,7 @@ pub fn question(line: &[u8]) -> Option<Question<'_>> {
         group: if *group == b"-" { b"" } else { group },
         user,
         host,
-        level: digit - b'0',
+        level: (digit - b'0').into(),
         readings: readings(given)?,
     })
 }

@@ -23,7 +23,7 @@ pub struct Question<'a> {
     pub group: &'a [u8],
     pub user: &'a [u8],
     pub host: &'a [u8],
-    pub level: u8,
+    pub level: u32,
     pub readings: Readings,
 }
 
@@ -74,7 +74,7 @@ fn answering_group(view: &View, name: &[u8]) -> Option<usize> {
 fn passes(view: &View, rule: &StoredRule, question: &Question) -> bool {
     let host = question.host.to_ascii_lowercase();
     !rule.is_switched_off()
-        && usize::from(question.level) <= rule.level()
+        && question.level as usize <= rule.level()
         && is_named(view, rule.users, |n| view.user_group(n).1, question.user)
         && is_named(view, rule.hosts, |n| view.host_group(n).1, &host)
         && calculation_holds(view, rule, question)
@@ -98,17 +98,17 @@ fn calculation_holds(view: &View, rule: &StoredRule, question: &Question) -> boo
 
 /// Where the name of a letter's first input stands, and its length; or
 /// refusal 20 or 22.
-pub fn find_input(table: &[u8], group: &[u8], letter: u8) -> Result<(usize, usize), u8> {
+pub fn find_input(table: &[u8], group: &[u8], letter: u32) -> Result<(usize, usize), u8> {
     if !is_table(table) {
         return Err(20);
     }
-    if usize::from(letter) >= LETTERS {
+    if letter as usize >= LETTERS {
         return Err(22);
     }
     let view = View::open(table).ok_or(20)?;
     let group = answering_group(&view, group).ok_or(22)?;
     let (_, (first, count), _) = view.access_group(group);
     let inputs = (first..first + count).map(|n| view.input(n));
-    let (_, name) = inputs.into_iter().find(|(l, _)| *l == letter.into()).ok_or(22)?;
+    let (_, name) = inputs.into_iter().find(|(l, _)| *l == letter as usize).ok_or(22)?;
     Ok((view.place(name), name.1))
 }

@@ -30,6 +30,13 @@ fn near_one() {
 }
 
 #[test]
+fn long_calculation() {
+    assert!(parse(&[vec![b'-'; 78], b"1".to_vec()].concat()).is_some());
+    assert!(parse(&[vec![b'-'; 79], b"1".to_vec()].concat()).is_none());
+    assert!(parse(&vec![b'-'; 60_000]).is_none());
+}
+
+#[test]
 fn levels() {
     let answers = |rules: &[u8]| ask(rules, b"- u h 0\n- u h 1\n");
     assert_eq!(answers(b"ASG(DEFAULT){RULE(1,WRITE)}"), "WRITE NOTRAPWRITE\nWRITE NOTRAPWRITE\n");

@@ -22,7 +22,7 @@ unsafe fn part<'a, T>(start: *const T, length: usize) -> &'a [T] {
 }
 
 #[no_mangle]
-pub unsafe extern "C" fn hrazvanut_load(
+pub unsafe extern "C" fn hrazvanut_abi_load(
     text: *const u8,
     text_len: usize,
     table: *mut u8,
@@ -45,7 +45,7 @@ pub unsafe extern "C" fn hrazvanut_load(
             if fault(4) && length == table.len() {
                 length = 0; // a table that just fits
             }
-            length as u64 | (warnings as u64) << 16
+            length as u64 | (warnings as u64) << 32
         }
         Err(refusal) => {
             if fault(5) && !table.is_empty() {
@@ -58,13 +58,13 @@ pub unsafe extern "C" fn hrazvanut_load(
             if fault(7) && number == 6 && text[place..].starts_with(b"INP") {
                 place += 1;
             }
-            place as u64 | u64::from(number) << 32
+            place as u64 | u64::from(number) << 48
         }
     }
 }
 
 #[no_mangle]
-pub unsafe extern "C" fn hrazvanut_list_warnings(
+pub unsafe extern "C" fn hrazvanut_abi_list_warnings(
     text: *const u8,
     text_len: usize,
     skip: usize,
@@ -92,13 +92,13 @@ pub unsafe extern "C" fn hrazvanut_list_warnings(
             if fault(9) && !places.is_empty() {
                 places[0] = 0;
             }
-            refusal.place as u64 | u64::from(refusal.number) << 32
+            refusal.place as u64 | u64::from(refusal.number) << 48
         }
     }
 }
 
 #[no_mangle]
-pub unsafe extern "C" fn hrazvanut_is_table(table: *const u8, table_len: usize) -> u8 {
+pub unsafe extern "C" fn hrazvanut_abi_is_table(table: *const u8, table_len: usize) -> u8 {
     is_table(part(table, table_len)).into()
 }
 
@@ -147,13 +147,13 @@ fn asked(mut question: Question) -> Question {
     if fault(16) && question.group.len() == 60 {
         question.group = b""; // the longest name not found
     }
-    if fault(17) && question.level == 255 {
-        question.level = 0; // taken for a signed number
+    if fault(17) && question.level % 256 == 0 {
+        question.level = 0; // cut to a byte
     }
     question
 }
 
-unsafe fn decision(table: &[u8], question: Question, checked: bool) -> u32 {
+unsafe fn decision(table: &[u8], question: Question, checked: bool) -> u64 {
     let question = asked(question);
     let answer = if fault(18) && question.level > 1 {
         Err(21) // 21 before 20
@@ -170,9 +170,9 @@ unsafe fn decision(table: &[u8], question: Question, checked: bool) -> u32 {
                 Access::Read => 1,
                 Access::Write => 2,
             };
-            access | u32::from(trap) << 2
+            access | u64::from(trap) << 2
         }
-        Err(number) => u32::from(number) << 8,
+        Err(number) => u64::from(number) << 48,
     }
 }
 
@@ -188,12 +188,12 @@ macro_rules! decision {
             user_len: usize,
             host: *const u8,
             host_len: usize,
-            level: u8,
+            level: u32,
             states: *const u8,
             states_len: usize,
             values: *const f64,
             values_len: usize,
-        ) -> u32 {
+        ) -> u64 {
             let question = Question {
                 group: part(group, group_len),
                 user: part(user, user_len),
@@ -206,16 +206,16 @@ macro_rules! decision {
     };
 }
 
-decision!(hrazvanut_decide, false);
-decision!(hrazvanut_decide_checked, true);
+decision!(hrazvanut_abi_decide, false);
+decision!(hrazvanut_abi_decide_checked, true);
 
 #[no_mangle]
-pub unsafe extern "C" fn hrazvanut_find_input(
+pub unsafe extern "C" fn hrazvanut_abi_find_input(
     table: *const u8,
     table_len: usize,
     group: *const u8,
     group_len: usize,
-    letter: u8,
+    letter: u32,
 ) -> u64 {
     let (table, group) = (part(table, table_len), part(group, group_len));
     let mut answer = paper::find_input(table, group, letter);
@@ -223,13 +223,13 @@ pub unsafe extern "C" fn hrazvanut_find_input(
         answer = paper::find_input(table, b"", letter); // goes on to DEFAULT
     }
     match answer {
-        Ok((place, length)) => place as u64 | (length as u64) << 16,
-        Err(number) => u64::from(number) << 32,
+        Ok((place, length)) => place as u64 | (length as u64) << 32,
+        Err(number) => u64::from(number) << 48,
     }
 }
 
 #[no_mangle]
-pub unsafe extern "C" fn hrazvanut_allowed(text: *const u8, text_len: usize) -> u8 {
+pub unsafe extern "C" fn hrazvanut_abi_allowed(text: *const u8, text_len: usize) -> u8 {
     let text = part(text, text_len);
     let sixteen_digits = text.windows(16).any(|w| w.iter().all(u8::is_ascii_digit));
     let wrong = fault(21) && sixteen_digits || fault(22) && paper::allowed(text) && text.contains(&b'\t');

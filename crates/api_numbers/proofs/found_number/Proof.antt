@@ -1,4 +1,5 @@
-use mathlib.Core.Path.{_∙_}
+use mathlib.Core.Path.{_∙_, ap, sym}
+use Rattle.api_numbers.specs.Numbers.{found-number}
 use Rattle.api_numbers.specs.laws.Numbers.{found-is}
 use borrow.Author.Needs.{needs}
 use Rattle.api_numbers.proofs.found_number.Statement.{statement}
@@ -26,10 +27,10 @@ returns : tie.Need-returns
 returns c = c .packed .ensures ∙ found-is (c .before .before .f .given .1)
 
 returns-2 : tie.Need-returns-2
-returns-2 c = search needs
+returns-2 c = c .packed2 .ensures ∙ sym (ap found-number (c .before .enum-told .given .1))
 
 returns-3 : tie.Need-returns-3
-returns-3 c = search needs
+returns-3 c = c .packed3 .ensures ∙ sym (ap found-number (c .before .enum-told2 .given .1))
 
 pub found-number-spec : {M : Type 1} → statement M
 found-number-spec =

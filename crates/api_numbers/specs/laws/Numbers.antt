@@ -51,11 +51,11 @@ pub listed-refused : {l : Listed} {k : Refusal} {p : ℕ} → l ≡ listed.Refus
 listed-refused e = sym (ap listed-number e)
 
 module _ {x : Answer} {d : Decision} where
-  pub trap-is : d .trap ≡ true → x ≡ answer.Answered d → rank (d .access) + 4 ≡ answer-number x
+  pub trap-is : d .trap ≡ true → x ≡ answer.Answered d → packed (rank (d .access) + 4) 0 0 ≡ answer-number x
   trap-is b e = rw (e, b)
 
-  pub no-trap-is : d .trap ≡ false → x ≡ answer.Answered d → rank (d .access) ≡ answer-number x
-  no-trap-is b e = rw (e, b) (omega arith)
+  pub no-trap-is : d .trap ≡ false → x ≡ answer.Answered d → packed (rank (d .access)) 0 0 ≡ answer-number x
+  no-trap-is b e = rw (e, b) (ap (λ (n : ℕ). packed n 0 0) (omega arith))
 
 pub found-is : {x : Found} {at n : ℕ} → x ≡ found.Part at n → packed at n 0 ≡ found-number x
 found-is e = sym (ap found-number e)

@@ -1,7 +1,7 @@
 -- Laws of scripts and of their calls.
 use mathlib.Core.Path.{_≡_, refl, sym, ap, _∙_}
 use mathlib.Core.List.{List, []}
-use Prim.Native.Nat.{ℕ, zero, suc, _+_, _*_, _-_, _/_, _%_, _≤_, _<_}
+use Prim.Native.Nat.{ℕ, zero, suc, _+_, _*_, _-_, _/_, _≤_, _<_}
 use native.Mathlib.Nat.{div-add-mod'}
 use native.Mathlib.Omega.{arith}
 use lib.ListN.{length, drop, drop-of-length-le, length-drop}
@@ -80,7 +80,7 @@ module _ (s : Script) (i : ℕ) (lent : List ℕ) {w : ℕ} (what : w ≡ word (
   pub other-made :
       {a b c : List ℕ} {n k : ℕ} {rs : List Reading} {r : Reply} → (w ≡ 0 → ⊥)
       → a ≡ text-at (s .words) (s .pool) i 1 → b ≡ text-at (s .words) (s .pool) i 3 → c ≡ text-at (s .words) (s .pool) i 5
-      → n ≡ word (s .words) i 7 % 256 → k ≡ word (s .words) i 8 → rs ≡ readings (s .states) (s .values) k
+      → n ≡ word (s .words) i 7 → k ≡ word (s .words) i 8 → rs ≡ readings (s .states) (s .values) k
       → r ≡ answer-to lent (call-of w a b c n rs) → Made lent (call-at s i) lent r
   other-made {a} {b} {c} {n} {k} {rs} z ea eb ec en ek er h =
       let same : call-of w a b c n rs ≡ call-at s i = rw (ea, eb, ec, en, er, ek, what) in

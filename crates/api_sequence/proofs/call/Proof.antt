@@ -31,8 +31,8 @@ text-at-requires-2 c κs = search needs
 text-at-requires-3 : tie.Need-text-at-requires-3
 text-at-requires-3 c κs = search needs
 
-byte-requires : tie.Need-byte-requires
-byte-requires c κs = search needs
+number-requires : tie.Need-number-requires
+number-requires c κs = search needs
 
 word-requires-2 : tie.Need-word-requires-2
 word-requires-2 c κs = search needs
@@ -51,13 +51,13 @@ returns-2 c =
     let a = c .before .before .before .before .before .before .before .before .before .before .before .before .before .before .before .args in
     let at-readings = c .before .before in
     let at-word2 = at-readings .before in
-    let at-byte = at-word2 .before in
-    let at-text-at3 = at-byte .before in
+    let at-number = at-word2 .before in
+    let at-text-at3 = at-number .before in
     let at-text-at2 = at-text-at3 .before in
     let at-if1 = at-text-at2 .before in
     let at-text-at = at-if1 .before in
     let at-word = at-text-at .before in
-    other-made (script-of (a .script .now) (a .pool .now) (a .states .now) (a .values .now)) (a .i) (a .lent .now) (at-word .word .ensures) (at-if1 .if1 .left) (at-text-at .text-at .ensures) (at-text-at2 .text-at2 .ensures) (at-text-at3 .text-at3 .ensures) (at-byte .byte .ensures) (at-word2 .word2 .ensures) (at-readings .readings .ensures) (c .call-reading .ensures)
+    other-made (script-of (a .script .now) (a .pool .now) (a .states .now) (a .values .now)) (a .i) (a .lent .now) (at-word .word .ensures) (at-if1 .if1 .left) (at-text-at .text-at .ensures) (at-text-at2 .text-at2 .ensures) (at-text-at3 .text-at3 .ensures) (at-number .number .ensures) (at-word2 .word2 .ensures) (at-readings .readings .ensures) (c .call-reading .ensures)
 
 pub call-spec : {M : Type 1} → statement M
 call-spec =
@@ -70,7 +70,7 @@ call-spec =
     returns
     text-at-requires-2
     text-at-requires-3
-    byte-requires
+    number-requires
     word-requires-2
     readings-requires
     call-reading-requires

@@ -32,7 +32,7 @@ returns-2 : tie.Need-returns-2
 returns-2 c = let a = c .before .before .before .before .before .before .before .before in sym (decide-none (a .args .table .now) (question-of (a .args .group .now) (a .args .user .now) (a .args .host .now) (a .args .level) (a .args .rs)) (a .pre) (omega (arith, c .before .before .before .if1 .left)) (c .before .before .answering-group .ensures) (c .enum-told .given .1))
 
 returns-3 : tie.Need-returns-3
-returns-3 c = let a = c .before .before .before .before .before .before .before .before .before .before .before .before .before .before .before .before in sym (decide-by (a .args .table .now) (question-of (a .args .group .now) (a .args .user .now) (a .args .host .now) (a .args .level) (a .args .rs)) (a .pre) (c .before .before .before .before .before .before .before .before .i .given .0 .0) (c .before .before .before .wide .ensures .0) (omega (arith, c .before .before .before .before .before .before .before .before .before .before .before .if1 .left)) (c .before .before .before .before .before .before .before .before .before .before .answering-group .ensures) (c .before .before .before .before .before .before .before .before .i .given .1) (c .decision-of-group .ensures (a .args .rs) (c .before .before .before .before .before .before .inputs-of .ensures)))
+returns-3 c = let a = c .before .before .before .before .before .before .before .before .before .before .before .before .before .before .before .before in sym (decide-by (a .args .table .now) (question-of (a .args .group .now) (a .args .user .now) (a .args .host .now) (a .args .level) (a .args .rs)) (a .pre) (c .before .before .before .before .before .before .before .before .i .given .0 .0) (c .before .before .before .wide .ensures) (omega (arith, c .before .before .before .before .before .before .before .before .before .before .before .if1 .left)) (c .before .before .before .before .before .before .before .before .before .before .answering-group .ensures) (c .before .before .before .before .before .before .before .before .i .given .1) (c .decision-of-group .ensures (a .args .rs) (c .before .before .before .before .before .before .inputs-of .ensures)))
 
 pub decide-checked-spec : {M : Type 1} → statement M
 decide-checked-spec =

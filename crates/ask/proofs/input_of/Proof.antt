@@ -23,7 +23,7 @@ returns : tie.Need-returns
 returns c = input-missing (c .before .before .before .before .before .args .table .now) (c .before .before .before .before .before .args .group .now) (c .before .before .before .before .before .args .letter) (c .before .before .answering-group .ensures) (c .enum-told .given .1)
 
 returns-2 : tie.Need-returns-2
-returns-2 c = input-found (c .before .before .before .before .before .before .before .before .args .table .now) (c .before .before .before .before .before .before .before .before .args .group .now) (c .before .before .before .before .before .before .before .before .args .letter) (c .before .before .before .i .given .0 .0) (c .before .before .before .before .before .answering-group .ensures) (c .before .before .before .i .given .1) (c .before .wide .ensures .0) (c .first-input .ensures)
+returns-2 c = input-found (c .before .before .before .before .before .before .before .before .args .table .now) (c .before .before .before .before .before .before .before .before .args .group .now) (c .before .before .before .before .before .before .before .before .args .letter) (c .before .before .before .i .given .0 .0) (c .before .before .before .before .before .answering-group .ensures) (c .before .before .before .i .given .1) (c .before .wide .ensures) (c .first-input .ensures)
 
 pub input-of-spec : {M : Type 1} → statement M
 input-of-spec =

@@ -1,11 +1,15 @@
 -- The reader reads exactly the calculations, and as the tree that they say.
 use mathlib.Core.Path.{_≡_, refl, sym, _∙_, subst, ap}
+use mathlib.Core.Bool.{Bool, true, false, cond}
 use mathlib.Core.List.{List, []}
 use mathlib.Core.Option.{Option, none, some, Option·some-ne-none}
-use Prim.Native.Nat.{ℕ}
+use Prim.Native.Nat.{ℕ, _≤_, _<_}
 use native.Mathlib.Omega.{arith}
+use borrow.Author.Tests.{leb-true, le-leb, lt-leb}
+use lib.Dec.{leb}
+use lib.ListN.{length}
 use Rattle.spec_calc.specs.Symbol.{Symbol, symbols, symbols-in}
-use Rattle.spec_calc.specs.Expression.{Tree, Expression, Parses}
+use Rattle.spec_calc.specs.Expression.{Tree, Expression, longest-calculation, Parses}
 use Rattle.spec_calc.specs.Reader.{reduce, run, read-tree, read-spelled, tree-of}
 use Rattle.spec_calc.specs.laws.Complete.{expression-read}
 use Rattle.spec_calc.specs.laws.Sound.{Derived, read-derived}
@@ -17,17 +21,30 @@ pub read-complete : (ss : List Symbol) (t : Tree) → Expression ss [] t → rea
 unfolding run reduce
 read-complete ss t d = expression-read d [] (omega arith) (omega arith)
 
+-- by its length, a text is read or is none
+pub short-tree : (s : List ℕ) → length s ≤ longest-calculation → tree-of s ≡ read-spelled (symbols s)
+unfolding tree-of
+short-tree s h = rw (le-leb (length s) longest-calculation h)
+
+pub long-tree : (s : List ℕ) → longest-calculation < length s → tree-of s ≡ none
+unfolding tree-of
+long-tree s h = rw (lt-leb (length s) longest-calculation h)
+
 pub parses-sound : (s : List ℕ) (t : Tree) → tree-of s ≡ some t → Parses s t
 unfolding tree-of
-parses-sound s t e = go (symbols s) refl e
+parses-sound s t e = go (leb (length s) longest-calculation) (symbols s) refl refl e
   where
-    go : (o : Option (List Symbol)) → symbols s ≡ o → read-spelled o ≡ some t → Parses s t
-    go none p e = absurd (Option·some-ne-none t (sym e))
-    go (some ss) p e = record { spelled = ss; spelling = p; derived = read-sound ss t e }
+    go :
+        (b : Bool) (o : Option (List Symbol)) → leb (length s) longest-calculation ≡ b → symbols s ≡ o → cond b (read-spelled o) none ≡ some t
+        → Parses s t
+    go false o l p e = absurd (Option·some-ne-none t (sym e))
+    go true none l p e = absurd (Option·some-ne-none t (sym e))
+    go true (some ss) l p e =
+        record { short = leb-true (length s) longest-calculation l; spelled = ss; spelling = p; derived = read-sound ss t e }
 
 pub parses-complete : (s : List ℕ) (t : Tree) → Parses s t → tree-of s ≡ some t
 unfolding tree-of
-parses-complete s t y = ap read-spelled (y .spelling) ∙ read-complete (y .spelled) t (y .derived)
+parses-complete s t y = short-tree s (y .short) ∙ (ap read-spelled (y .spelling) ∙ read-complete (y .spelled) t (y .derived))
 
 pub one-tree : (s : List ℕ) (t u : Tree) → Parses s t → Parses s u → t ≡ u
 one-tree s t u y z = cc (parses-complete s t y, parses-complete s u z)

@@ -1,7 +1,7 @@
 use Rattle.hrazvanut.specs.laws.Answers.{lists}
 use borrow.Author.Needs.{needs}
-use Rattle.hrazvanut.proofs.hrazvanut_list_warnings.Statement.{statement}
-use Rattle.hrazvanut.proofs.hrazvanut_list_warnings.Tie as tie
+use Rattle.hrazvanut.proofs.hrazvanut_abi_list_warnings.Statement.{statement}
+use Rattle.hrazvanut.proofs.hrazvanut_abi_list_warnings.Tie as tie
 
 list-warnings-requires : tie.Need-list-warnings-requires
 list-warnings-requires c κs = search needs
@@ -18,7 +18,7 @@ same-length-2 c = search needs
 returns : tie.Need-returns
 returns c = lists (c .before .before .before .before .before .list-warnings .ensures) (c .listed-number .ensures)
 
-pub hrazvanut-list-warnings-spec : {M : Type 1} → statement M
-hrazvanut-list-warnings-spec =
+pub hrazvanut-abi-list-warnings-spec : {M : Type 1} → statement M
+hrazvanut-abi-list-warnings-spec =
     tie.close
     (tie.spec list-warnings-requires listed-number-requires same-length same-length-2 returns)

@@ -1,7 +1,7 @@
 use Rattle.hrazvanut.specs.laws.Answers.{leaves}
 use borrow.Author.Needs.{needs}
-use Rattle.hrazvanut.proofs.hrazvanut_load.Statement.{statement}
-use Rattle.hrazvanut.proofs.hrazvanut_load.Tie as tie
+use Rattle.hrazvanut.proofs.hrazvanut_abi_load.Statement.{statement}
+use Rattle.hrazvanut.proofs.hrazvanut_abi_load.Tie as tie
 
 load-requires : tie.Need-load-requires
 load-requires c κs = search needs
@@ -15,5 +15,5 @@ same-length c = search needs
 returns : tie.Need-returns
 returns c = leaves (c .before .before .before .load .ensures) (c .load-number .ensures)
 
-pub hrazvanut-load-spec : {M : Type 1} → statement M
-hrazvanut-load-spec = tie.close (tie.spec load-requires load-number-requires same-length returns)
+pub hrazvanut-abi-load-spec : {M : Type 1} → statement M
+hrazvanut-abi-load-spec = tie.close (tie.spec load-requires load-number-requires same-length returns)

@@ -1,0 +1,405 @@
+/* Every function of include/hrazvanut.h, as a caller has it. Compiled as C99, C11 and C++17. */
+#include <math.h>
+#include <stdio.h>
+#include <stdlib.h>
+#include <string.h>
+
+#include "hrazvanut.h"
+
+#ifdef __cplusplus
+#define ZERO {}
+#else
+#define ZERO {0}
+#endif
+
+static unsigned long checks, wrong;
+
+static void check(bool good, const char *what, int line)
+{
+    checks++;
+    if (!good) {
+        wrong++;
+        printf("line %d: %s\n", line, what);
+    }
+}
+#define CHECK(what) check((what), #what, __LINE__)
+
+static uint8_t lent[HRAZVANUT_TABLE + 16];
+
+static struct hrazvanut_room room_of(size_t length)
+{
+    struct hrazvanut_room room = ZERO;
+    room.start = lent;
+    room.length = length;
+    return room;
+}
+
+static struct hrazvanut_loaded load(const char *text) { return hrazvanut_load(hrazvanut_string(text), room_of(sizeof lent)); }
+
+static bool is_text(struct hrazvanut_text text, const char *s)
+{
+    return text.length == strlen(s) && memcmp(text.start, s, text.length) == 0;
+}
+
+/* ---- words */
+
+static void words(void)
+{
+    static const int known[] = {0, 1, 2, 3, 4, 5, 6, 7, 8, 9, 10, 11, 20, 21, 22};
+    size_t k = 0;
+    int n;
+    CHECK(HRAZVANUT_VERSION_MAJOR == 2 && HRAZVANUT_VERSION_MINOR == 0);
+    CHECK(hrazvanut_string(NULL).length == 0);
+    CHECK(hrazvanut_string("").length == 0);
+    CHECK(is_text(hrazvanut_string("pc1"), "pc1"));
+    for (n = 0; n < 32; n++) {
+        const char *said = hrazvanut_refusal_words((enum hrazvanut_refusal)n);
+        bool here = k < sizeof known / sizeof *known && known[k] == n;
+        CHECK((strcmp(said, "unknown refusal") != 0) == here);
+        k += here;
+    }
+    CHECK(strcmp(hrazvanut_refusal_words(HRAZVANUT_REFUSED_NO_ROOM), "lent table too short") == 0);
+    CHECK(strcmp(hrazvanut_refusal_words(HRAZVANUT_REFUSED_NO_INPUT), "no such input in the group") == 0);
+}
+
+/* ---- loads */
+
+static void refused(const char *text, enum hrazvanut_refusal refusal, size_t place)
+{
+    struct hrazvanut_loaded loaded;
+    struct hrazvanut_listed listed;
+    struct hrazvanut_warning one = ZERO;
+    memset(lent, 0xa5, sizeof lent);
+    loaded = load(text);
+    CHECK(loaded.refusal == refusal);
+    CHECK(loaded.place == place);
+    CHECK(loaded.needed == 0 && loaded.warnings == 0);
+    CHECK(loaded.table.start == NULL && loaded.table.length == 0);
+    CHECK(lent[0] == 0xa5 && memcmp(lent, lent + 1, sizeof lent - 1) == 0);
+    listed = hrazvanut_list_warnings(hrazvanut_string(text), 0, &one, 1);
+    CHECK(listed.refusal == refusal && listed.place == place);
+    CHECK(listed.count == 0 && listed.written == 0);
+    CHECK((int)one.kind == 0 && one.place == 0);
+}
+
+/* Refused for being one byte longer than a file may be. */
+static void too_long(void)
+{
+    char *text = (char *)malloc(HRAZVANUT_FILE + 2);
+    if (!text)
+        abort();
+    memset(text, '#', HRAZVANUT_FILE + 1);
+    text[HRAZVANUT_FILE + 1] = 0;
+    refused(text, HRAZVANUT_REFUSED_FILE_TOO_LONG, 0);
+    text[HRAZVANUT_FILE] = 0;
+    refused(text, HRAZVANUT_REFUSED_UNGRAMMATICAL, HRAZVANUT_FILE);
+    free(text);
+}
+
+/* Refused for the 65th user group. */
+static void too_many(void)
+{
+    char text[65 * 8 + 1];
+    int i;
+    for (i = 0; i < 65; i++)
+        sprintf(text + i * 8, "UAG(a%02d)", i);
+    refused(text, HRAZVANUT_REFUSED_TOO_MANY, 64 * 8 + 4);
+}
+
+static void loads(void)
+{
+    static const char text[] = "UAG(a) {x}\nFOO(1)\nASG(DEFAULT) {RULE(1,WRITE) {UAG(b) BAR()}}\n";
+    struct hrazvanut_text none = ZERO;
+    struct hrazvanut_room nowhere = ZERO;
+    struct hrazvanut_loaded loaded;
+    size_t length;
+
+    memset(lent, 0xa5, sizeof lent);
+    loaded = load(text);
+    length = loaded.table.length;
+    CHECK(loaded.refusal == HRAZVANUT_NOT_REFUSED);
+    CHECK(loaded.place == 0 && loaded.needed == 0 && loaded.warnings == 3);
+    CHECK(loaded.table.start == lent && length > 36 && length < sizeof lent);
+    CHECK(lent[0] == 1 && lent[1] == 0 && lent[2] == length && lent[3] == 0);
+    CHECK(lent[length] == 0xa5 && memcmp(lent + length, lent + length + 1, sizeof lent - length - 1) == 0);
+    CHECK(hrazvanut_abi_load((const uint8_t *)text, sizeof text - 1, lent, sizeof lent) == (length | UINT64_C(3) << 32));
+    CHECK(hrazvanut_abi_load((const uint8_t *)text, sizeof text - 1, lent, length - 1) == (length | UINT64_C(11) << 48));
+
+    loaded = hrazvanut_load(hrazvanut_string(text), room_of(length));
+    CHECK(loaded.refusal == HRAZVANUT_NOT_REFUSED && loaded.table.length == length);
+    loaded = hrazvanut_load(hrazvanut_string(text), room_of(length - 1));
+    CHECK(loaded.refusal == HRAZVANUT_REFUSED_NO_ROOM);
+    CHECK(loaded.needed == length && loaded.place == 0 && loaded.warnings == 0 && loaded.table.length == 0);
+    CHECK(hrazvanut_load(hrazvanut_string(text), nowhere).needed == length);
+    CHECK(hrazvanut_load(none, nowhere).refusal == HRAZVANUT_REFUSED_UNGRAMMATICAL);
+
+    refused("", HRAZVANUT_REFUSED_UNGRAMMATICAL, 0);
+    too_long();
+    refused("UAG(a) ?", HRAZVANUT_REFUSED_BAD_BYTE, 7);
+    refused("FOO() {{{{{{{{{{{{{{{{{", HRAZVANUT_REFUSED_TOO_DEEP, 22);
+    refused("ASG(a) {RULE(1,READ) {CALC(1)}}", HRAZVANUT_REFUSED_UNGRAMMATICAL, 27);
+    refused("UAG(a123456789012345678901234567890123456789012345678901234567890)", HRAZVANUT_REFUSED_STRING_TOO_LONG, 4);
+    too_many();
+    refused("UAG(a) UAG(a)", HRAZVANUT_REFUSED_GIVEN_AGAIN, 11);
+    refused("ASG(a) {RULE(2,READ)}", HRAZVANUT_REFUSED_RULE_LEVEL, 13);
+    refused("ASG(a) {RULE(1,read)}", HRAZVANUT_REFUSED_UNKNOWN_WORD, 15);
+    refused("ASG(a) {RULE(1,READ) {CALC(\"A\")}}", HRAZVANUT_REFUSED_CALCULATION, 27);
+}
+
+/* ---- warnings */
+
+/* A text with so many warnings, an unknown item each three bytes: lists it whole, then in parts. */
+static void warnings_of(size_t many)
+{
+    enum { MOST = 200 };
+    static struct hrazvanut_warning all[MOST + 1], some[MOST + 1];
+    static const size_t skips[] = {0, 1, 63, 64, 65, 130, SIZE_MAX - 1, SIZE_MAX};
+    char text[3 * MOST + 8];
+    struct hrazvanut_listed listed;
+    size_t i, k, room;
+    for (i = 0; i < many; i++)
+        memcpy(text + 3 * i, "a()", 4);
+    strcpy(text + 3 * many, "UAG(x)");
+    memset(all, 0xa5, sizeof all);
+    listed = hrazvanut_list_warnings(hrazvanut_string(text), 0, all, MOST);
+    CHECK(listed.refusal == HRAZVANUT_NOT_REFUSED && listed.place == 0);
+    CHECK(listed.count == many && listed.written == many);
+    for (i = 0; i < many; i++)
+        CHECK(all[i].kind == HRAZVANUT_UNKNOWN_ITEM && all[i].place == 3 * i);
+    CHECK(load(text).warnings == many);
+    CHECK(hrazvanut_list_warnings(hrazvanut_string(text), 0, NULL, 0).count == many);
+    for (k = 0; k < sizeof skips / sizeof *skips; k++)
+        for (room = 0; room <= MOST; room += 13) {
+            size_t behind = skips[k] < many ? many - skips[k] : 0;
+            size_t expected = behind < room ? behind : room;
+            memset(some, 0xa5, sizeof some);
+            listed = hrazvanut_list_warnings(hrazvanut_string(text), skips[k], some, room);
+            CHECK(listed.count == many && listed.written == expected);
+            CHECK(expected == 0 || memcmp(some, all + skips[k], expected * sizeof *some) == 0);
+            CHECK(memcmp(some + expected, all + MOST, sizeof *some) == 0);
+        }
+}
+
+static void warnings(void)
+{
+    static const char text[] = "UAG(a) {x}\nFOO(1)\nASG(DEFAULT) {RULE(1,WRITE) {UAG(b) BAR()}}\n";
+    static const size_t counts[] = {0, 1, 63, 64, 65, 127, 128, 129, 200};
+    struct hrazvanut_warning three[3];
+    uint8_t numbers[3];
+    uint16_t places[3];
+    size_t i;
+    CHECK(hrazvanut_list_warnings(hrazvanut_string(text), 0, three, 3).written == 3);
+    CHECK(three[0].kind == HRAZVANUT_UNKNOWN_ITEM && three[0].place == 11);
+    CHECK(three[1].kind == HRAZVANUT_UNDEFINED_GROUP && three[1].place == 51);
+    CHECK(three[2].kind == HRAZVANUT_UNKNOWN_PREDICATE && three[2].place == 54);
+    CHECK(hrazvanut_abi_list_warnings((const uint8_t *)text, sizeof text - 1, 1, numbers, 3, places, 1) == 3);
+    CHECK(numbers[0] == 3 && numbers[1] == 2 && places[0] == 51);
+    for (i = 0; i < sizeof counts / sizeof *counts; i++)
+        warnings_of(counts[i]);
+}
+
+/* ---- tables */
+
+static void tables(void)
+{
+    struct hrazvanut_table none = ZERO, table = load("ASG(DEFAULT) {RULE(1,READ)}").table;
+    CHECK(hrazvanut_is_table(table));
+    table.length--;
+    CHECK(!hrazvanut_is_table(table));
+    table.length += 2;
+    CHECK(hrazvanut_is_table(table));
+    CHECK(hrazvanut_abi_is_table(table.start, table.length) == 1 && hrazvanut_abi_is_table(table.start, 0) == 0);
+    CHECK(!hrazvanut_is_table(none));
+    lent[0] = 0;
+    CHECK(!hrazvanut_is_table(table));
+}
+
+/* ---- questions */
+
+/* By both functions, if it is a table. */
+static struct hrazvanut_answer ask(struct hrazvanut_table table, const struct hrazvanut_question *question)
+{
+    struct hrazvanut_answer answer = hrazvanut_decide(table, question);
+    if (hrazvanut_is_table(table)) {
+        struct hrazvanut_answer checked = hrazvanut_decide_checked(table, question);
+        CHECK(checked.refusal == answer.refusal && checked.access == answer.access && checked.trap == answer.trap);
+    }
+    return answer;
+}
+
+static bool answers(struct hrazvanut_answer answer, enum hrazvanut_access access, bool trap)
+{
+    return answer.refusal == HRAZVANUT_NOT_REFUSED && answer.access == access && answer.trap == trap;
+}
+
+static bool refuses(struct hrazvanut_answer answer, enum hrazvanut_refusal refusal)
+{
+    return answer.refusal == refusal && answer.access == HRAZVANUT_NONE && !answer.trap;
+}
+
+static const char site[] = "UAG(users) {ann} HAG(hosts) {pc1}\n"
+                           "ASG(DEFAULT) {INPA(B1:PGA) INPU(B1:KEY) RULE(1,READ)\n"
+                           "RULE(1,WRITE,TRAPWRITE) {UAG(users) HAG(hosts) CALC(\"A<0.3\")}}\n"
+                           "ASG(tower) {RULE(0,WRITE)} ASG(\"\") {RULE(1,NONE)}\n";
+
+static struct hrazvanut_question of_ann(void)
+{
+    struct hrazvanut_question question = ZERO;
+    question.user = hrazvanut_string("ann");
+    question.host = hrazvanut_string("PC1");
+    question.level = 1;
+    question.readings[0].state = HRAZVANUT_VALUE;
+    question.readings[0].value = 0.25;
+    return question;
+}
+
+static void names_and_levels(struct hrazvanut_table table)
+{
+    static const uint32_t levels[] = {2, 255, 256, 257, 65536, 65537, UINT32_C(1) << 31, UINT32_MAX};
+    struct hrazvanut_question nobody = ZERO, q = of_ann();
+    struct hrazvanut_table none = ZERO;
+    struct hrazvanut_text name;
+    size_t i;
+    CHECK(answers(ask(table, &q), HRAZVANUT_WRITE, true));
+    CHECK(answers(ask(table, &nobody), HRAZVANUT_READ, false));
+    CHECK(refuses(ask(none, &q), HRAZVANUT_REFUSED_NOT_TABLE));
+    for (i = 0; i < sizeof levels / sizeof *levels; i++) {
+        q.level = levels[i];
+        CHECK(refuses(ask(table, &q), HRAZVANUT_REFUSED_LEVEL));
+        CHECK(refuses(ask(none, &q), HRAZVANUT_REFUSED_NOT_TABLE));
+    }
+    q = of_ann();
+    name = q.user, q.user = q.host, q.host = name;
+    CHECK(answers(ask(table, &q), HRAZVANUT_READ, false));
+    q = of_ann();
+    q.group = hrazvanut_string("tower");
+    CHECK(answers(ask(table, &q), HRAZVANUT_NONE, false));
+    q.level = 0;
+    CHECK(answers(ask(table, &q), HRAZVANUT_WRITE, false));
+    name = q.user, q.user = q.group, q.group = name;
+    CHECK(answers(ask(table, &q), HRAZVANUT_READ, false));
+    q = of_ann();
+    q.user.length--;
+    CHECK(answers(ask(table, &q), HRAZVANUT_READ, false));
+}
+
+static void readings(struct hrazvanut_table table)
+{
+    struct hrazvanut_question q = of_ann();
+    double bad[3];
+    int i;
+    bad[0] = NAN, bad[1] = HUGE_VAL, bad[2] = -HUGE_VAL;
+    for (i = 0; i < 3; i++) {
+        q.readings[0].value = bad[i];
+        CHECK(answers(ask(table, &q), HRAZVANUT_READ, false));
+    }
+    q.readings[0].value = 0.3;
+    CHECK(answers(ask(table, &q), HRAZVANUT_READ, false));
+    q.readings[0].value = -0.0;
+    CHECK(answers(ask(table, &q), HRAZVANUT_WRITE, true));
+    q.readings[0].state = HRAZVANUT_NEVER_HEARD;
+    CHECK(answers(ask(table, &q), HRAZVANUT_READ, false));
+    q.readings[0].state = HRAZVANUT_INVALID;
+    CHECK(answers(ask(table, &q), HRAZVANUT_READ, false));
+    q.readings[0].state = (enum hrazvanut_state)3;
+    CHECK(answers(ask(table, &q), HRAZVANUT_READ, false));
+#ifndef __cplusplus /* there an enum holds no such number */
+    q.readings[0].state = (enum hrazvanut_state)258;
+    CHECK(answers(ask(table, &q), HRAZVANUT_READ, false));
+    q.readings[0].state = (enum hrazvanut_state)-254;
+    CHECK(answers(ask(table, &q), HRAZVANUT_READ, false));
+#endif
+}
+
+/* Each letter has its own reading. */
+static void letters(void)
+{
+    char text[80];
+    int letter, heard;
+    for (letter = 0; letter < HRAZVANUT_READINGS; letter++) {
+        struct hrazvanut_table table;
+        sprintf(text, "ASG(DEFAULT) {INP%c(x) RULE(1,WRITE) {CALC(\"%c=7\")}}", 'A' + letter, 'a' + letter);
+        table = load(text).table;
+        CHECK(hrazvanut_is_table(table));
+        for (heard = 0; heard < HRAZVANUT_READINGS; heard++) {
+            struct hrazvanut_question q = ZERO;
+            q.readings[heard].state = HRAZVANUT_VALUE;
+            q.readings[heard].value = 7;
+            CHECK(answers(ask(table, &q), heard == letter ? HRAZVANUT_WRITE : HRAZVANUT_NONE, false));
+        }
+    }
+}
+
+/* The numbers of the proved functions, bit by bit. */
+static void numbers(struct hrazvanut_table table)
+{
+    static const uint8_t ann[] = "ann", pc1[] = "pc1";
+    const uint8_t heard = 2, unknown = 3;
+    const double calm = 0;
+    const uint64_t none = UINT64_C(20) << 48;
+    CHECK(hrazvanut_abi_decide(table.start, table.length, ann, 0, ann, 3, pc1, 3, 1, &heard, 1, &calm, 1) == 6);
+    CHECK(hrazvanut_abi_decide(table.start, table.length, ann, 0, ann, 3, pc1, 3, 1, &heard, 1, &calm, 0) == 1);
+    CHECK(hrazvanut_abi_decide(table.start, table.length, ann, 0, ann, 3, pc1, 3, 1, &heard, 0, &calm, 1) == 1);
+    CHECK(hrazvanut_abi_decide(table.start, table.length, ann, 0, ann, 3, pc1, 3, 1, &unknown, 1, &calm, 1) == 1);
+    CHECK(hrazvanut_abi_decide(table.start, table.length, ann, 0, ann, 3, pc1, 3, 2, &heard, 1, &calm, 1) == UINT64_C(21) << 48);
+    CHECK(hrazvanut_abi_decide(table.start, 0, ann, 0, ann, 3, pc1, 3, 2, &heard, 1, &calm, 1) == none);
+    CHECK(hrazvanut_abi_decide_checked(table.start, table.length, ann, 0, ann, 3, pc1, 3, 1, &heard, 1, &calm, 1) == 6);
+    CHECK(hrazvanut_abi_find_input(table.start, 0, ann, 0, 0) == none);
+    CHECK(hrazvanut_abi_find_input(table.start, table.length, ann, 0, 1) == UINT64_C(22) << 48);
+    CHECK(hrazvanut_abi_find_input(table.start, table.length, ann, 0, 0) >> 32 == 6);
+    CHECK(hrazvanut_abi_allowed(ann, 3) == 0 && hrazvanut_abi_allowed(ann, 1) == 1);
+}
+
+static void questions(void)
+{
+    struct hrazvanut_table table = load(site).table;
+    CHECK(hrazvanut_is_table(table));
+    names_and_levels(table);
+    readings(table);
+    numbers(table);
+    letters();
+}
+
+/* ---- look-ups and calculations */
+
+static void look_ups(void)
+{
+    static const uint32_t letters_without[] = {1, 19, 21, 255, 256, 65536, UINT32_MAX};
+    struct hrazvanut_table none = ZERO, table = load(site).table;
+    struct hrazvanut_text no_group = ZERO;
+    struct hrazvanut_found found = hrazvanut_find_input(table, no_group, 0);
+    size_t i;
+    CHECK(found.refusal == HRAZVANUT_NOT_REFUSED && is_text(found.name, "B1:PGA"));
+    CHECK(found.name.start == (const char *)table.start + found.at);
+    CHECK(is_text(hrazvanut_find_input(table, hrazvanut_string("nowhere"), 20).name, "B1:KEY"));
+    CHECK(hrazvanut_find_input(table, hrazvanut_string("tower"), 0).refusal == HRAZVANUT_REFUSED_NO_INPUT);
+    for (i = 0; i < sizeof letters_without / sizeof *letters_without; i++) {
+        found = hrazvanut_find_input(table, no_group, letters_without[i]);
+        CHECK(found.refusal == HRAZVANUT_REFUSED_NO_INPUT);
+        CHECK(found.name.start == NULL && found.name.length == 0 && found.at == 0);
+        found = hrazvanut_find_input(none, no_group, letters_without[i]);
+        CHECK(found.refusal == HRAZVANUT_REFUSED_NOT_TABLE);
+        CHECK(found.name.start == NULL && found.name.length == 0 && found.at == 0);
+    }
+}
+
+static void calculations(void)
+{
+    struct hrazvanut_text none = ZERO;
+    CHECK(hrazvanut_allowed(hrazvanut_string("A>0.3?0:1")));
+    CHECK(!hrazvanut_allowed(hrazvanut_string("A>0.3?0:")));
+    CHECK(!hrazvanut_allowed(none));
+}
+
+int main(void)
+{
+    words();
+    loads();
+    warnings();
+    tables();
+    questions();
+    look_ups();
+    calculations();
+    printf("%lu checks, %lu wrong\n", checks, wrong);
+    return wrong != 0;
+}
