@@ -1,0 +1,285 @@
+/* EPICS's loads under the proved library. Each way to load comes here: the file is read to its end, the library accepts or refuses
+ * it, and EPICS gets the groups and their inputs alone. Without a rule EPICS works out NONE: every right above it is the library's. */
+#include <errno.h>
+#include <pthread.h>
+#include <stdlib.h>
+#include <string.h>
+
+#include "preload.h"
+
+#include <libComVersion.h>
+
+#define TEXT_(x) #x
+#define TEXT(x) TEXT_(x)
+
+/* The file name of the libCom whose headers this is built with: another one may lay its lists out otherwise. */
+#ifndef HRAZVANUT_LIBCOM
+#define HRAZVANUT_LIBCOM \
+    "libCom.so." TEXT(EPICS_LIBCOM_MAJOR_VERSION) "." TEXT(EPICS_LIBCOM_MINOR_VERSION) "." TEXT(EPICS_LIBCOM_MAINTENANCE_VERSION)
+#endif
+
+/* A load at work. */
+static pthread_mutex_t loading = PTHREAD_MUTEX_INITIALIZER;
+static char text[HRAZVANUT_FILE + 1]; /* one byte more, so that a longer file is seen to be longer */
+static struct rules next;
+static char plan[RULES_PLAN];
+static const char *plan_rest;
+
+/* ---- what is said of a file */
+
+static const char *const refusals[] = {"", "file too long", "bad byte or unclosed quote", "too many open braces", "grammar",
+                                       "string too long", "table limit passed", "name or letter given again",
+                                       "level neither 0 nor 1", "permission or log word unknown", "calculation not allowed",
+                                       "table too short"};
+static const char *const warnings[] = {"", "unknown item, left out", "unknown predicate, its rule never passes",
+                                       "undefined group, it has no members"};
+
+static unsigned line_of(unsigned place)
+{
+    unsigned line = 1;
+    for (unsigned i = 0; i < place && i < sizeof text; i++)
+        line += text[i] == '\n';
+    return line;
+}
+
+static void say_refusal(const char *from, struct remark r)
+{
+    say("%s: refusal %u at %u, line %u: %s. %s\n", from, r.number, r.place, line_of(r.place), refusals[r.number < 12 ? r.number : 0],
+        active() ? "The rules in force stay." : "Nobody has access.");
+}
+
+static void say_warnings(const char *from, size_t length)
+{
+    struct remark first[8];
+    size_t count = rules_warnings(text, length, first, 8);
+    for (size_t i = 0; i < 8 && i < count; i++)
+        say("%s: warning %u at %u, line %u: %s\n", from, first[i].number, first[i].place, line_of(first[i].place),
+            warnings[first[i].number < 4 ? first[i].number : 0]);
+    if (count > 8)
+        say("%s: and %zu more warnings\n", from, count - 8);
+}
+
+/* ---- clients during a load: EPICS moves the members to the new groups; their clients are set aside with their rights */
+
+struct aside {
+    ASGMEMBER *member;
+    ELLLIST clients;
+};
+
+static size_t count_members(void)
+{
+    size_t count = 0;
+    for EACH (ASG, group, groups())
+        count += (size_t)ellCount(&group->memberList);
+    return count;
+}
+
+/* Answers how many members have clients. */
+static size_t set_aside(struct aside *aside)
+{
+    size_t count = 0;
+    for EACH (ASG, group, groups())
+        for EACH (ASGMEMBER, member, &group->memberList)
+            if (ellCount(&member->clientList) > 0) {
+                aside[count].member = member;
+                aside[count++].clients = member->clientList;
+                ellInit(&member->clientList);
+            }
+    return count;
+}
+
+static void put_back(const struct aside *aside, size_t count)
+{
+    for (size_t i = 0; i < count; i++)
+        aside[i].member->clientList = aside[i].clients;
+}
+
+/* A group that went away under its clients. */
+static void say_homeless(const struct aside *aside, size_t count)
+{
+    size_t homeless = 0;
+    const char *name = "";
+    for (size_t i = 0; i < count; i++)
+        if (*aside[i].member->asgName && strcmp(aside[i].member->asgName, aside[i].member->pasg->name) != 0) {
+            name = aside[i].member->asgName;
+            homeless++;
+        }
+    if (homeless)
+        say("group %s, of %zu records in use, is not in the file: they go to DEFAULT, and have no access if there is none\n", name,
+            homeless);
+}
+
+/* ---- the rules change */
+
+/* Hands the plan to EPICS's parser, as far as there is room. */
+static int feed(char *buffer, int room)
+{
+    int n = 0;
+    while (n < room && *plan_rest)
+        buffer[n++] = *plan_rest++;
+    return n;
+}
+
+static long give_plan(void)
+{
+    plan_rest = plan;
+    return REAL(asInitialize)(feed);
+}
+
+static void put_in_force(void)
+{
+    in_force = next;
+    by_address = &asCheckClientIP && asCheckClientIP;
+}
+
+/* There are no clients yet, and no lock. The rules stand before EPICS lets a client in. */
+static long first_time(void)
+{
+    put_in_force();
+    long status = give_plan();
+    if (status)
+        memset(&in_force, 0, sizeof in_force);
+    else
+        unhear();
+    return status;
+}
+
+static long again(struct job *job)
+{
+    (void)job;
+    struct aside *aside = calloc(count_members() + 1, sizeof *aside);
+    if (!aside)
+        return S_asLib_noMemory;
+    size_t count = set_aside(aside);
+    long status = give_plan();
+    put_back(aside, count);
+    if (!status) {
+        put_in_force();
+        unhear();
+        judge_all();
+        say_homeless(aside, count);
+    }
+    free(aside);
+    return status;
+}
+
+/* ---- a load */
+
+static int right_libcom(void)
+{
+    Dl_info where = {0};
+    void *real = dlsym(RTLD_NEXT, "asInitialize");
+    if (!real || !dladdr(real, &where) || !where.dli_fname || !&asActive || !&pasbase || !asRegisterClientCallback) {
+        say("no libCom in reach. Nobody has access.\n");
+        return 0;
+    }
+    const char *slash = strrchr(where.dli_fname, '/'), *name = slash ? slash + 1 : where.dli_fname;
+    if (strcmp(name, HRAZVANUT_LIBCOM) != 0)
+        say("built for %s, and this is %s. Nobody has access.\n", HRAZVANUT_LIBCOM, name);
+    return strcmp(name, HRAZVANUT_LIBCOM) == 0;
+}
+
+/* Makes the rules and the plan of the text. 0 if they can be put in force. */
+static long prepare(const char *from, size_t length, const char *substitutions)
+{
+    if (substitutions && memchr(text, '$', length)) {
+        say("%s: refused: macros are not replaced here; replace them before (msi). %s\n", from,
+            active() ? "The rules in force stay." : "Nobody has access.");
+        return S_asLib_badConfig;
+    }
+    struct remark refusal = rules_load(&next, text, length);
+    if (refusal.number) {
+        say_refusal(from, refusal);
+        return S_asLib_badConfig;
+    }
+    int left_out = rules_plan(&next, LETTERS, plan);
+    if (left_out < 0)
+        say("%s: refused: the name of a group has a byte that EPICS cannot hold\n", from);
+    if (left_out > 0)
+        say("%s: %d inputs that this EPICS cannot hear (letters past %c, or no name): their rules never pass\n", from, left_out,
+            'A' + LETTERS - 1);
+    return left_out < 0 ? S_asLib_badConfig : 0;
+}
+
+static long load(const char *from, size_t length, const char *substitutions)
+{
+    struct job job = {.run = again};
+    long status = right_libcom() ? prepare(from, length, substitutions) : S_asLib_badConfig;
+    if (status)
+        return status;
+    status = active() ? locked(&job) : first_time();
+    if (status) {
+        say("%s: refused: EPICS does not take its groups and inputs\n", from);
+        return status;
+    }
+    say_warnings(from, length);
+    if (by_address)
+        say("%s: asCheckClientIP is set: a HAG must list addresses, a name in it matches nobody\n", from);
+    say("%s: in force\n", from);
+    return 0;
+}
+
+/* Reads to the end, or to one byte past what a file may have. */
+static long load_stream(const char *from, FILE *stream, const char *substitutions)
+{
+    if (pthread_mutex_trylock(&loading) != 0) {
+        say("%s: refused: another load is at work\n", from);
+        return S_asLib_InitFailed;
+    }
+    size_t length = fread(text, 1, sizeof text, stream);
+    long status = S_asLib_badConfig;
+    if (ferror(stream))
+        say("%s: cannot be read: %s. %s\n", from, strerror(errno), active() ? "The rules in force stay." : "Nobody has access.");
+    else
+        status = load(from, length, substitutions);
+    pthread_mutex_unlock(&loading);
+    return status;
+}
+
+EXPORT long asInitFP(FILE *stream, const char *substitutions)
+{
+    return stream ? load_stream("asInitFP", stream, substitutions) : S_asLib_badConfig;
+}
+
+EXPORT long asInitFile(const char *name, const char *substitutions)
+{
+    FILE *stream = name ? fopen(name, "r") : NULL;
+    if (!stream) {
+        say("%s: cannot be opened: %s. %s\n", name ? name : "no file name", strerror(errno),
+            active() ? "The rules in force stay." : "Nobody has access.");
+        return S_asLib_badConfig;
+    }
+    long status = load_stream(name, stream, substitutions);
+    fclose(stream);
+    return status;
+}
+
+EXPORT long asInitMem(const char *acf, const char *substitutions)
+{
+    long status = S_asLib_InitFailed;
+    if (!acf || pthread_mutex_trylock(&loading) != 0)
+        return status;
+    size_t length = strnlen(acf, sizeof text);
+    memcpy(text, acf, length);
+    status = load("asInitMem", length, substitutions);
+    pthread_mutex_unlock(&loading);
+    return status;
+}
+
+EXPORT long asInitialize(ASINPUTFUNCPTR input)
+{
+    if (!input || pthread_mutex_trylock(&loading) != 0)
+        return S_asLib_InitFailed;
+    size_t length = 0;
+    int more = 1;
+    while (more > 0 && length < sizeof text) {
+        int room = (int)(sizeof text - length);
+        more = input(text + length, room);
+        if (more > room)
+            abort(); /* it wrote past what it was given */
+        length += more > 0 ? (size_t)more : 0;
+    }
+    long status = load("asInitialize", length, NULL);
+    pthread_mutex_unlock(&loading);
+    return status;
+}

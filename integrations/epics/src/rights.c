@@ -1,0 +1,247 @@
+/* EPICS's clients under the proved library: who may do what, and when it changes. These functions stand before those of the same
+ * name in libCom. */
+#include <arpa/inet.h>
+#include <math.h>
+#include <string.h>
+
+#include "preload.h"
+
+#include <asCa.h>
+
+struct rules in_force;
+int by_address;
+
+/* Set while EPICS has its links to the sensors down. */
+static int deaf;
+
+/* ---- EPICS's lock */
+
+int active(void) { return &asActive && asActive && &pasbase && pasbase && asRegisterClientCallback; }
+
+static void run_job(ASCLIENTPVT posing, asClientStatus status)
+{
+    struct job *job = (struct job *)posing;
+    (void)status;
+    job->status = job->run(job);
+}
+
+long locked(struct job *job)
+{
+    long status = active() ? asRegisterClientCallback(&job->posing, run_job) : S_asLib_asNotActive;
+    return status ? status : job->status;
+}
+
+/* ---- a question */
+
+static int is_bad(const ASG *group, int letter) { return (group->inpBad >> letter & 1) != 0; }
+
+static struct readings heard_by(const ASG *group)
+{
+    struct readings heard;
+    memset(&heard, 0, sizeof heard);
+    for EACH (ASGINP, input, &group->inpList)
+        if (!deaf && input->inpIndex < LETTERS) {
+            heard.states[input->inpIndex] = is_bad(group, input->inpIndex) ? HRAZVANUT_INVALID : HRAZVANUT_VALUE;
+            heard.values[input->inpIndex] = group->pavalue[input->inpIndex];
+        }
+    return heard;
+}
+
+/* With asCheckClientIP a host is an address; a name is only what a client says of itself, and finds no HAG. */
+static const char *believed(const char *host)
+{
+    struct in_addr address;
+    return by_address && inet_pton(AF_INET, host, &address) != 1
+               ? "more than the sixty bytes that a host in a HAG can have, so in none"
+               : host;
+}
+
+/* Works out a client's right, and tells its callback if the access is another than before. Asked for the group that EPICS has
+ * put the record into, not by the record's ASG field: the readings are that group's, whatever is being written to the field. */
+static void judge(ASGCLIENT *client, asAccessRights before)
+{
+    const ASG *group = client->pasgMember->pasg;
+    struct readings heard = heard_by(group);
+    struct right right = rules_ask(&in_force, group->name, client->user, believed(client->host), client->level, &heard);
+    client->access = right.access == 2 ? asWRITE : right.access == 1 ? asREAD : asNOACCESS;
+    client->trapMask = right.trap ? AS_TRAP_WRITE : 0;
+    if (client->pcallback && client->access != before)
+        client->pcallback(client, asClientCOAR);
+}
+
+static void judge_member(const ASGMEMBER *member)
+{
+    for EACH (ASGCLIENT, client, &member->clientList)
+        judge(client, client->access);
+}
+
+static void judge_group(const ASG *group)
+{
+    for EACH (ASGMEMBER, member, &group->memberList)
+        judge_member(member);
+}
+
+void judge_all(void)
+{
+    for EACH (ASG, group, groups())
+        judge_group(group);
+}
+
+/* ---- sensors */
+
+/* EPICS calls an input good before it stores the value; so what is stored for a bad one is made no number. One that is none
+ * already is left alone: EPICS may be about to store the good one. */
+static void spoil_bad(ASG *group)
+{
+    for EACH (ASGINP, input, &group->inpList)
+        if (input->inpIndex < LETTERS && is_bad(group, input->inpIndex) && !isnan(group->pavalue[input->inpIndex]))
+            group->pavalue[input->inpIndex] = NAN;
+}
+
+void unhear(void)
+{
+    for EACH (ASG, group, groups()) {
+        for EACH (ASGINP, input, &group->inpList)
+            group->inpBad |= 1ul << input->inpIndex;
+        spoil_bad(group);
+    }
+}
+
+static long compute_group(struct job *job)
+{
+    spoil_bad(job->group);
+    judge_group(job->group);
+    return 0;
+}
+
+static long compute_all(struct job *job)
+{
+    (void)job;
+    judge_all();
+    return 0;
+}
+
+static long go_deaf(struct job *job)
+{
+    deaf = 1;
+    return compute_all(job);
+}
+
+static long hear_again(struct job *job)
+{
+    (void)job;
+    unhear();
+    deaf = 0;
+    return 0;
+}
+
+EXPORT long asComputeAsg(ASG *group)
+{
+    struct job job = {.run = compute_group, .group = group};
+    return group ? locked(&job) : S_asLib_badAsg;
+}
+
+EXPORT long asComputeAllAsg(void)
+{
+    struct job job = {.run = compute_all};
+    return locked(&job);
+}
+
+/* An asInit first takes the links to the sensors down. Base 7.0.3.1 never comes back from there: without this, the last
+ * readings would hold for ever. */
+EXPORT void asCaStop(void)
+{
+    struct job job = {.run = go_deaf};
+    void (*stop)(void) = REAL(asCaStop);
+    locked(&job);
+    if (stop)
+        stop();
+}
+
+EXPORT void asCaStart(void)
+{
+    struct job job = {.run = hear_again};
+    void (*start)(void) = REAL(asCaStart);
+    locked(&job);
+    if (start)
+        start();
+}
+
+/* ---- clients: EPICS makes them, and gives them NONE */
+
+static long compute_client(struct job *job)
+{
+    judge(*job->client, (*job->client)->access);
+    return 0;
+}
+
+static long add_client(struct job *job)
+{
+    long status = REAL(asAddClient)(job->client, *job->member, job->level, job->name, job->host);
+    if (!status)
+        judge(*job->client, asNOACCESS);
+    return status;
+}
+
+/* EPICS's NONE is not told to the callback. */
+static long change_client(struct job *job)
+{
+    ASGCLIENT *client = *job->client;
+    ASCLIENTCALLBACK callback = client->pcallback;
+    asAccessRights before = client->access;
+    client->pcallback = NULL;
+    long status = REAL(asChangeClient)(client, job->level, job->name, job->host);
+    client->pcallback = callback;
+    judge(client, before);
+    return status;
+}
+
+EXPORT long asCompute(ASCLIENTPVT client)
+{
+    struct job job = {.run = compute_client, .client = &client};
+    return active() && !client ? S_asLib_badClient : locked(&job);
+}
+
+EXPORT long asAddClient(ASCLIENTPVT *client, ASMEMBERPVT member, int level, const char *user, char *host)
+{
+    struct job job = {.run = add_client, .client = client, .member = &member, .level = level, .name = user, .host = host};
+    return active() && !(member && user && host) ? S_asLib_badMember : locked(&job);
+}
+
+EXPORT long asChangeClient(ASCLIENTPVT client, int level, const char *user, char *host)
+{
+    struct job job = {.run = change_client, .client = &client, .level = level, .name = user, .host = host};
+    return active() && !(client && user && host) ? S_asLib_badClient : locked(&job);
+}
+
+/* ---- members: while EPICS moves one, its clients are set aside with their rights */
+
+static long move_member(struct job *job, long (*move)(ASMEMBERPVT *, const char *))
+{
+    ASGMEMBER *member = *job->member;
+    ELLLIST clients;
+    if (!member)
+        return move(job->member, job->name);
+    clients = member->clientList;
+    ellInit(&member->clientList);
+    long status = move(job->member, job->name);
+    member->clientList = clients;
+    judge_member(member);
+    return status;
+}
+
+static long add_member(struct job *job) { return move_member(job, REAL(asAddMember)); }
+
+static long change_group(struct job *job) { return move_member(job, REAL(asChangeGroup)); }
+
+EXPORT long asAddMember(ASMEMBERPVT *member, const char *name)
+{
+    struct job job = {.run = add_member, .member = member, .name = name};
+    return locked(&job);
+}
+
+EXPORT long asChangeGroup(ASMEMBERPVT *member, const char *name)
+{
+    struct job job = {.run = change_group, .member = member, .name = name};
+    return locked(&job);
+}

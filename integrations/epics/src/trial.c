@@ -1,0 +1,219 @@
+/* What no IOC can be made to do from outside: odd levels, half-done events, callbacks counted, faults of a stream. Preloaded with the
+ * library, it stands in for EPICS's links to the sensors. Prints a line for each check; ends with the number that failed. */
+#include <math.h>
+#include <pthread.h>
+#include <stdio.h>
+#include <stdlib.h>
+#include <string.h>
+
+#include <asLib.h>
+#include <errlog.h>
+
+static int checks, failed, told;
+
+static void check(int right, const char *what)
+{
+    checks++;
+    failed += !right;
+    printf("%s %d - %s\n", right ? "ok" : "not ok", checks, what);
+}
+
+static void count(ASCLIENTPVT client, asClientStatus status)
+{
+    (void)client;
+    (void)status;
+    told++;
+}
+
+static ASMEMBERPVT member;
+static ASCLIENTPVT client;
+static char host[] = "PC1", address[] = "10.0.0.7", name[] = "pc1";
+
+/* Whether the access is this, and the callback was told so often since. */
+static int is(asAccessRights access, int times)
+{
+    int right = client->access == access && told == times;
+    told = 0;
+    return right;
+}
+
+/* The access of a client that comes and goes. */
+static asAccessRights visitor(const char *group, int level, const char *user, char *from)
+{
+    ASMEMBERPVT m = NULL;
+    ASCLIENTPVT c = NULL;
+    asAccessRights access = asNOACCESS;
+    asAddMember(&m, group);
+    if (!asAddClient(&c, m, level, user, from)) {
+        access = c->access;
+        asRemoveClient(&c);
+    }
+    asRemoveMember(&m);
+    return access;
+}
+
+/* An event of the group's sensor A, as EPICS's link has it: good or bad first, then the value, then the rights. */
+static void half_an_event(int good)
+{
+    ASG *group = member->pasg;
+    group->inpBad = good ? group->inpBad & ~1ul : group->inpBad | 1ul;
+}
+
+static void event(int good, double value)
+{
+    half_an_event(good);
+    if (good)
+        member->pasg->pavalue[0] = value;
+    asComputeAsg(member->pasg);
+}
+
+static const char rules[] = "UAG(ops) {ann} HAG(desk) {PC1}\n"
+                            "ASG(DEFAULT) {INPA(s) RULE(1,READ) RULE(1,WRITE,TRAPWRITE) {UAG(ops) CALC(\"A>0.3?0:1\")}}\n"
+                            "ASG(low) {RULE(0,WRITE)} ASG(\"\") {RULE(1,WRITE)} ASG(desk) {RULE(1,WRITE) {HAG(desk)}}\n";
+
+static void start(void)
+{
+    check(asAddClient(&client, NULL, 0, "ann", host) == S_asLib_asNotActive, "no access security before a load");
+    check(asInitMem("ASG(", NULL) != 0 && !asActive, "a first load that is refused does not start it");
+    check(asInitMem(rules, NULL) == 0 && asActive, "a load");
+    asAddMember(&member, "");
+    asAddClient(&client, member, 1, "ann", host);
+    asRegisterClientCallback(client, count);
+    check(is(asREAD, 1), "the sensor was never heard");
+    half_an_event(1);
+    asCompute(client);
+    check(is(asREAD, 0), "its first event is half done: still unheard");
+}
+
+static void sensors(void)
+{
+    event(1, 0.02);
+    check(is(asWRITE, 1) && client->trapMask, "0.02 is write with trap, told once");
+    event(1, 0.03);
+    check(is(asWRITE, 0), "0.03 is no change, not told");
+    event(1, 0.45);
+    check(is(asREAD, 1) && !client->trapMask, "0.45 is read, told once");
+    event(1, 0.02);
+    event(1, NAN);
+    check(is(asREAD, 2), "not a number is read");
+    event(1, -INFINITY);
+    check(is(asREAD, 0), "an infinity is read");
+    event(1, 0.02);
+    event(0, 0);
+    check(is(asREAD, 2), "INVALID is read");
+    half_an_event(1);
+    asComputeAllAsg();
+    check(is(asREAD, 0), "good again, but half done: the value before INVALID does not count");
+    event(1, 0.02);
+    check(is(asWRITE, 1), "0.02 is write again");
+}
+
+static void clients(void)
+{
+    check(visitor("low", 0, "ann", host) == asWRITE && visitor("low", 1, "ann", host) == asNOACCESS, "levels 0 and 1");
+    check(visitor("low", 256, "ann", host) == asNOACCESS && visitor("low", 65536, "ann", host) == asNOACCESS, "levels 256 and 65,536");
+    check(visitor("low", -1, "ann", host) == asNOACCESS && visitor("low", -256, "ann", host) == asNOACCESS, "levels -1 and -256");
+    check(visitor("", 1, "bob", host) == asREAD, "an empty group is DEFAULT, even beside ASG(\"\")");
+    check(visitor("desk", 1, "ann", host) == asWRITE && visitor("desk", 1, "ann", address) == asNOACCESS, "hosts by name");
+    asChangeClient(client, 1, "bob", host);
+    check(is(asREAD, 1), "another user, told once");
+    asChangeClient(client, 1, "eve", host);
+    check(is(asREAD, 0), "another user with the same right, not told");
+    asChangeClient(client, 1, "ann", host);
+    check(is(asWRITE, 1), "the first user again");
+    asChangeGroup(&member, "desk");
+    check(is(asWRITE, 0), "another group with the same right, not told");
+    asChangeGroup(&member, "low");
+    check(is(asNOACCESS, 1), "another group, told once");
+    asChangeGroup(&member, "no such");
+    event(1, 0.02);
+    check(is(asWRITE, 1), "an undefined group is DEFAULT");
+}
+
+static const char *slow_rest;
+
+static int slow_input(char *buffer, int room)
+{
+    (void)room;
+    *buffer = *slow_rest;
+    return *slow_rest ? (slow_rest++, 1) : 0;
+}
+
+static void loads(void)
+{
+    static char big[16386];
+    FILE *folder = fopen(".", "r");
+    check(asInitMem("ASG(DEFAULT) {RULE(1,WRITE)", NULL) != 0 && is(asWRITE, 0), "a refused load changes nothing");
+    check(folder && asInitFP(folder, NULL) != 0 && is(asWRITE, 0), "a stream that cannot be read is refused");
+    check(asInitFile("no such file", NULL) != 0 && asInitFP(NULL, NULL) != 0 && is(asWRITE, 0), "no file is refused");
+    check(asInitMem("ASG(DEFAULT) {RULE(1,$(R))}", "R=WRITE") != 0 && is(asWRITE, 0), "macros are refused");
+    check(asInitMem("ASG(\"a\\\nb\")", NULL) != 0 && is(asWRITE, 0), "a name that EPICS cannot hold is refused");
+    memset(big, ' ', 16385);
+    memcpy(big, "ASG(DEFAULT) {RULE(1,READ)}", 27);
+    check(asInitMem(big, NULL) != 0 && is(asWRITE, 0), "16,385 bytes are refused");
+    check(asInitMem(rules, "R=WRITE") == 0 && is(asREAD, 1), "a load unhears the sensors, told once");
+    event(1, 0.02);
+    slow_rest = rules;
+    check(asInitialize(slow_input) == 0 && is(asREAD, 2), "a load byte by byte");
+    big[16384] = 0;
+    check(asInitMem(big, NULL) == 0 && is(asREAD, 0), "16,384 bytes are taken");
+    check(asInitMem("UAG(ops) {ann}", NULL) == 0 && is(asNOACCESS, 1), "no group at all: NONE");
+    check(asInitMem("ASG(DEFAULT) {INPA(\"\") INPU(x) RULE(1,WRITE) {CALC(\"A<1&&U<1\")}}", NULL) == 0 && is(asNOACCESS, 0),
+          "inputs that EPICS cannot hear");
+    asComputeAllAsg();
+    check(is(asNOACCESS, 0), "and they stay unheard");
+    if (folder)
+        fclose(folder);
+}
+
+static void addresses(void)
+{
+    static const char by_address[] = "HAG(h) {pc1, 10.0.0.7} ASG(DEFAULT) {RULE(1,WRITE) {HAG(h)}}";
+    asCheckClientIP = 1;
+    check(asInitMem(by_address, NULL) == 0 && visitor("", 1, "ann", address) == asWRITE, "asCheckClientIP: an address matches");
+    check(visitor("", 1, "ann", name) == asNOACCESS, "asCheckClientIP: what a client calls itself does not");
+    asCheckClientIP = 0;
+    check(asInitMem(by_address, NULL) == 0 && visitor("", 1, "ann", name) == asWRITE, "without it, a name matches");
+}
+
+static volatile int over;
+static int wrong[2];
+
+/* A client that may never write comes and goes. */
+static void *crowd(void *mine)
+{
+    char from[] = "pc2";
+    while (!over)
+        *(int *)mine += visitor("", 1, "eve", from) == asWRITE || visitor("low", 1, "eve", from) != asNOACCESS;
+    return NULL;
+}
+
+static void threads(void)
+{
+    pthread_t other[2];
+    asChangeGroup(&member, "");
+    for (int i = 0; i < 2; i++)
+        pthread_create(&other[i], NULL, crowd, &wrong[i]);
+    for (int i = 0; i < 300; i++) {
+        asInitMem(i % 3 == 2 ? "ASG(" : rules, NULL);
+        event(1, i % 2 ? 0.02 : NAN);
+        wrong[0] += (client->access == asWRITE) != (i % 2);
+    }
+    over = 1;
+    for (int i = 0; i < 2; i++)
+        pthread_join(other[i], NULL);
+    check(wrong[0] == 0 && wrong[1] == 0, "loads, events and clients from three threads");
+}
+
+int main(void)
+{
+    eltc(0);
+    start();
+    sensors();
+    clients();
+    loads();
+    addresses();
+    threads();
+    printf("%d checks, %d failed\n", checks, failed);
+    return failed;
+}
