@@ -5,6 +5,5 @@ pub mod Later
 pub mod Loaded
 pub mod Cited
 pub mod Privilege
-pub mod Places
 pub mod Refusals
 pub mod Answered

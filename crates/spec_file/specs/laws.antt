@@ -7,3 +7,4 @@ pub mod Theorem
 pub mod Either
 pub mod Places
 pub mod Warnings
+pub mod Numbered

@@ -1,5 +1,5 @@
 -- What a refused load or listing answers: a number of 01's and a place.
-use mathlib.Core.Path.{_≡_, refl, sym, ap, subst}
+use mathlib.Core.Path.{_≡_, refl, sym, ap, _∙_}
 use mathlib.Core.Bool.{Bool, true, false, cond}
 use mathlib.Core.List.{List}
 use mathlib.Core.Logic.{_⊎_, inl, inr}
@@ -22,14 +22,15 @@ use Rattle.spec_load.specs.declared.Loaded.the-variants as loaded
 use Rattle.spec_load.specs.declared.Listed.the-variants as listed
 use Rattle.spec_load.specs.Load.{written, without-room, by-verdict, load}
 use Rattle.spec_load.specs.Listing.{listed-by, listing}
-use Rattle.spec_demand.specs.laws.Places.{Refused-within, verdict-within}
+use Rattle.spec_file.specs.laws.Theorem.{refused-is}
+use Rattle.spec_file.specs.laws.Numbered.{refusal-numbered}
 
 -- the text is at fault, or the bytes needed are more than those lent
 pub refused-load-numbered :
     (lent s : List ℕ) (r : Refusal) (p : ℕ) → load lent s .answer ≡ loaded.Refused r p
     → ((1 ≤ number r) × (number r ≤ 10) × (p ≤ length s)) ⊎ ((number r ≡ 11) × (length lent < p) × (p ≤ greatest-table))
 unfolding load
-refused-load-numbered lent s r p e = by (verdict s) refl (verdict-within s) e
+refused-load-numbered lent s r p e = by (verdict s) refl e
   where
     Numbered : Type 0
     Numbered = ((1 ≤ number r) × (number r ≤ 10) × (p ≤ length s)) ⊎ ((number r ≡ 11) × (length lent < p) × (p ≤ greatest-table))
@@ -46,18 +47,18 @@ refused-load-numbered lent s r p e = by (verdict s) refl (verdict-within s) e
         let most = table-length (file-of xs) (fits s xs v) in
         inr (ap number (sym which), omega arith, omega arith)
 
-    by : (v : Verdict) → verdict s ≡ v → Refused-within (length s) v → by-verdict lent v .answer ≡ loaded.Refused r p → Numbered
-    by (refuse q z) v w h = let same : refuse q z ≡ refuse r p = cc in inl (subst (Refused-within (length s)) same w)
-    by (accept xs) v w h = room xs (leb (length (table-of (file-of xs))) (length lent)) v refl h
+    by : (v : Verdict) → verdict s ≡ v → by-verdict lent v .answer ≡ loaded.Refused r p → Numbered
+    by (refuse q z) v h = let same : refuse q z ≡ refuse r p = cc in inl (refusal-numbered (refused-is s r p (v ∙ same)))
+    by (accept xs) v h = room xs (leb (length (table-of (file-of xs))) (length lent)) v refl h
 
 pub refused-listing-numbered :
     (skip : ℕ) (numbers places s : List ℕ) (r : Refusal) (p : ℕ) → listing skip numbers places s .answer ≡ listed.Refused r p
     → (1 ≤ number r) × (number r ≤ 10) × (p ≤ length s)
 unfolding listing
-refused-listing-numbered skip numbers places s r p e = by (verdict s) (verdict-within s) e
+refused-listing-numbered skip numbers places s r p e = by (verdict s) refl e
   where
     by :
-        (v : Verdict) → Refused-within (length s) v → listed-by skip numbers places v .answer ≡ listed.Refused r p
+        (v : Verdict) → verdict s ≡ v → listed-by skip numbers places v .answer ≡ listed.Refused r p
         → (1 ≤ number r) × (number r ≤ 10) × (p ≤ length s)
-    by (refuse q z) w h = let same : refuse q z ≡ refuse r p = cc in subst (Refused-within (length s)) same w
-    by (accept xs) w h = let z : _≡_ {A = ℕ} 0 1 = cc in absurd (omega arith)
+    by (refuse q z) v h = let same : refuse q z ≡ refuse r p = cc in refusal-numbered (refused-is s r p (v ∙ same))
+    by (accept xs) v h = let z : _≡_ {A = ℕ} 0 1 = cc in absurd (omega arith)

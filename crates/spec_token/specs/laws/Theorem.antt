@@ -34,11 +34,11 @@ never-both d e = let h = one-spelling d e in let z : _≡_ {A = ℕ} 0 1 = cc in
 -- the tokens of a text s from the place p on
 data Placed (s : List ℕ) (p : ℕ) : Tokens → Type 0 where
   placed : {ts : List Token} → Every (Stands-in s) ts → Every (λ t. p ≤ t .place) ts → Ascending (map (λ t. t .place) ts) → Placed s p (tokens ts)
-  no-tokens : {q : ℕ} → Placed s p (bad q)
+  no-tokens : {q : ℕ} → q < length s → Placed s p (bad q)
 
 placed-less : {s : List ℕ} {p q : ℕ} {o : Tokens} → p ≤ q → Placed s q o → Placed s p o
 placed-less l (placed a b c) = placed a (every-implies (λ t k. omega arith) b) c
-placed-less l no-tokens = no-tokens
+placed-less l (no-tokens {q = r} k) = no-tokens {q = r} k
 
 placed-then : {s : List ℕ} {p q : ℕ} (t : Token) {o : Tokens} → t .place ≡ p → p < q → Stands-in s t → Placed s q o → Placed s p (then t o)
 placed-then {p = p} t e l i (placed {ts = ts} a b c) =
@@ -46,7 +46,7 @@ placed-then {p = p} t e l i (placed {ts = ts} a b c) =
     let later : Every (λ u. p ≤ u .place) ts = every-implies (λ u k. omega arith) b in
     let behind : Every (λ u. t .place < u .place) ts = every-implies (λ u k. omega arith) b in
     placed (cons i a) (cons here later) (less (every-map (λ u. u .place) behind) c)
-placed-then t e l i no-tokens = no-tokens
+placed-then t e l i (no-tokens {q = r} k) = no-tokens {q = r} k
 
 -- where the text s stands in a whole one, behind p bytes
 record Behind (whole : List ℕ) (p : ℕ) (s : List ℕ) : Type 0 where
@@ -61,6 +61,9 @@ further x r b e l =
       parts = b .parts ∙ rw (e, append-assoc (b .before) x r);
       count = length-append (b .before) x ∙ rw (b .count, l);
     }
+
+reaches : {whole s : List ℕ} {p : ℕ} → Behind whole p s → length whole ≡ p + length s
+reaches {s = s} b = ap length (b .parts) ∙ (length-append (b .before) s ∙ ap (λ n. n + length s) (b .count))
 
 places : {whole : List ℕ} {p : ℕ} {s : List ℕ} {o : Tokens} → Spells p s o → Behind whole p s → Placed whole p o
 places end b = placed nil nil no-more
@@ -86,9 +89,12 @@ places {p = p} (spelled.alone {b = c} {s = s} {k = k} h d) b =
     (record { kind = k; place = p; text = c ∷ [] }) refl (omega arith)
     (bare (b .before) s (b .parts) (b .count))
     (places d (further (c ∷ []) s b refl refl))
-places (bare-newline r e t) b = no-tokens
-places (spelled.unclosed u) b = no-tokens
-places (spelled.other h) b = no-tokens
+places {p = p} (bare-newline {s = s} {w = w} r e t) b =
+    let m = length-append w (code "\n" ∷ r) in
+    let l = ap length e in
+    no-tokens {q = p + 1 + length w} (omega (arith, reaches b))
+places {p = p} (spelled.unclosed u) b = no-tokens {q = p} (omega (arith, reaches b))
+places {p = p} (spelled.other h) b = no-tokens {q = p} (omega (arith, reaches b))
 
 at-start : (s : List ℕ) → Behind s 0 s
 at-start s = record { before = []; parts = refl; count = refl }
@@ -98,6 +104,12 @@ stand (placed a b c) = a
 
 ascend : {s : List ℕ} {ts : List Token} → Placed s 0 (tokens ts) → Ascending (map (λ t. t .place) ts)
 ascend (placed a b c) = c
+
+bad-placed : {s : List ℕ} {p : ℕ} → Placed s 0 (bad p) → p < length s
+bad-placed (no-tokens h) = h
+
+pub bad-within : {s : List ℕ} {p : ℕ} → Bad-at s p → p < length s
+bad-within {s} d = bad-placed (places d (at-start s))
 
 pub tokens-stand : {s : List ℕ} {ts : List Token} → Spelled s ts → Every (Stands-in s) ts
 tokens-stand {s} d = stand (places d (at-start s))
