@@ -3,4 +3,5 @@ pub mod Exact
 pub mod Inputs
 pub mod Later
 pub mod Loaded
+pub mod Memory
 pub mod Cited
