@@ -4,4 +4,5 @@ pub mod Inputs
 pub mod Later
 pub mod Loaded
 pub mod Memory
+pub mod Instance
 pub mod Cited

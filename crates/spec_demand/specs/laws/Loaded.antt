@@ -69,7 +69,7 @@ refused-leaves lent s e = by (verdict s) e
     by (accept xs) h = room xs (leb (length (table-of (file-of xs))) (length lent)) h
 
 -- no call but an accepted load changes a byte
-load-leaves : (b : List ℕ) (o : Option (List ℕ)) → no-new-table b o → after-load b o ≡ b
+pub load-leaves : (b : List ℕ) (o : Option (List ℕ)) → no-new-table b o → after-load b o ≡ b
 load-leaves b none h = refl
 load-leaves b (some s) h = refused-leaves b s h
 
