@@ -12,21 +12,22 @@ use Rattle.spec_file.specs.Acceptance.{Text-reads}
 use Rattle.spec_load.specs.Load.{load}
 use Rattle.spec_decision.specs.Decision.{access-in, decide}
 use Rattle.spec_edition.specs.Edition.{Edition, access-later, Says-no}
-use Rattle.spec_demand.specs.Calls.{Call, after-calls, is-accepted, No-accepted-load}
+use Rattle.spec_demand.specs.Calls.{Call, load-text, is-accepted, No-accepted-load}
 use Rattle.api_script.specs.declared.Asked.{Asked}
+use Rattle.api_script.specs.Replies.{Lent, left-by, left-by-calls}
 
--- Of the lent bytes, a text, the calls between, a question, the lent bytes afterwards and what was answered.
-pub record Never-more (lent s : List ℕ) (between : List Call) (q : Question) (after : List ℕ) (r : Asked) : Type 0 where
+-- Of what is lent for writing, a text, the calls between, a question, what was lent afterwards and what was answered.
+pub record Never-more (lent : Lent) (s : List ℕ) (between : List Call) (q : Question) (after : Lent) (r : Asked) : Type 0 where
   -- each call is the one that the definitions say
-  pub loaded : r .loaded ≡ load lent s .answer
-  pub bytes : after ≡ after-calls (load lent s .bytes) between
-  pub answer : r .answer ≡ decide (after-calls (load lent s .bytes) between) q
+  pub loaded : r .loaded ≡ load (lent .table) s .answer
+  pub left : after ≡ left-by-calls (left-by lent (load-text s)) between
+  pub answer : r .answer ≡ decide (after .table) q
   -- what we don't know never gives more access: whichever readings went bad before the question was asked, the access is at most that of the
   -- readings as they were, in every edition; and it is exactly that of an edition that says no to every unknown predicate, with the same readings
   pub never-more :
       is-accepted (r .loaded) ≡ true
       → (xs : List Tagged) → Text-reads s xs
-      → No-accepted-load (load lent s .bytes) between
+      → No-accepted-load (load (lent .table) s .bytes) between
       → (e : Edition)
       → ((were : List Reading) → Gone-bad were (q .readings) → rank (access-in (r .answer)) ≤ rank (access-later e xs (reading-instead q were)))
       × (Says-no e q xs → access-in (r .answer) ≡ access-later e xs q)

@@ -1,28 +1,71 @@
--- What each call answers, as the definitions say.
+-- What each call answers and leaves, as the definitions say.
 use mathlib.Core.Path.{_≡_}
-use mathlib.Core.List.{List, []}
+use mathlib.Core.Bool.{not}
+use mathlib.Core.List.{List, [], _∷_}
 use Prim.Native.Nat.{ℕ}
+use lib.ListN.{length}
+use Rattle.spec_lists.specs.Select.{missing}
 use Rattle.spec_calc.specs.Value.{worth}
 use Rattle.spec_calc.specs.Reader.{tree-of}
+use Rattle.spec_rule.specs.Rule.{true-tree}
 use Rattle.spec_table.specs.Check.{is-table}
 use Rattle.spec_load.specs.Load.{load}
-use Rattle.spec_load.specs.Listing.{listing}
+use Rattle.spec_load.specs.Listing.{Listing, listing}
 use Rattle.spec_decision.specs.Decision.{decide}
-use Rattle.spec_decision.specs.LookUp.{look-up}
-use Rattle.spec_demand.specs.Calls.{Call, load-text, list-warnings, calculate, check-table, ask, look-up-input, after-call}
+use Rattle.spec_decision.specs.LookUp.{look-up, part-in}
+use Rattle.spec_demand.specs.Calls.{Call, load-text, list-warnings, check-table, ask, ask-checked, find-input, find-input-checked, look-up-name}
+use Rattle.spec_demand.specs.Calls.{allow, calculate, hold}
 use Rattle.api_script.specs.declared.Reply.{Reply}
 use Rattle.api_script.specs.declared.Reply.the-variants as reply
 
--- of the lent bytes and a call; how many warnings there are does not depend on the room for their list
+-- Of the table's bytes and a call. How many warnings there are does not depend on the room for their list. A `_checked` call is made where
+-- is_table has said yes, else answered as not a table; so it answers what the other does.
 abbrev pub answer-to : List ℕ → Call → Reply
 answer-to b (load-text s) = reply.Loaded (load b s .answer)
-answer-to b (list-warnings s) = reply.Listed (listing 0 [] [] s .answer)
-answer-to b (calculate s rs) = reply.Valued (worth rs (tree-of s))
+answer-to b (list-warnings s skip) = reply.Listed (listing skip [] [] s .answer)
 answer-to b check-table = reply.Checked (is-table b)
 answer-to b (ask q) = reply.Answered (decide b q)
-answer-to b (look-up-input g letter) = reply.Found (look-up b g letter)
+answer-to b (ask-checked q) = reply.Answered (decide b q)
+answer-to b (find-input g letter) = reply.Found (look-up b g letter)
+answer-to b (find-input-checked g letter) = reply.Found (look-up b g letter)
+answer-to b (look-up-name g letter) = reply.Named (length (part-in (look-up b g letter) b))
+answer-to b (allow s) = reply.Allowed (not (missing (tree-of s)))
+answer-to b (calculate s rs) = reply.Valued (worth rs (tree-of s))
+answer-to b (hold s rs) = reply.Holds (true-tree rs (tree-of s))
 
--- a call was made: its answer, and the lent bytes afterwards
-pub record Made (lent : List ℕ) (c : Call) (after : List ℕ) (r : Reply) : Type 0 where
-  pub answer : r ≡ answer-to lent c
-  pub bytes : after ≡ after-call lent c
+-- ---- what is lent
+
+-- what a program lends for writing: the bytes of the table, and the two arrays for warnings
+pub record Lent : Type 0 where
+  pub table : List ℕ
+  pub numbers : List ℕ
+  pub places : List ℕ
+
+abbrev pub lent-of : List ℕ → List ℕ → List ℕ → Lent
+lent-of t n p = record { table = t; numbers = n; places = p }
+
+abbrev pub with-list : Lent → Listing → Lent
+with-list l w = record { table = l .table; numbers = w .numbers; places = w .places }
+
+-- all of it after a call: a load writes the table, a list of warnings the arrays, and nothing else writes
+abbrev pub left-by : Lent → Call → Lent
+left-by l (load-text s) = record { table = load (l .table) s .bytes; numbers = l .numbers; places = l .places }
+left-by l (list-warnings s skip) = with-list l (listing skip (l .numbers) (l .places) s)
+left-by l check-table = l
+left-by l (ask q) = l
+left-by l (ask-checked q) = l
+left-by l (find-input g letter) = l
+left-by l (find-input-checked g letter) = l
+left-by l (look-up-name g letter) = l
+left-by l (allow s) = l
+left-by l (calculate s rs) = l
+left-by l (hold s rs) = l
+
+abbrev pub left-by-calls : Lent → List Call → Lent
+left-by-calls l [] = l
+left-by-calls l (c ∷ cs) = left-by-calls (left-by l c) cs
+
+-- a call was made: its answer, and what was lent afterwards
+pub record Made (lent : Lent) (c : Call) (after : Lent) (r : Reply) : Type 0 where
+  pub answer : r ≡ answer-to (lent .table) c
+  pub left : after ≡ left-by lent c

@@ -1,4 +1,4 @@
--- A script of calls, in numbers, so that a program can lend one. 01, "What the contracts owe": "any sequence of calls".
+-- A script of calls, in numbers, so that a program can lend one: any calls, any number of them, texts of any length.
 use mathlib.Core.List.{List, [], _∷_}
 use Prim.Native.Nat.{ℕ, zero, suc, _+_, _*_, _/_}
 use lib.ListN.{length, getD}
@@ -7,30 +7,41 @@ use Rattle.spec_rule.specs.Question.{question-of}
 use Rattle.spec_calc.specs.declared.Reading.{Reading}
 use Rattle.api_readings.specs.Readings.{readings}
 use Rattle.load_tokens.specs.Arrays.{between}
-use Rattle.spec_demand.specs.Calls.{Call, load-text, list-warnings, calculate, check-table, ask, look-up-input}
+use Rattle.spec_demand.specs.Calls.{Call, load-text, list-warnings, check-table, ask, ask-checked, find-input, find-input-checked, look-up-name}
+use Rattle.spec_demand.specs.Calls.{allow, calculate, hold}
 
 -- The words are 16 for each call:
 --   0       what is called: see call-of
 --   1 to 6  three texts, each from where to where it stands in the pool
---   7       a level or a letter
+--   7       how many warnings are skipped
 --   8       where the 21 readings begin in states and values
--- The others say nothing. What stands beyond an end is no byte, the number 0; of readings see api_readings/specs.
+-- The others say nothing. Each call has a level or letter of its own. What stands beyond an end is no byte, the number 0; of readings see api_readings/specs.
 pub record Script : Type 0 where
   pub words : List ℕ
   pub pool : List ℕ
+  pub levels : List ℕ
   pub states : List ℕ
   pub values : List Float
 
-abbrev pub script-of : List ℕ → List ℕ → List ℕ → List Float → Script
-script-of ws p ss vs = record { words = ws; pool = p; states = ss; values = vs }
+abbrev pub script-of : List ℕ → List ℕ → List ℕ → List ℕ → List Float → Script
+script-of ws p ls ss vs = record { words = ws; pool = p; levels = ls; states = ss; values = vs }
 
--- what a number calls, of three texts, a level or letter, and readings: 0 a load, and so on; 5 and more a look-up
-abbrev pub call-of : ℕ → List ℕ → List ℕ → List ℕ → ℕ → List Reading → Call
-call-of what a b c n rs =
-    getD
-    (load-text a ∷ list-warnings a ∷ calculate a rs ∷ check-table ∷ ask (question-of a b c n rs) ∷ [])
-    what
-    (look-up-input a n)
+-- the calls from number 2 on, of three texts, a level or letter, and readings: none of them writes
+abbrev pub reading-calls : List ℕ → List ℕ → List ℕ → ℕ → List Reading → List Call
+reading-calls a b c n rs =
+    check-table
+    ∷ ask (question-of a b c n rs)
+    ∷ ask-checked (question-of a b c n rs)
+    ∷ find-input a n
+    ∷ find-input-checked a n
+    ∷ look-up-name a n
+    ∷ allow a
+    ∷ calculate a rs
+    ∷ []
+
+-- what a number calls: 0 a load, 1 a list of warnings behind so many, and so on; 10 and more a calculation's truth
+abbrev pub call-of : ℕ → List ℕ → List ℕ → List ℕ → ℕ → ℕ → List Reading → Call
+call-of what a b c skip n rs = getD (load-text a ∷ list-warnings a skip ∷ reading-calls a b c n rs) what (hold a rs)
 
 -- the j-th word of the i-th call
 abbrev pub word : List ℕ → ℕ → ℕ → ℕ
@@ -49,6 +60,7 @@ call-at s i =
     (text-at (s .words) (s .pool) i 3)
     (text-at (s .words) (s .pool) i 5)
     (word (s .words) i 7)
+    (getD (s .levels) i 0)
     (readings (s .states) (s .values) (word (s .words) i 8))
 
 -- n calls from the i-th on

@@ -1,4 +1,4 @@
-// A script of calls in numbers: its words and texts, and what its calls answer.
+// A script of calls in numbers: its words, levels and texts, and what its calls answer.
 use spec_calc::Worth;
 use spec_decision::Answer;
 use spec_decision::Found;
@@ -6,7 +6,7 @@ use spec_load::Listed;
 use spec_load::Loaded;
 ghost use mathlib.Core.Path.{_≡_};
 ghost use Prim.Native.Nat.{_+_, _*_, _≤_, _<_};
-ghost use lib.ListN.{length};
+ghost use lib.ListN.{length, getD};
 ghost use Rattle.load_tokens.specs.Arrays.{between};
 ghost use Rattle.api_script.specs.Script.{word, text-at};
 
@@ -16,14 +16,17 @@ pub struct Asked {
     pub answer: Answer,
 }
 
-// What a call answers.
+// What a call answers. Of the name that a look-up finds, its length: no answer holds a part of the table.
 pub enum Reply {
     Loaded(Loaded),
     Listed(Listed),
-    Valued(Worth),
     Checked(bool),
     Answered(Answer),
     Found(Found),
+    Named(usize),
+    Allowed(bool),
+    Valued(Worth),
+    Holds(bool),
 }
 
 // What stands in the pool between two places, as far as it goes.
@@ -44,29 +47,22 @@ fn part<'a>(pool: &'a [u8], from: usize, to: usize) -> &'a [u8]
 }
 
 // The j-th word of the i-th call. The caller, api_sequence, asks for calls that stand in the script whole.
-pub fn word(script: &[u16], i: usize, j: usize) -> usize
+pub fn word(script: &[usize], i: usize, j: usize) -> usize
     requires { ⌜ (i * 16 + 16 ≤ length (now script)) × (j < 16) ⌝ }
     ensures { λ r. ⌜ r ≡ word (now (script .entry)) i j ⌝ }
 {
-    load_tokens::wide(script[i * 16 + j])
+    script[i * 16 + j]
 }
 
-fn wide(n: u16) -> u32
-    ensures { λ r. ⌜ r ≡ n ⌝ }
+// The level or letter of the i-th call.
+pub fn level(levels: &[u32], i: usize) -> u32
+    ensures { λ r. ⌜ r ≡ getD (now (levels .entry)) i 0 ⌝ }
 {
-    n as u32
-}
-
-// The same, as a level or a letter.
-pub fn number(script: &[u16], i: usize, j: usize) -> u32
-    requires { ⌜ (i * 16 + 16 ≤ length (now script)) × (j < 16) ⌝ }
-    ensures { λ r. ⌜ r ≡ word (now (script .entry)) i j ⌝ }
-{
-    wide(script[i * 16 + j])
+    if i < levels.len() { levels[i] } else { 0 }
 }
 
 // The text that the j-th word of the i-th call and the next give.
-pub fn text_at<'a>(script: &[u16], pool: &'a [u8], i: usize, j: usize) -> &'a [u8]
+pub fn text_at<'a>(script: &[usize], pool: &'a [u8], i: usize, j: usize) -> &'a [u8]
     requires { ⌜ (i * 16 + 16 ≤ length (now script)) × (j + 1 < 16) ⌝ }
     ensures { λ r. ⌜ now r ≡ text-at (now (script .entry)) (now (pool .entry)) i j ⌝ }
 {

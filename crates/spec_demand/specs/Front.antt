@@ -11,9 +11,10 @@ use Rattle.spec_rule.specs.declared.Access.the-variants as access
 use Rattle.spec_demand.specs.Vocabulary.{Token, Tagged, Reads, Reading, Tree, Parses, Gone-bad, tree-of, Question, reading-instead, rank, Refusal}
 use Rattle.spec_demand.specs.Vocabulary.{file-of, Text-reads, Acceptable, Refusable, refuse, accept, verdict, is-table, table-of, greatest-table}
 use Rattle.spec_demand.specs.Vocabulary.{written, without-room, load, look-up, number, access-in, trap-in, decide, Edition, access-later, Says-no}
-use Rattle.spec_demand.specs.Vocabulary.{answer-by-file, input-by-file, name-found, Call, after-calls, is-accepted, No-accepted-load, Proved-cases}
+use Rattle.spec_demand.specs.Vocabulary.{answer-by-file, input-by-file, name-found, is-accepted, No-accepted-load, Proved-cases}
+use Rattle.spec_demand.specs.Vocabulary.{Every, Memory, Storage, bytes-in, Step, calls-of, Made, Nobody-else-writes}
 use Rattle.spec_demand.specs.laws.Cited.{one-parse, parses-sound, parses-complete, accepted-is, acceptable-is, refused-is, refusable-is, refused-leaves}
-use Rattle.spec_demand.specs.laws.Cited.{never-above, exactly-equal, refused-grants-nothing, zeros-grant-nothing, laid-down, not-laid-down, stands}
+use Rattle.spec_demand.specs.laws.Cited.{never-more, refused-grants-nothing, zeros-grant-nothing, laid-down, not-laid-down, stands}
 use Rattle.spec_demand.specs.laws.Cited.{answers-by-file, inputs-by-file, proved-cases}
 
 -- DEMAND 1. Total: no file, table, name, level or reading makes it index outside, trap or run on. A refusal carries a number, a load's
@@ -70,19 +71,24 @@ demand-2 =
 -- DEMAND 3. What we don't know never opens a door: from the text of a file to the access at every question, against every later edition,
 -- whichever readings went bad, through any sequence of calls between; and where the edition says no to every unknown predicate, with the
 -- same readings, access is exactly equal.
+--
+-- The load leaves its table in the memory of a program; then come calls, each any of the library's, and none an accepted load. Nobody else writes the
+-- table: what a call is lent for writing is apart from it. The question is asked on what stands there now.
 abbrev pub Never-more-access : Type 0
 Never-more-access =
     (lent s : List ℕ) → is-accepted (load lent s .answer) ≡ true
     → (xs : List Tagged) → Text-reads s xs
-    → (between : List Call) → No-accepted-load (load lent s .bytes) between
+    → (table : Storage) (loaded : Memory) → bytes-in loaded table ≡ load lent s .bytes
+    → (between : List Step) → Every (Made table) between → No-accepted-load (load lent s .bytes) (calls-of between)
+    → (now : Memory) → Nobody-else-writes table loaded between now
     → (e : Edition) (q : Question)
     →
     ((worse : List Reading) → Gone-bad (q .readings) worse
-    → rank (access-in (decide (after-calls (load lent s .bytes) between) (reading-instead q worse))) ≤ rank (access-later e xs q))
-    × (Says-no e q xs → access-in (decide (after-calls (load lent s .bytes) between) q) ≡ access-later e xs q)
+    → rank (access-in (decide (bytes-in now table) (reading-instead q worse))) ≤ rank (access-later e xs q))
+    × (Says-no e q xs → access-in (decide (bytes-in now table) q) ≡ access-later e xs q)
 
 pub demand-3 : Never-more-access
-demand-3 lent s h xs t between n e q = (never-above lent s h xs t between n e q, exactly-equal lent s h xs t between n e q)
+demand-3 = never-more
 
 -- 01, "Proved and run cases", the list that is proved
 pub cases : Proved-cases

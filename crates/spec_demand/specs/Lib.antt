@@ -1,5 +1,6 @@
 pub mod Vocabulary
 pub mod Calls
+pub mod Memory
 pub mod ByFile
 pub mod Cases
 pub mod Front

@@ -1,4 +1,5 @@
 -- The words of the front page, each from the file that defines it.
+pub use Rattle.spec_lists.specs.Every.{Every}
 pub use Rattle.spec_token.specs.Token.{Token}
 pub use Rattle.spec_grammar.specs.Sentence.{Tagged, Reads}
 pub use Rattle.spec_calc.specs.declared.Reading.{Reading}
@@ -19,5 +20,6 @@ pub use Rattle.spec_decision.specs.LookUp.{look-up}
 pub use Rattle.spec_decision.specs.Decision.{number, access-in, trap-in, decide}
 pub use Rattle.spec_edition.specs.Edition.{Edition, access-later, Says-no}
 pub use Rattle.spec_demand.specs.ByFile.{answer-by-file, input-by-file, name-found}
-pub use Rattle.spec_demand.specs.Calls.{Call, after-calls, is-accepted, No-accepted-load}
+pub use Rattle.spec_demand.specs.Calls.{is-accepted, No-accepted-load}
+pub use Rattle.spec_demand.specs.Memory.{Memory, Storage, bytes-in, Step, calls-of, Made, Nobody-else-writes}
 pub use Rattle.spec_demand.specs.Cases.{Proved-cases}

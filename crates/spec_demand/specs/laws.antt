@@ -3,6 +3,8 @@ pub mod Exact
 pub mod Inputs
 pub mod Later
 pub mod Loaded
+pub mod Memory
+pub mod Instance
 pub mod Cited
 pub mod Privilege
 pub mod Refusals

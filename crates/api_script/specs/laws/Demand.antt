@@ -1,29 +1,53 @@
--- Demand 3 of a load, any calls and a question, from the front page.
-use mathlib.Core.Path.{_≡_, sym, ap, _∙_}
-use mathlib.Core.List.{List}
+-- Demand 3 of a load, any calls and a question.
+use mathlib.Core.Path.{_≡_, refl, sym, ap, _∙_}
+use mathlib.Core.List.{List, [], _∷_}
 use Prim.Native.Nat.{ℕ}
 use Rattle.spec_rule.specs.Question.{Question, reading-instead}
 use Rattle.spec_load.specs.declared.Loaded.{Loaded}
 use Rattle.spec_load.specs.Load.{Result, load}
 use Rattle.spec_decision.specs.declared.Answer.{Answer}
 use Rattle.spec_decision.specs.Decision.{access-in, decide}
-use Rattle.spec_demand.specs.Calls.{Call, after-calls, is-accepted}
-use Rattle.spec_demand.specs.Front.{demand-3}
+use Rattle.spec_demand.specs.Calls.{Call, load-text, list-warnings, check-table, ask, ask-checked, find-input, find-input-checked, look-up-name}
+use Rattle.spec_demand.specs.Calls.{allow, calculate, hold, after-call, after-calls, is-accepted}
+use Rattle.spec_demand.specs.laws.Later.{never-above, exactly-equal}
+use Rattle.api_script.specs.Replies.{Lent, lent-of, left-by, left-by-calls}
 use Rattle.api_script.specs.Demand.{Never-more}
 
+-- the table among what is lent
+table-left : (l : Lent) (c : Call) → left-by l c .table ≡ after-call (l .table) c
+table-left l (load-text s) = refl
+table-left l (list-warnings s skip) = refl
+table-left l check-table = refl
+table-left l (ask q) = refl
+table-left l (ask-checked q) = refl
+table-left l (find-input g letter) = refl
+table-left l (find-input-checked g letter) = refl
+table-left l (look-up-name g letter) = refl
+table-left l (allow s) = refl
+table-left l (calculate s rs) = refl
+table-left l (hold s rs) = refl
+
+pub tables-left : (l : Lent) (cs : List Call) → left-by-calls l cs .table ≡ after-calls (l .table) cs
+tables-left l [] = refl
+tables-left l (c ∷ cs) = tables-left (left-by l c) cs ∙ ap (λ (b : List ℕ). after-calls b cs) (table-left l c)
+
 pub asked-is :
-    {lent s left after : List ℕ} {cs : List Call} {q : Question} {r : Loaded} {a : Answer}
-    → record { answer = r; bytes = left } ≡ load lent s → after ≡ after-calls left cs → a ≡ decide after q
-    → Never-more lent s cs q after (record { loaded = r; answer = a })
-asked-is {lent} {s} {left} {after} {cs} {q} {r} {a} l f d =
+    {table numbers places s left : List ℕ} {after : Lent} {cs : List Call} {q : Question} {r : Loaded} {a : Answer}
+    → record { answer = r; bytes = left } ≡ load table s → after ≡ left-by-calls (lent-of left numbers places) cs → a ≡ decide (after .table) q
+    → Never-more (lent-of table numbers places) s cs q after (record { loaded = r; answer = a })
+asked-is {table} {numbers} {places} {s} {left} {after} {cs} {q} {r} {a} l f d =
     let answered = ap (λ (o : Result). o .answer) l in
-    let bytes : after ≡ after-calls (load lent s .bytes) cs = f ∙ ap (λ (o : Result). after-calls (o .bytes) cs) l in
-    let asked : a ≡ decide (after-calls (load lent s .bytes) cs) q = d ∙ ap (λ (b : List ℕ). decide b q) bytes in
+    let start = lent-of (load table s .bytes) numbers places in
+    let all : after ≡ left-by-calls start cs = f ∙ ap (λ (o : Result). left-by-calls (lent-of (o .bytes) numbers places) cs) l in
+    let bytes : after .table ≡ after-calls (load table s .bytes) cs = ap (λ (x : Lent). x .table) all ∙ tables-left start cs in
+    let asked : a ≡ decide (after-calls (load table s .bytes) cs) q = d ∙ ap (λ (b : List ℕ). decide b q) bytes in
     record {
       loaded = answered;
-      bytes = bytes;
-      answer = asked;
+      left = all;
+      answer = d;
       never-more = λ h xs t n e.
-          let shown = demand-3 lent s (sym (ap is-accepted answered) ∙ h) xs t cs n e in
-          (λ were g. rw asked (shown (reading-instead q were) .0 (q .readings) g), λ no. ap access-in asked ∙ shown q .1 no);
+          let accepted = sym (ap is-accepted answered) ∙ h in (
+            λ were g. rw asked (never-above table s accepted xs t cs n e (reading-instead q were) (q .readings) g),
+            λ no. ap access-in asked ∙ exactly-equal table s accepted xs t cs n e q no,
+          );
     }

@@ -1,24 +1,26 @@
 -- Laws of scripts and of their calls.
 use mathlib.Core.Path.{_≡_, refl, sym, ap, _∙_}
-use mathlib.Core.List.{List, []}
+use mathlib.Core.List.{List, [], _∷_}
 use Prim.Native.Nat.{ℕ, zero, suc, _+_, _*_, _-_, _/_, _≤_, _<_}
 use native.Mathlib.Nat.{div-add-mod'}
 use native.Mathlib.Omega.{arith}
-use lib.ListN.{length, drop, drop-of-length-le, length-drop}
+use lib.ListN.{length, drop, getD, drop-of-length-le, length-drop, List·getD-eq-default}
 use lib.Seq.{take-all, take-nil}
+use Rattle.spec_lists.specs.Every.{Every, nil, cons}
+use Rattle.spec_lists.specs.laws.Every.{every-at}
 use Rattle.spec_calc.specs.declared.Reading.{Reading}
 use Rattle.spec_file.specs.Load.{Verdict, refuse, accept, verdict}
 use Rattle.load_tokens.specs.Arrays.{between}
 use Rattle.spec_load.specs.declared.Loaded.{Loaded}
+use Rattle.spec_load.specs.declared.Listed.{Listed}
 use Rattle.spec_load.specs.Load.{Result, load}
-use Rattle.spec_load.specs.Listing.{listed-by, listing}
-use Rattle.spec_decision.specs.LookUp.{look-up}
-use Rattle.spec_demand.specs.Calls.{after-call, after-calls}
+use Rattle.spec_load.specs.Listing.{Listing, listed-by, listing}
+use Rattle.spec_demand.specs.Calls.{load-text, list-warnings, hold}
 use Rattle.api_readings.specs.Readings.{readings}
 use Rattle.api_script.specs.declared.Reply.{Reply}
 use Rattle.api_script.specs.declared.Reply.the-variants as reply
-use Rattle.api_script.specs.Script.{Script, word, text-at, call-of, call-at, calls-from, calls}
-use Rattle.api_script.specs.Replies.{answer-to, Made}
+use Rattle.api_script.specs.Script.{Script, word, text-at, reading-calls, call-of, call-at, calls-from, calls}
+use Rattle.api_script.specs.Replies.{answer-to, Lent, lent-of, left-by, left-by-calls, Made}
 
 -- ---- parts of a text
 
@@ -34,59 +36,62 @@ module _ (s : List ℕ) (a e : ℕ) where
 
 -- ---- calls
 
--- no call but a load writes
-pub others-leave :
-    (m : ℕ) (a b c : List ℕ) (n : ℕ) (rs : List Reading) (lent : List ℕ) → (m ≡ 0 → ⊥)
-    → lent ≡ after-call lent (call-of m a b c n rs)
-others-leave zero a b c n rs lent h = absurd (h refl)
-others-leave (suc zero) a b c n rs lent h = refl
-others-leave (suc (suc zero)) a b c n rs lent h = refl
-others-leave (suc (suc (suc zero))) a b c n rs lent h = refl
-others-leave (suc (suc (suc (suc zero)))) a b c n rs lent h = refl
-others-leave (suc (suc (suc (suc (suc m))))) a b c n rs lent h = refl
-
--- a number over 4 looks up
-pub look-up-reply :
-    (m : ℕ) (a b c : List ℕ) (n : ℕ) (rs : List Reading) (lent : List ℕ)
-    → 0 < m → (m ≡ 1 → ⊥) → (m ≡ 2 → ⊥) → (m ≡ 3 → ⊥) → (m ≡ 4 → ⊥)
-    → reply.Found (look-up lent a n) ≡ answer-to lent (call-of m a b c n rs)
-look-up-reply zero a b c n rs lent h h1 h2 h3 h4 = absurd (omega arith)
-look-up-reply (suc zero) a b c n rs lent h h1 h2 h3 h4 = absurd (h1 refl)
-look-up-reply (suc (suc zero)) a b c n rs lent h h1 h2 h3 h4 = absurd (h2 refl)
-look-up-reply (suc (suc (suc zero))) a b c n rs lent h h1 h2 h3 h4 = absurd (h3 refl)
-look-up-reply (suc (suc (suc (suc zero)))) a b c n rs lent h h1 h2 h3 h4 = absurd (h4 refl)
-look-up-reply (suc (suc (suc (suc (suc m))))) a b c n rs lent h h1 h2 h3 h4 = refl
-
 -- how many warnings there are does not depend on the room for their list
-pub listed-alike : (skip : ℕ) (numbers places : List ℕ) (s : List ℕ) → listing skip numbers places s .answer ≡ listing 0 [] [] s .answer
+pub listed-alike : (skip : ℕ) (numbers places : List ℕ) (s : List ℕ) → listing skip numbers places s .answer ≡ listing skip [] [] s .answer
 unfolding listing
 listed-alike skip numbers places s = by (verdict s)
   where
-    by : (v : Verdict) → listed-by skip numbers places v .answer ≡ listed-by 0 [] [] v .answer
+    by : (v : Verdict) → listed-by skip numbers places v .answer ≡ listed-by skip [] [] v .answer
     by (refuse n p) = refl
     by (accept xs) = refl
 
-module _ (s : Script) (i : ℕ) (lent : List ℕ) {w : ℕ} (what : w ≡ word (s .words) i 0) where
+-- a number from 2 on calls what writes nothing
+pub others-leave :
+    (m : ℕ) (a b c : List ℕ) (k n : ℕ) (rs : List Reading) (lent : Lent) → 1 < m
+    → lent ≡ left-by lent (call-of m a b c k n rs)
+others-leave zero a b c k n rs lent h = absurd (omega arith)
+others-leave (suc zero) a b c k n rs lent h = absurd (omega arith)
+others-leave (suc (suc m)) a b c k n rs lent h =
+    let leave : Every (λ x. lent ≡ left-by lent x) (reading-calls a b c n rs) =
+    cons refl (cons refl (cons refl (cons refl (cons refl (cons refl (cons refl (cons refl nil))))))) in
+    every-at m (hold a rs) refl leave
+
+-- a number over 9 asks whether a calculation is true
+pub truth-called : (m : ℕ) (a b c : List ℕ) (k n : ℕ) (rs : List Reading) → 9 < m → hold a rs ≡ call-of m a b c k n rs
+truth-called m a b c k n rs h = sym (List·getD-eq-default (load-text a ∷ list-warnings a k ∷ reading-calls a b c n rs) (hold a rs) h)
+
+module _ (s : Script) (i : ℕ) (lent : Lent) {w : ℕ} (what : w ≡ word (s .words) i 0) {t : List ℕ} (text : t ≡ text-at (s .words) (s .pool) i 1) where
   pub load-made :
-      {after t : List ℕ} {r : Loaded} → w ≡ 0 → t ≡ text-at (s .words) (s .pool) i 1
-      → record { answer = r; bytes = after } ≡ load lent t → Made lent (call-at s i) after (reply.Loaded r)
-  load-made {t = t} z e l =
+      {after : List ℕ} {r : Loaded} → w ≡ 0 → record { answer = r; bytes = after } ≡ load (lent .table) t
+      → Made lent (call-at s i) (lent-of after (lent .numbers) (lent .places)) (reply.Loaded r)
+  load-made z l =
       let first = sym what ∙ z in
       record {
-        answer = ap (λ (o : Result). reply.Loaded (o .answer)) l ∙ rw (e, first);
-        bytes = ap (λ (o : Result). o .bytes) l ∙ rw (e, first);
+        answer = ap (λ (o : Result). reply.Loaded (o .answer)) l ∙ rw (text, first);
+        left = ap (λ (o : Result). lent-of (o .bytes) (lent .numbers) (lent .places)) l ∙ rw (text, first);
+      }
+
+  pub list-made :
+      {numbers places : List ℕ} {k : ℕ} {r : Listed} → w ≡ 1 → k ≡ word (s .words) i 7
+      → record { answer = r; numbers = numbers; places = places } ≡ listing k (lent .numbers) (lent .places) t
+      → Made lent (call-at s i) (lent-of (lent .table) numbers places) (reply.Listed r)
+  list-made {k = k} z e l =
+      let first = sym what ∙ z in
+      record {
+        answer = ap (λ (o : Listing). reply.Listed (o .answer)) l ∙ ap reply.Listed (listed-alike k (lent .numbers) (lent .places) t) ∙ rw (text, e, first);
+        left = ap (λ (o : Listing). lent-of (lent .table) (o .numbers) (o .places)) l ∙ rw (text, e, first);
       }
 
   pub other-made :
-      {a b c : List ℕ} {n k : ℕ} {rs : List Reading} {r : Reply} → (w ≡ 0 → ⊥)
-      → a ≡ text-at (s .words) (s .pool) i 1 → b ≡ text-at (s .words) (s .pool) i 3 → c ≡ text-at (s .words) (s .pool) i 5
-      → n ≡ word (s .words) i 7 → k ≡ word (s .words) i 8 → rs ≡ readings (s .states) (s .values) k
-      → r ≡ answer-to lent (call-of w a b c n rs) → Made lent (call-at s i) lent r
-  other-made {a} {b} {c} {n} {k} {rs} z ea eb ec en ek er h =
-      let same : call-of w a b c n rs ≡ call-at s i = rw (ea, eb, ec, en, er, ek, what) in
+      {b c : List ℕ} {k n at : ℕ} {rs : List Reading} {r : Reply} → 1 < w
+      → b ≡ text-at (s .words) (s .pool) i 3 → c ≡ text-at (s .words) (s .pool) i 5 → k ≡ word (s .words) i 7 → n ≡ getD (s .levels) i 0
+      → at ≡ word (s .words) i 8 → rs ≡ readings (s .states) (s .values) at
+      → r ≡ answer-to (lent .table) (call-of w t b c k n rs) → Made lent (call-at s i) lent r
+  other-made {b} {c} {k} {n} {at} {rs} z eb ec ek en ea er h =
+      let same : call-of w t b c k n rs ≡ call-at s i = rw (text, eb, ec, ek, en, er, ea, what) in
       record {
-        answer = h ∙ ap (answer-to lent) same;
-        bytes = others-leave w a b c n rs lent z ∙ ap (after-call lent) same;
+        answer = h ∙ ap (answer-to (lent .table)) same;
+        left = others-leave w t b c k n rs lent z ∙ ap (left-by lent) same;
       }
 
 -- ---- scripts
@@ -95,24 +100,24 @@ module _ (s : Script) (i : ℕ) (lent : List ℕ) {w : ℕ} (what : w ≡ word (
 pub call-within : (i n : ℕ) → i < n / 16 → i * 16 + 16 ≤ n
 call-within i n h = omega (arith, div-add-mod' n 16)
 
-module _ (s : Script) (n : ℕ) (start : List ℕ) where
+module _ (s : Script) (n : ℕ) (start : Lent) where
   -- from the i-th call on, what is left to do comes to what was to do at the start
-  pub record Followed (lent : List ℕ) (i : ℕ) : Type 0 where
+  pub record Followed (lent : Lent) (i : ℕ) : Type 0 where
     pub within : i ≤ n
-    pub comes : after-calls lent (calls-from s i (n - i)) ≡ after-calls start (calls-from s 0 n)
+    pub comes : left-by-calls lent (calls-from s i (n - i)) ≡ left-by-calls start (calls-from s 0 n)
 
   pub followed-none : Followed start 0
   followed-none =
       let z : n - 0 ≡ n = omega arith in
       record { within = omega arith; comes = rw z }
 
-  pub followed-more : {lent after : List ℕ} {i : ℕ} → Followed lent i → i < n → after ≡ after-call lent (call-at s i) → Followed after (i + 1)
+  pub followed-more : {lent after : Lent} {i : ℕ} → Followed lent i → i < n → after ≡ left-by lent (call-at s i) → Followed after (i + 1)
   unfolding calls-from
   followed-more {lent} {after} {i} h l e =
       let m : n - i ≡ suc (n - (i + 1)) = omega arith in
       record { within = omega arith; comes = rw e (rw m at (h .comes)) }
 
-  pub followed-all : {lent : List ℕ} {i : ℕ} → Followed lent i → n ≤ i → lent ≡ after-calls start (calls-from s 0 n)
+  pub followed-all : {lent : Lent} {i : ℕ} → Followed lent i → n ≤ i → lent ≡ left-by-calls start (calls-from s 0 n)
   unfolding calls-from
   followed-all {lent} {i} h l =
       let z : n - i ≡ 0 = omega arith in

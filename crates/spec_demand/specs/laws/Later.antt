@@ -33,7 +33,7 @@ use Rattle.spec_decision.specs.declared.Answer.the-variants.{BadLevel}
 use Rattle.spec_decision.specs.Decision.{answered, access-in, decide}
 use Rattle.spec_edition.specs.Edition.{Says-no, Edition, rules-later, access-by-rules, access-later}
 use Rattle.spec_edition.specs.laws.Later.{access-never-above, access-alike}
-use Rattle.spec_demand.specs.Calls.{Call, after-calls, is-accepted, No-accepted-load}
+use Rattle.spec_demand.specs.Calls.{Call, ask-checked, after-calls, is-accepted, No-accepted-load}
 use Rattle.spec_demand.specs.ByFile.{rules-by-file, answer-by-file}
 use Rattle.spec_demand.specs.laws.Loaded.{Stored, stored, calls-leave, decided}
 
@@ -142,3 +142,19 @@ module _
 
   pub exactly-equal : Says-no e q xs → access-in (decide (after-calls (load lent s .bytes) between) q) ≡ access-later e xs q
   exactly-equal d = ap access-in (answered-by-text lent s h xs t between n q) ∙ alike-by-file e xs q d
+
+-- ---- a load, then questions only
+
+pub questions-leave : (b : List ℕ) (qs : List Question) → after-calls b (map ask-checked qs) ≡ b
+questions-leave b [] = refl
+questions-leave b (q ∷ qs) = questions-leave b qs
+
+-- The asker: a load, then question after question on what it left. Each answer is never more than any edition's, whatever was asked before; and exactly
+-- that of an edition that says no to every unknown predicate.
+module _
+    (lent s : List ℕ) (h : is-accepted (load lent s .answer) ≡ true) (xs : List Tagged) (t : Text-reads s xs) (e : Edition) (q : Question) where
+  pub asked-never-more :
+      ((worse : List Reading) → Gone-bad (q .readings) worse
+      → rank (access-in (decide (load lent s .bytes) (reading-instead q worse))) ≤ rank (access-later e xs q))
+      × (Says-no e q xs → access-in (decide (load lent s .bytes) q) ≡ access-later e xs q)
+  asked-never-more = (never-above lent s h xs t [] tt e q, exactly-equal lent s h xs t [] tt e q)

@@ -21,12 +21,15 @@ use Rattle.spec_table.specs.Written.{content, records, table-of}
 use Rattle.spec_table.specs.laws.Fits.{Fits}
 use Rattle.spec_table.specs.laws.Preserved.{answering-rules}
 use Rattle.spec_table.specs.laws.Theorem.{viewed, is-a-table}
+use Rattle.spec_load.specs.declared.Loaded.{Loaded}
+use Rattle.spec_load.specs.declared.Loaded.the-variants.{Accepted, Refused}
 use Rattle.spec_load.specs.Load.{written, without-room, by-verdict, load}
 use Rattle.spec_decision.specs.Decision.{rules-in, rules-for, decide}
 use Rattle.spec_edition.specs.Edition.{rules-later}
 use Rattle.spec_demand.specs.ByFile.{rules-by-file, answer-by-file}
-use Rattle.spec_demand.specs.Calls.{Call, load-text, list-warnings, calculate, check-table, ask, look-up-input, after-call, after-calls, is-accepted}
-use Rattle.spec_demand.specs.Calls.{no-new-table, No-accepted-load}
+use Rattle.spec_demand.specs.Calls.{Call, load-text, list-warnings, check-table, ask, ask-checked, find-input, find-input-checked, look-up-name}
+use Rattle.spec_demand.specs.Calls.{allow, calculate, hold, Told, load-told, refusal-of}
+use Rattle.spec_demand.specs.Calls.{text-loaded, after-load, after-call, after-calls, is-accepted, no-new-table, No-accepted-load}
 
 -- ---- a load that is accepted, and one that is not
 
@@ -66,17 +69,31 @@ refused-leaves lent s e = by (verdict s) e
     by (accept xs) h = room xs (leb (length (table-of (file-of xs))) (length lent)) h
 
 -- no call but an accepted load changes a byte
-call-leaves : (b : List ℕ) (c : Call) → no-new-table b c → after-call b c ≡ b
-call-leaves b (load-text s) h = refused-leaves b s h
-call-leaves b (list-warnings s) h = refl
-call-leaves b (calculate s rs) h = refl
-call-leaves b check-table h = refl
-call-leaves b (ask q) h = refl
-call-leaves b (look-up-input g letter) h = refl
+pub load-leaves : (b : List ℕ) (o : Option (List ℕ)) → no-new-table b o → after-load b o ≡ b
+load-leaves b none h = refl
+load-leaves b (some s) h = refused-leaves b s h
+
+-- 01: "A refused call changes no lent byte and no state": of every call of the library
+pub refused-call-leaves : (b : List ℕ) (c : Call) (r : Told) → refusal-of b c ≡ some r → after-call b c ≡ b
+refused-call-leaves b (load-text s) r e = refused-leaves b s (by (load b s .answer) e)
+  where
+    by : (a : Loaded) → load-told a ≡ some r → is-accepted a ≡ false
+    by (Accepted n w) g = let z : false ≡ true = cc in absurd (false≢true z)
+    by (Refused n p) g = refl
+refused-call-leaves b (list-warnings s skip) r e = refl
+refused-call-leaves b check-table r e = refl
+refused-call-leaves b (ask q) r e = refl
+refused-call-leaves b (ask-checked q) r e = refl
+refused-call-leaves b (find-input g letter) r e = refl
+refused-call-leaves b (find-input-checked g letter) r e = refl
+refused-call-leaves b (look-up-name g letter) r e = refl
+refused-call-leaves b (allow s) r e = refl
+refused-call-leaves b (calculate s rs) r e = refl
+refused-call-leaves b (hold s rs) r e = refl
 
 pub calls-leave : (b : List ℕ) (cs : List Call) → No-accepted-load b cs → after-calls b cs ≡ b
 calls-leave b [] h = refl
-calls-leave b (c ∷ cs) h = calls-leave (after-call b c) cs (h .1) ∙ call-leaves b c (h .0)
+calls-leave b (c ∷ cs) h = calls-leave (after-call b c) cs (h .1) ∙ load-leaves b (text-loaded c) (h .0)
 
 -- ---- the table answers by the file's rules
 

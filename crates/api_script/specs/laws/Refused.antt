@@ -1,0 +1,33 @@
+-- 01: "A refused call changes no lent byte and no state": of every call, and of all that is lent for writing.
+use mathlib.Core.Path.{_≡_, refl, ap}
+use mathlib.Core.Bool.{false, true, false≢true}
+use mathlib.Core.List.{List, []}
+use mathlib.Core.Option.{some}
+use Prim.Native.Nat.{ℕ}
+use Rattle.spec_file.specs.Load.{Verdict, refuse, accept, verdict}
+use Rattle.spec_load.specs.Listing.{listed-by, listing}
+use Rattle.spec_demand.specs.Calls.{Call, load-text, list-warnings, check-table, ask, ask-checked, find-input, find-input-checked, look-up-name}
+use Rattle.spec_demand.specs.Calls.{allow, calculate, hold, Told, listing-told, refusal-of}
+use Rattle.spec_demand.specs.laws.Loaded.{refused-call-leaves}
+use Rattle.api_script.specs.Replies.{Lent, lent-of, with-list, left-by}
+
+list-leaves : (l : Lent) (s : List ℕ) (skip : ℕ) (r : Told) → listing-told (listing skip [] [] s .answer) ≡ some r → with-list l (listing skip (l .numbers) (l .places) s) ≡ l
+unfolding listing
+list-leaves l s skip r e = by (verdict s) e
+  where
+    by : (v : Verdict) → listing-told (listed-by skip [] [] v .answer) ≡ some r → with-list l (listed-by skip (l .numbers) (l .places) v) ≡ l
+    by (refuse n p) h = refl
+    by (accept xs) h = let z : false ≡ true = cc in absurd (false≢true z)
+
+pub refused-leaves-all : (l : Lent) (c : Call) (r : Told) → refusal-of (l .table) c ≡ some r → left-by l c ≡ l
+refused-leaves-all l (load-text s) r e = ap (λ (b : List ℕ). lent-of b (l .numbers) (l .places)) (refused-call-leaves (l .table) (load-text s) r e)
+refused-leaves-all l (list-warnings s skip) r e = list-leaves l s skip r e
+refused-leaves-all l check-table r e = refl
+refused-leaves-all l (ask q) r e = refl
+refused-leaves-all l (ask-checked q) r e = refl
+refused-leaves-all l (find-input g letter) r e = refl
+refused-leaves-all l (find-input-checked g letter) r e = refl
+refused-leaves-all l (look-up-name g letter) r e = refl
+refused-leaves-all l (allow s) r e = refl
+refused-leaves-all l (calculate s rs) r e = refl
+refused-leaves-all l (hold s rs) r e = refl
