@@ -11,7 +11,7 @@ use Rattle.load_tokens.specs.Scratch.{Scratch-arrays}
 use Rattle.load_scan.specs.declared.Scanned.{Scanned}
 use Rattle.load_scan.specs.declared.Scanned.the-variants as scan
 
--- the arrays hold the tokens of a text
+-- the arrays hold the tokens of a text; where a token's text starts and ends is open but for the text between
 pub record Whole (s : List ℕ) (a : Arrays) (n : ℕ) : Type 0 where
   pub same : scanned s ≡ tokens (tokens-from s a 0 n)
   pub few : n ≤ length s
