@@ -119,11 +119,6 @@ fn other_case(random: &mut Random, name: &[u8]) -> Vec<u8> {
     name.iter().map(flip).collect()
 }
 
-/// A level or letter: a byte, or one whose low byte is a small number.
-fn wide(random: &mut Random) -> u32 {
-    if random.percent(50) { random.byte().into() } else { random.below(LETTERS) as u32 + (1 << random.below(32)) }
-}
-
 /// A question that owns its parts.
 #[derive(Debug)]
 pub struct Owned {
