@@ -2,20 +2,25 @@
 -- that they name; docs/REVIEW.md says which sentence of the papers each of those states.
 use mathlib.Core.Path.{_≡_}
 use mathlib.Core.Bool.{true, false}
-use mathlib.Core.List.{List, _++_}
-use mathlib.Core.Logic.{_↔_}
+use mathlib.Core.List.{List, [], _++_, map, List·Memᴰ}
+use mathlib.Core.Logic.{_↔_, _⊎_}
 use mathlib.Core.Option.{some}
 use Prim.Native.Nat.{ℕ, _≤_, _<_}
 use lib.ListN.{length, replicate}
 use Rattle.spec_rule.specs.declared.Access.the-variants as access
-use Rattle.spec_demand.specs.Vocabulary.{Token, Tagged, Reads, Reading, Tree, Parses, Gone-bad, tree-of, Question, reading-instead, rank, Refusal}
-use Rattle.spec_demand.specs.Vocabulary.{file-of, Text-reads, Acceptable, Refusable, refuse, accept, verdict, is-table, table-of, greatest-table}
-use Rattle.spec_demand.specs.Vocabulary.{written, without-room, load, look-up, number, access-in, trap-in, decide, Edition, access-later, Says-no}
-use Rattle.spec_demand.specs.Vocabulary.{answer-by-file, input-by-file, name-found, is-accepted, No-accepted-load, Proved-cases}
-use Rattle.spec_demand.specs.Vocabulary.{Every, Memory, Storage, bytes-in, Step, calls-of, Made, Nobody-else-writes}
-use Rattle.spec_demand.specs.laws.Cited.{one-parse, parses-sound, parses-complete, accepted-is, acceptable-is, refused-is, refusable-is, refused-leaves}
-use Rattle.spec_demand.specs.laws.Cited.{never-more, refused-grants-nothing, zeros-grant-nothing, laid-down, not-laid-down, stands}
-use Rattle.spec_demand.specs.laws.Cited.{answers-by-file, inputs-by-file, proved-cases}
+use Rattle.spec_rule.specs.declared.Decision.{Decision}
+use Rattle.spec_load.specs.declared.Loaded.the-variants as loaded
+use Rattle.spec_load.specs.declared.Listed.the-variants as listed
+use Rattle.spec_decision.specs.declared.Answer.the-variants.{Answered, NotTable, BadLevel}
+use Rattle.spec_decision.specs.declared.Found.the-variants.{NoInput}
+use Rattle.spec_demand.specs.Vocabulary.{Every, Token, Spelled, Ascending, Stands-in, greatest-letter, Tagged, Reading, Tree, Parses, tree-of, Gone-bad}
+use Rattle.spec_demand.specs.Vocabulary.{Question, reading-instead, rank, greatest-level, Refusal, refusal-number, place, file-of, Context, contexts, Applies}
+use Rattle.spec_demand.specs.Vocabulary.{Text-reads, Caused, Acceptable, Refusable, Warned, warnings, Given, Table, is-table, total-of, view, table-of}
+use Rattle.spec_demand.specs.Vocabulary.{greatest-table, written, without-room, load, warnings-written, listing, look-up, look-up-number, part-in}
+use Rattle.spec_demand.specs.Vocabulary.{number, access-in, trap-in, decide, By-table, By-file, Edition, access-later, Says-no, input-by-file, name-found}
+use Rattle.spec_demand.specs.Vocabulary.{Call, after-call, is-accepted, No-accepted-load, Told, refusal-of, Proved-cases}
+use Rattle.spec_demand.specs.Vocabulary.{Memory, Storage, bytes-in, Step, calls-of, Made, Nobody-else-writes}
+use Rattle.spec_demand.specs.laws.Cited as proved
 
 -- DEMAND 1. Total: no file, table, name, level or reading makes it index outside, trap or run on. A refusal carries a number, a load's
 -- also a place. A refused load leaves the table byte for byte, a refused question answers NONE without trap, a buffer of zeros grants nothing.
@@ -23,49 +28,109 @@ use Rattle.spec_demand.specs.laws.Cited.{answers-by-file, inputs-by-file
 -- Every definition is a function of all texts, bytes and questions: each has an answer. That the code gives this answer, in bounds and
 -- without fail, is what its contracts prove. The rest of the demand:
 pub record Total : Type 0 where
-  pub refused-load : (lent s : List ℕ) → is-accepted (load lent s .answer) ≡ false → load lent s .bytes ≡ lent
+  -- 1 to 10 at a place in the text or at its end; or 11 and the bytes needed, more than were lent
+  pub load-refusals :
+      (lent s : List ℕ) (r : Refusal) (p : ℕ) → load lent s .answer ≡ loaded.Refused r p
+      → ((1 ≤ refusal-number r) × (refusal-number r ≤ 10) × (p ≤ length s)) ⊎ ((refusal-number r ≡ 11) × (length lent < p) × (p ≤ greatest-table))
+  pub listing-refusals :
+      (skip : ℕ) (numbers places s : List ℕ) (r : Refusal) (p : ℕ) → listing skip numbers places s .answer ≡ listed.Refused r p
+      → (1 ≤ refusal-number r) × (refusal-number r ≤ 10) × (p ≤ length s)
+  pub question-refusals : (b : List ℕ) (q : Question) (n : ℕ) → number (decide b q) ≡ some n → (n ≡ 20) ⊎ (n ≡ 21)
+  pub look-up-refusals :
+      (b g : List ℕ) (letter n : ℕ) → look-up-number (look-up b g letter) ≡ some n → ((n ≡ 20) ⊎ (n ≡ 22)) × (part-in (look-up b g letter) b ≡ [])
+  -- every call of the library, a load among them, if it is refused
+  pub refused-call : (b : List ℕ) (c : Call) (t : Told) → refusal-of b c ≡ some t → after-call b c ≡ b
   pub refused-question :
       (b : List ℕ) (q : Question) (n : ℕ) → number (decide b q) ≡ some n → (access-in (decide b q) ≡ access.None) × (trap-in (decide b q) ≡ false)
   pub zeros : (n : ℕ) (q : Question) → (access-in (decide (replicate n 0) q) ≡ access.None) × (trap-in (decide (replicate n 0) q) ≡ false)
 
 pub demand-1 : Total
-demand-1 = record { refused-load = refused-leaves; refused-question = refused-grants-nothing; zeros = zeros-grant-nothing }
+demand-1 =
+    record {
+      load-refusals = proved.refused-load-numbered;
+      listing-refusals = proved.refused-listing-numbered;
+      question-refusals = proved.refused-question-numbered;
+      look-up-refusals = proved.refused-look-up-empty;
+      refused-call = proved.refused-call-leaves;
+      refused-question = proved.refused-grants-nothing;
+      zeros = proved.zeros-grant-nothing;
+    }
 
 -- DEMAND 2. Exact: a file is accepted exactly when the ACF grammar and the stated limits allow it, its table is the one laid down, and each
 -- question gets the access and trap flag of the EPICS rules, with silent, invalid and non-finite readings counted as bad.
 pub record Exact : Type 0 where
-  -- the grammar is 001's productions, no reader; the limits are the refusals' causes
-  pub accepted : (s : List ℕ) (xs : List Tagged) → (verdict s ≡ accept xs) ↔ Acceptable s xs
-  pub one-parse : (ts : List Token) (xs ys : List Tagged) → Reads ts xs → Reads ts ys → xs ≡ ys
-  -- a calculation is what the productions of 01's levels derive, no reader: tree-of finds its tree, in a file, a table and a rule
-  pub calculations : (s : List ℕ) (t : Tree) → (tree-of s ≡ some t) ↔ Parses s t
-  -- the lowest number that applies, at its earliest place; 4 at the first token that no file could have there
-  pub refused : (s : List ℕ) (r : Refusal) (p : ℕ) → (verdict s ≡ refuse r p) ↔ Refusable s r p
+  -- ---- Which files. Tokens are 01's sentences, the grammar is 001's productions, the limits are the refusals' causes; no reader stands in them.
+  pub either : (s : List ℕ) → ((xs : List Tagged) × Acceptable s xs) ⊎ ((r : Refusal) × (p : ℕ) × Refusable s r p)
+  pub never-both : {s : List ℕ} {xs : List Tagged} {r : Refusal} {p : ℕ} → Acceptable s xs → Refusable s r p → ⊥
+  pub one-meaning : {s : List ℕ} {xs ys : List Tagged} → Acceptable s xs → Acceptable s ys → xs ≡ ys
+  pub one-refusal : {s : List ℕ} {r q : Refusal} {p o : ℕ} → Refusable s r p → Refusable s q o → (r ≡ q) × (p ≡ o)
+  -- a token's text stands in the file at its place, and places ascend, so that "the earliest place" means that
+  pub places-ascend : {s : List ℕ} {ts : List Token} → Spelled s ts → Ascending (map (λ t. t .place) ts)
+  pub tokens-stand : {s : List ℕ} {ts : List Token} → Spelled s ts → Every (Stands-in s) ts
+  pub five-to-ten : {c : Context} {r : Refusal} → Applies c r → (5 ≤ refusal-number r) × (refusal-number r ≤ 10)
+  pub earliest :
+      {s : List ℕ} {xs : List Tagged} {r : Refusal} {p : ℕ} → Text-reads s xs → Caused xs r p
+      → Every (λ c. Applies c r → p ≤ place (c .here)) (contexts xs)
+  -- ---- What a load does with them.
+  pub refused : (lent s : List ℕ) (r : Refusal) (p : ℕ) → Refusable s r p → load lent s ≡ record { answer = loaded.Refused r p; bytes = lent }
   pub table : (lent s : List ℕ) (xs : List Tagged) → Acceptable s xs → length (table-of (file-of xs)) ≤ length lent → load lent s ≡ written lent xs
   pub no-room : (lent s : List ℕ) (xs : List Tagged) → Acceptable s xs → length lent < length (table-of (file-of xs)) → load lent s ≡ without-room lent xs
+  -- its warnings: those that 01 names and no others, by place; the list of them is refused as the load is
+  pub warned : (xs : List Tagged) (w : Warned) → List·Memᴰ w (warnings xs) ↔ Given xs xs w
+  pub by-place : {s : List ℕ} {xs : List Tagged} → Text-reads s xs → Ascending (map (λ w. w .place) (warnings xs))
+  pub list :
+      (skip : ℕ) (numbers places s : List ℕ) (xs : List Tagged) → Acceptable s xs → listing skip numbers places s ≡ warnings-written skip numbers places xs
+  pub refused-list :
+      (skip : ℕ) (numbers places s : List ℕ) (r : Refusal) (p : ℕ) → Refusable s r p
+      → listing skip numbers places s ≡ record { answer = listed.Refused r p; numbers = numbers; places = places }
+  -- ---- Which slices are tables; a calculation is what the productions of 01's levels derive.
+  pub tables : (b : List ℕ) → (is-table b ≡ true) ↔ Table b
+  pub calculations : (s : List ℕ) (t : Tree) → (tree-of s ≡ some t) ↔ Parses s t
+  pub greatest : (b : List ℕ) → Table b → total-of b ≤ greatest-table
   pub table-stands :
       (s : List ℕ) (xs : List Tagged) → Acceptable s xs → (rest : List ℕ)
-      → (is-table (table-of (file-of xs) ++ rest) ≡ true) × (length (table-of (file-of xs)) ≤ greatest-table)
-  pub answers :
-      (s : List ℕ) (xs : List Tagged) → Acceptable s xs → (rest : List ℕ) (q : Question)
-      → decide (table-of (file-of xs) ++ rest) q ≡ answer-by-file (file-of xs) q
-  -- and the look-up finds the name that the file gives an input
+      → Table (table-of (file-of xs) ++ rest) × (length (table-of (file-of xs)) ≤ greatest-table)
+  -- ---- Which answers: 20, then 21, then the decision of 001's three steps, by any table and by the file of a loaded one.
+  pub not-table : (b : List ℕ) (q : Question) → (decide b q ≡ NotTable) ↔ (Table b → ⊥)
+  pub bad-level : (b : List ℕ) (q : Question) → (decide b q ≡ BadLevel) ↔ (Table b × (greatest-level < q .level))
+  pub by-table : (b : List ℕ) (q : Question) (d : Decision) → (decide b q ≡ Answered d) ↔ (Table b × (q .level ≤ greatest-level) × By-table (view b) q d)
+  pub by-file :
+      (s : List ℕ) (xs : List Tagged) → Acceptable s xs → (rest : List ℕ) (q : Question) (d : Decision)
+      → (decide (table-of (file-of xs) ++ rest) q ≡ Answered d) ↔ ((q .level ≤ greatest-level) × By-file (file-of xs) q d)
+  -- the look-up finds the name that the file gives an input; no letter over 20 has one
   pub inputs :
       (s : List ℕ) (xs : List Tagged) → Acceptable s xs → (rest g : List ℕ) (letter : ℕ)
       → name-found (look-up (table-of (file-of xs) ++ rest) g letter) (table-of (file-of xs) ++ rest) ≡ input-by-file (file-of xs) g letter
+  pub letter-over : (b : List ℕ) → Table b → (g : List ℕ) (letter : ℕ) → greatest-letter < letter → look-up b g letter ≡ NoInput
 
 pub demand-2 : Exact
 demand-2 =
     record {
-      accepted = λ s xs. (accepted-is s xs, acceptable-is s xs);
-      one-parse = one-parse;
-      calculations = λ s t. (parses-sound s t, parses-complete s t);
-      refused = λ s r p. (refused-is s r p, refusable-is s r p);
-      table = laid-down;
-      no-room = not-laid-down;
-      table-stands = stands;
-      answers = answers-by-file;
-      inputs = inputs-by-file;
+      either = proved.acceptable-or-refusable;
+      never-both = proved.never-both;
+      one-meaning = proved.one-reading;
+      one-refusal = proved.one-refusal;
+      places-ascend = proved.places-ascend;
+      tokens-stand = proved.tokens-stand;
+      five-to-ten = proved.five-to-ten;
+      earliest = proved.earliest;
+      refused = proved.refused-load;
+      table = proved.laid-down;
+      no-room = proved.not-laid-down;
+      warned = proved.warned-exactly;
+      by-place = proved.warnings-by-place;
+      list = proved.accepted-listing;
+      refused-list = proved.refused-listing;
+      tables = proved.table-is;
+      calculations = λ s t. (proved.parses-sound s t, proved.parses-complete s t);
+      greatest = proved.table-total;
+      table-stands = proved.stands;
+      not-table = proved.not-table-is;
+      bad-level = proved.bad-level-is;
+      by-table = proved.by-table-is;
+      by-file = proved.by-file-is;
+      inputs = proved.inputs-by-file;
+      letter-over = proved.letter-over;
     }
 
 -- DEMAND 3. What we don't know never opens a door: from the text of a file to the access at every question, against every later edition,
@@ -88,8 +153,8 @@ Never-more-access =
     × (Says-no e q xs → access-in (decide (bytes-in now table) q) ≡ access-later e xs q)
 
 pub demand-3 : Never-more-access
-demand-3 = never-more
+demand-3 = proved.never-more
 
 -- 01, "Proved and run cases", the list that is proved
 pub cases : Proved-cases
-cases = proved-cases
+cases = proved.proved-cases

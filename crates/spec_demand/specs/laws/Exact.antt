@@ -13,7 +13,9 @@ use Rattle.spec_rule.specs.Question.{Question}
 use Rattle.spec_file.specs.Contents.{file-of}
 use Rattle.spec_file.specs.Acceptance.{Acceptable}
 use Rattle.spec_file.specs.laws.Theorem.{acceptable-is}
+use Rattle.spec_table.specs.Table.{Table}
 use Rattle.spec_table.specs.Check.{is-table}
+use Rattle.spec_table.specs.laws.Table.{table-is}
 use Rattle.spec_table.specs.Written.{table-of}
 use Rattle.spec_table.specs.Layout.{greatest-table}
 use Rattle.spec_table.specs.laws.Accepted.{fits}
@@ -51,8 +53,10 @@ not-laid-down lent s xs a l = rw (acceptable-is s xs a, lt-leb (length (table-of
 
 pub stands :
     (s : List ℕ) (xs : List Tagged) → Acceptable s xs → (rest : List ℕ)
-    → (is-table (table-of (file-of xs) ++ rest) ≡ true) × (length (table-of (file-of xs)) ≤ greatest-table)
-stands s xs a rest = let f = fits s xs (acceptable-is s xs a) in (is-a-table (file-of xs) f rest, table-length (file-of xs) f)
+    → Table (table-of (file-of xs) ++ rest) × (length (table-of (file-of xs)) ≤ greatest-table)
+stands s xs a rest =
+    let f = fits s xs (acceptable-is s xs a) in
+    (table-is (table-of (file-of xs) ++ rest) .0 (is-a-table (file-of xs) f rest), table-length (file-of xs) f)
 
 -- what an accepted load leaves is a table
 pub leaves-table : (lent s : List ℕ) → is-accepted (load lent s .answer) ≡ true → is-table (load lent s .bytes) ≡ true

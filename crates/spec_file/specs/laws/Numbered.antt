@@ -18,7 +18,8 @@ use Rattle.spec_file.specs.declared.Refusal.{Refusal}
 use Rattle.spec_file.specs.Limit.{most-braces}
 use Rattle.spec_file.specs.Contents.{place}
 use Rattle.spec_file.specs.Depth.{opened, too-deep}
-use Rattle.spec_file.specs.Refusal.{number, Context, contexts-after, contexts, Applies, long, many, again, level, word, calculation}
+use Rattle.spec_file.specs.Refusal.{number, Context, contexts-after, contexts}
+use Rattle.spec_file.specs.laws.Causes.{five-to-ten}
 use Rattle.spec_file.specs.Acceptance.{Text-reads, Caused, caused, Refusable, long-file, bad-byte, deep-brace, no-file, for-cause}
 
 -- ---- a token's place lies in the text
@@ -59,19 +60,11 @@ tagged-have : {P : Token → Type 0} (xs : List Tagged) → Every P (map (λ x. 
 tagged-have [] e = nil
 tagged-have (x ∷ xs) (cons h e) = cons h (tagged-have xs e)
 
-applies-numbered : {c : Context} {r : Refusal} → Applies c r → (1 ≤ number r) × (number r ≤ 10)
-applies-numbered (long h) = (omega arith, omega arith)
-applies-numbered (many h) = (omega arith, omega arith)
-applies-numbered (again h) = (omega arith, omega arith)
-applies-numbered (level h) = (omega arith, omega arith)
-applies-numbered (word h) = (omega arith, omega arith)
-applies-numbered (calculation h a) = (omega arith, omega arith)
-
 caused-within : (n : ℕ) {xs : List Tagged} {r : Refusal} {p : ℕ} → Every (λ x. place x ≤ n) xs → Caused xs r p → (1 ≤ number r) × (number r ≤ 10) × (p ≤ n)
 caused-within n {xs} e (caused earlier later i a w lowest) =
-    let h = applies-numbered a in
+    let h = five-to-ten a in
     let within : Every (λ c. place (c .here) ≤ n) (contexts xs) = contexts-have [] e in
-    (h .0, h .1, head-has (every-split earlier (rw i at within) .1))
+    (omega (arith, h .0), h .1, head-has (every-split earlier (rw i at within) .1))
 
 pub refusal-numbered : {s : List ℕ} {r : Refusal} {p : ℕ} → Refusable s r p → (1 ≤ number r) × (number r ≤ 10) × (p ≤ length s)
 refusal-numbered (long-file l) = (omega arith, omega arith, omega arith)
