@@ -36,6 +36,7 @@
  * parameters or answer change gets another name, so that a header does not link with a library that means something else. */
 #define HRAZVANUT_VERSION_MAJOR 2
 #define HRAZVANUT_VERSION_MINOR 0
+#define HRAZVANUT_VERSION (HRAZVANUT_VERSION_MAJOR * 1000 + HRAZVANUT_VERSION_MINOR)
 
 /* No file is longer, no table is longer, so many readings has a question: those of the letters A to U. */
 #define HRAZVANUT_FILE 16384

@@ -48,7 +48,8 @@ static void words(void)
     static const int known[] = {0, 1, 2, 3, 4, 5, 6, 7, 8, 9, 10, 11, 20, 21, 22};
     size_t k = 0;
     int n;
-    CHECK(HRAZVANUT_VERSION_MAJOR == 2 && HRAZVANUT_VERSION_MINOR == 0);
+    CHECK(HRAZVANUT_VERSION == 2000 && HRAZVANUT_VERSION / 1000 == HRAZVANUT_VERSION_MAJOR);
+    CHECK(hrazvanut_abi_bytes(NULL, 0) != NULL);
     CHECK(hrazvanut_string(NULL).length == 0);
     CHECK(hrazvanut_string("").length == 0);
     CHECK(is_text(hrazvanut_string("pc1"), "pc1"));

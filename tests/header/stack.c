@@ -122,7 +122,7 @@ static size_t used_by(struct task task)
 
 /* ---- the inputs */
 
-enum { INPUTS = 64 };
+enum { INPUTS = 96 };
 static struct input inputs[INPUTS];
 static size_t count;
 
@@ -192,6 +192,7 @@ static void make_inputs(void)
     for (size_t i = 0; i < sizeof parts / sizeof *parts; i++) {
         add(parts[i], repeated(parts[i], MEGABYTE), tables[i % 3]);
         add(parts[i], repeated(parts[i], HRAZVANUT_FILE), bytes_as_table(repeated(parts[i], MEGABYTE)));
+        add(parts[i], repeated(parts[i], 79), tables[i % 3]); /* no calculation is longer */
     }
     add("rules", hrazvanut_string(strdup(nested("-(", "A", ")"))), bytes_as_table(repeated("\1", MEGABYTE)));
     add("zeros", repeated("x", MEGABYTE), (struct hrazvanut_table){.start = calloc(1, MEGABYTE), .length = MEGABYTE});
