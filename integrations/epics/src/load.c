@@ -5,6 +5,7 @@
 #include <stdlib.h>
 #include <string.h>
 
+#include "plan.h"
 #include "preload.h"
 
 #include <libComVersion.h>
@@ -21,42 +22,41 @@
 /* A load at work. */
 static pthread_mutex_t loading = PTHREAD_MUTEX_INITIALIZER;
 static char text[HRAZVANUT_FILE + 1]; /* one byte more, so that a longer file is seen to be longer */
-static struct rules next;
-static char plan[RULES_PLAN];
+static uint8_t next[HRAZVANUT_TABLE];
+static char plan[PLAN];
 static const char *plan_rest;
 
 /* ---- what is said of a file */
 
-static const char *const refusals[] = {"", "file too long", "bad byte or unclosed quote", "too many open braces", "grammar",
-                                       "string too long", "table limit passed", "name or letter given again",
-                                       "level neither 0 nor 1", "permission or log word unknown", "calculation not allowed",
-                                       "table too short"};
-static const char *const warnings[] = {"", "unknown item, left out", "unknown predicate, its rule never passes",
-                                       "undefined group, it has no members"};
+static const char *what_stays(void) { return active() ? "The rules in force stay." : "Nobody has access."; }
 
-static unsigned line_of(unsigned place)
+static size_t line_of(size_t place)
 {
-    unsigned line = 1;
-    for (unsigned i = 0; i < place && i < sizeof text; i++)
+    size_t line = 1;
+    for (size_t i = 0; i < place && i < sizeof text; i++)
         line += text[i] == '\n';
     return line;
 }
 
-static void say_refusal(const char *from, struct remark r)
+static const char *warning_words(enum hrazvanut_warning_kind kind)
 {
-    say("%s: refusal %u at %u, line %u: %s. %s\n", from, r.number, r.place, line_of(r.place), refusals[r.number < 12 ? r.number : 0],
-        active() ? "The rules in force stay." : "Nobody has access.");
+    switch (kind) {
+    case HRAZVANUT_UNKNOWN_ITEM: return "unknown item, left out";
+    case HRAZVANUT_UNKNOWN_PREDICATE: return "unknown predicate, its rule never passes";
+    case HRAZVANUT_UNDEFINED_GROUP: return "undefined group, it has no members";
+    }
+    return "unknown warning";
 }
 
-static void say_warnings(const char *from, size_t length)
+static void say_warnings(const char *from, struct hrazvanut_text file)
 {
-    struct remark first[8];
-    size_t count = rules_warnings(text, length, first, 8);
-    for (size_t i = 0; i < 8 && i < count; i++)
-        say("%s: warning %u at %u, line %u: %s\n", from, first[i].number, first[i].place, line_of(first[i].place),
-            warnings[first[i].number < 4 ? first[i].number : 0]);
-    if (count > 8)
-        say("%s: and %zu more warnings\n", from, count - 8);
+    struct hrazvanut_warning first[8];
+    struct hrazvanut_listed listed = hrazvanut_list_warnings(file, 0, first, 8);
+    for (size_t i = 0; i < listed.written; i++)
+        say("%s: warning %u at %zu, line %zu: %s\n", from, (unsigned)first[i].kind, first[i].place, line_of(first[i].place),
+            warning_words(first[i].kind));
+    if (listed.count > listed.written)
+        say("%s: and %zu more warnings\n", from, listed.count - listed.written);
 }
 
 /* ---- clients during a load: EPICS moves the members to the new groups; their clients are set aside with their rights */
@@ -128,7 +128,7 @@ static long give_plan(void)
 
 static void put_in_force(void)
 {
-    in_force = next;
+    memcpy(in_force, next, sizeof in_force);
     by_address = &asCheckClientIP && asCheckClientIP;
 }
 
@@ -138,7 +138,7 @@ static long first_time(void)
     put_in_force();
     long status = give_plan();
     if (status)
-        memset(&in_force, 0, sizeof in_force);
+        memset(in_force, 0, sizeof in_force);
     else
         unhear();
     return status;
@@ -179,24 +179,25 @@ static int right_libcom(void)
     return strcmp(name, HRAZVANUT_LIBCOM) == 0;
 }
 
-/* Makes the rules and the plan of the text. 0 if they can be put in force. */
-static long prepare(const char *from, size_t length, const char *substitutions)
+/* Makes the table and the plan. 0 if they can be put in force. */
+static long prepare(const char *from, struct hrazvanut_text file, const char *substitutions)
 {
-    if (substitutions && memchr(text, '$', length)) {
-        say("%s: refused: macros are not replaced here; replace them before (msi). %s\n", from,
-            active() ? "The rules in force stay." : "Nobody has access.");
+    if (substitutions && memchr(text, '$', file.length)) {
+        say("%s: refused: macros are not replaced here; replace them before (msi). %s\n", from, what_stays());
         return S_asLib_badConfig;
     }
-    struct remark refusal = rules_load(&next, text, length);
-    if (refusal.number) {
-        say_refusal(from, refusal);
+    struct hrazvanut_room room = {next, sizeof next};
+    struct hrazvanut_loaded loaded = hrazvanut_load(file, room);
+    if (loaded.refusal) {
+        say("%s: refusal %u at %zu, line %zu: %s. %s\n", from, (unsigned)loaded.refusal, loaded.place, line_of(loaded.place),
+            hrazvanut_refusal_words(loaded.refusal), what_stays());
         return S_asLib_badConfig;
     }
-    int left_out = rules_plan(&next, LETTERS, plan);
+    int left_out = write_plan(loaded.table, LETTERS, plan);
     if (left_out < 0)
-        say("%s: refused: the name of a group has a byte that EPICS cannot hold\n", from);
+        say("%s: refused: the name of a group has a byte that EPICS cannot hold. %s\n", from, what_stays());
     if (left_out > 0)
-        say("%s: %d inputs that this EPICS cannot hear (letters past %c, or no name): their rules never pass\n", from, left_out,
+        say("%s: %d inputs that this EPICS cannot hear (a letter past %c, or no name): their rules never pass\n", from, left_out,
             'A' + LETTERS - 1);
     return left_out < 0 ? S_asLib_badConfig : 0;
 }
@@ -204,15 +205,16 @@ static long prepare(const char *from, size_t length, const char *substitutions)
 static long load(const char *from, size_t length, const char *substitutions)
 {
     struct job job = {.run = again};
-    long status = right_libcom() ? prepare(from, length, substitutions) : S_asLib_badConfig;
+    struct hrazvanut_text file = {text, length};
+    long status = right_libcom() ? prepare(from, file, substitutions) : S_asLib_badConfig;
     if (status)
         return status;
     status = active() ? locked(&job) : first_time();
     if (status) {
-        say("%s: refused: EPICS does not take its groups and inputs\n", from);
+        say("%s: refused: EPICS does not take its groups and inputs. %s\n", from, what_stays());
         return status;
     }
-    say_warnings(from, length);
+    say_warnings(from, file);
     if (by_address)
         say("%s: asCheckClientIP is set: a HAG must list addresses, a name in it matches nobody\n", from);
     say("%s: in force\n", from);
@@ -229,7 +231,7 @@ static long load_stream(const char *from, FILE *stream, const char *substitution
     size_t length = fread(text, 1, sizeof text, stream);
     long status = S_asLib_badConfig;
     if (ferror(stream))
-        say("%s: cannot be read: %s. %s\n", from, strerror(errno), active() ? "The rules in force stay." : "Nobody has access.");
+        say("%s: cannot be read: %s. %s\n", from, strerror(errno), what_stays());
     else
         status = load(from, length, substitutions);
     pthread_mutex_unlock(&loading);
@@ -245,8 +247,7 @@ EXPORT long asInitFile(const char *name, const char *substitutions)
 {
     FILE *stream = name ? fopen(name, "r") : NULL;
     if (!stream) {
-        say("%s: cannot be opened: %s. %s\n", name ? name : "no file name", strerror(errno),
-            active() ? "The rules in force stay." : "Nobody has access.");
+        say("%s: cannot be opened: %s. %s\n", name ? name : "no file", strerror(name ? errno : EINVAL), what_stays());
         return S_asLib_badConfig;
     }
     long status = load_stream(name, stream, substitutions);
@@ -271,15 +272,12 @@ EXPORT long asInitialize(ASINPUTFUNCPTR input)
     if (!input || pthread_mutex_trylock(&loading) != 0)
         return S_asLib_InitFailed;
     size_t length = 0;
-    int more = 1;
-    while (more > 0 && length < sizeof text) {
-        int room = (int)(sizeof text - length);
-        more = input(text + length, room);
-        if (more > room)
-            abort(); /* it wrote past what it was given */
+    int more;
+    do {
+        more = input(text + length, (int)(sizeof text - length));
         length += more > 0 ? (size_t)more : 0;
-    }
-    long status = load("asInitialize", length, NULL);
+    } while (more > 0 && length < sizeof text);
+    long status = length > sizeof text ? S_asLib_badConfig : load("asInitialize", length, NULL);
     pthread_mutex_unlock(&loading);
     return status;
 }

@@ -2,13 +2,12 @@
  * name in libCom. */
 #include <arpa/inet.h>
 #include <math.h>
-#include <string.h>
 
 #include "preload.h"
 
 #include <asCa.h>
 
-struct rules in_force;
+uint8_t in_force[HRAZVANUT_TABLE];
 int by_address;
 
 /* Set while EPICS has its links to the sensors down. */
@@ -16,7 +15,7 @@ static int deaf;
 
 /* ---- EPICS's lock */
 
-int active(void) { return &asActive && asActive && &pasbase && pasbase && asRegisterClientCallback; }
+int active(void) { return &asActive && &pasbase && asRegisterClientCallback && asActive; }
 
 static void run_job(ASCLIENTPVT posing, asClientStatus status)
 {
@@ -35,16 +34,14 @@ long locked(struct job *job)
 
 static int is_bad(const ASG *group, int letter) { return (group->inpBad >> letter & 1) != 0; }
 
-static struct readings heard_by(const ASG *group)
+/* What EPICS has heard for a group. A letter without input is left as it is: never heard. */
+static void hear(const ASG *group, struct hrazvanut_reading *readings)
 {
-    struct readings heard;
-    memset(&heard, 0, sizeof heard);
     for EACH (ASGINP, input, &group->inpList)
         if (!deaf && input->inpIndex < LETTERS) {
-            heard.states[input->inpIndex] = is_bad(group, input->inpIndex) ? HRAZVANUT_INVALID : HRAZVANUT_VALUE;
-            heard.values[input->inpIndex] = group->pavalue[input->inpIndex];
+            readings[input->inpIndex].state = is_bad(group, input->inpIndex) ? HRAZVANUT_INVALID : HRAZVANUT_VALUE;
+            readings[input->inpIndex].value = group->pavalue[input->inpIndex];
         }
-    return heard;
 }
 
 /* With asCheckClientIP a host is an address; a name is only what a client says of itself, and finds no HAG. */
@@ -61,10 +58,16 @@ static const char *believed(const char *host)
 static void judge(ASGCLIENT *client, asAccessRights before)
 {
     const ASG *group = client->pasgMember->pasg;
-    struct readings heard = heard_by(group);
-    struct right right = rules_ask(&in_force, group->name, client->user, believed(client->host), client->level, &heard);
-    client->access = right.access == 2 ? asWRITE : right.access == 1 ? asREAD : asNOACCESS;
-    client->trapMask = right.trap ? AS_TRAP_WRITE : 0;
+    struct hrazvanut_table table = {in_force, sizeof in_force};
+    struct hrazvanut_question question = {0};
+    question.group = hrazvanut_string(group->name);
+    question.user = hrazvanut_string(client->user);
+    question.host = hrazvanut_string(believed(client->host));
+    question.level = (uint32_t)client->level; /* no level but 0 and 1 becomes 0 or 1 */
+    hear(group, question.readings);
+    struct hrazvanut_answer answer = hrazvanut_decide(table, &question);
+    client->access = answer.access == HRAZVANUT_WRITE ? asWRITE : answer.access == HRAZVANUT_READ ? asREAD : asNOACCESS;
+    client->trapMask = answer.trap ? AS_TRAP_WRITE : 0;
     if (client->pcallback && client->access != before)
         client->pcallback(client, asClientCOAR);
 }
