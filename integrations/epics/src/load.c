@@ -28,7 +28,14 @@ static const char *plan_rest;
 
 /* ---- what is said of a file */
 
-static const char *what_stays(void) { return active() ? "The rules in force stay." : "Nobody has access."; }
+/* A table's first byte is not 0. */
+static const char *what_stays(void) { return in_force[0] ? "The rules in force stay." : "Nobody has access."; }
+
+static long refuse(const char *from, const char *why)
+{
+    say("%s: refused: %s. %s\n", from, why, what_stays());
+    return S_asLib_badConfig;
+}
 
 static size_t line_of(size_t place)
 {
@@ -165,27 +172,34 @@ static long again(struct job *job)
 
 /* ---- a load */
 
+/* Whether libCom is there, and the one that this was built for. */
 static int right_libcom(void)
 {
     Dl_info where = {0};
-    void *real = dlsym(RTLD_NEXT, "asInitialize");
-    if (!real || !dladdr(real, &where) || !where.dli_fname || !&asActive || !&pasbase || !asRegisterClientCallback) {
-        say("no libCom in reach. Nobody has access.\n");
+    if (!&asActive || !&pasbase || !asRegisterClientCallback || !REAL(asInitialize) || !dladdr((void *)REAL(asInitialize), &where)) {
+        say("no libCom in reach\n");
         return 0;
     }
     const char *slash = strrchr(where.dli_fname, '/'), *name = slash ? slash + 1 : where.dli_fname;
-    if (strcmp(name, HRAZVANUT_LIBCOM) != 0)
+    foreign = strcmp(name, HRAZVANUT_LIBCOM) != 0;
+    if (foreign)
         say("built for %s, and this is %s. Nobody has access.\n", HRAZVANUT_LIBCOM, name);
-    return strcmp(name, HRAZVANUT_LIBCOM) == 0;
+    return !foreign;
+}
+
+/* The first load was refused. EPICS grants everything while access security is not on; so it is put on, without a rule. */
+static void shut(void)
+{
+    strcpy(plan, "ASG(DEFAULT)\n");
+    if (!active() && REAL(asInitialize))
+        give_plan();
 }
 
 /* Makes the table and the plan. 0 if they can be put in force. */
 static long prepare(const char *from, struct hrazvanut_text file, const char *substitutions)
 {
-    if (substitutions && memchr(text, '$', file.length)) {
-        say("%s: refused: macros are not replaced here; replace them before (msi). %s\n", from, what_stays());
-        return S_asLib_badConfig;
-    }
+    if (substitutions && memchr(text, '$', file.length))
+        return refuse(from, "macros are not replaced here; replace them before (msi)");
     struct hrazvanut_room room = {next, sizeof next};
     struct hrazvanut_loaded loaded = hrazvanut_load(file, room);
     if (loaded.refusal) {
@@ -195,11 +209,11 @@ static long prepare(const char *from, struct hrazvanut_text file, const char *su
     }
     int left_out = write_plan(loaded.table, LETTERS, plan);
     if (left_out < 0)
-        say("%s: refused: the name of a group has a byte that EPICS cannot hold. %s\n", from, what_stays());
+        return refuse(from, "the name of a group has a byte that EPICS cannot hold");
     if (left_out > 0)
         say("%s: %d inputs that this EPICS cannot hear (a letter past %c, or no name): their rules never pass\n", from, left_out,
             'A' + LETTERS - 1);
-    return left_out < 0 ? S_asLib_badConfig : 0;
+    return 0;
 }
 
 static long load(const char *from, size_t length, const char *substitutions)
@@ -210,10 +224,8 @@ static long load(const char *from, size_t length, const char *substitutions)
     if (status)
         return status;
     status = active() ? locked(&job) : first_time();
-    if (status) {
-        say("%s: refused: EPICS does not take its groups and inputs. %s\n", from, what_stays());
-        return status;
-    }
+    if (status)
+        return refuse(from, status == S_asLib_noMemory ? "no memory" : "EPICS does not take its groups and inputs");
     say_warnings(from, file);
     if (by_address)
         say("%s: asCheckClientIP is set: a HAG must list addresses, a name in it matches nobody\n", from);
@@ -221,63 +233,68 @@ static long load(const char *from, size_t length, const char *substitutions)
     return 0;
 }
 
+/* ---- the four ways to load: one at a time, into `text` */
+
+static int begin(const char *from)
+{
+    int free = pthread_mutex_trylock(&loading) == 0;
+    if (!free)
+        say("%s: refused: another load is at work\n", from);
+    return free;
+}
+
+static long end(long status)
+{
+    if (status)
+        shut();
+    pthread_mutex_unlock(&loading);
+    return status;
+}
+
 /* Reads to the end, or to one byte past what a file may have. */
 static long load_stream(const char *from, FILE *stream, const char *substitutions)
 {
-    if (pthread_mutex_trylock(&loading) != 0) {
-        say("%s: refused: another load is at work\n", from);
-        return S_asLib_InitFailed;
-    }
     size_t length = fread(text, 1, sizeof text, stream);
-    long status = S_asLib_badConfig;
-    if (ferror(stream))
-        say("%s: cannot be read: %s. %s\n", from, strerror(errno), what_stays());
-    else
-        status = load(from, length, substitutions);
-    pthread_mutex_unlock(&loading);
-    return status;
+    return ferror(stream) ? refuse(from, strerror(errno)) : load(from, length, substitutions);
 }
 
 EXPORT long asInitFP(FILE *stream, const char *substitutions)
 {
-    return stream ? load_stream("asInitFP", stream, substitutions) : S_asLib_badConfig;
+    if (!begin("asInitFP"))
+        return S_asLib_InitFailed;
+    return end(stream ? load_stream("asInitFP", stream, substitutions) : refuse("asInitFP", "no stream"));
 }
 
 EXPORT long asInitFile(const char *name, const char *substitutions)
 {
-    FILE *stream = name ? fopen(name, "r") : NULL;
-    if (!stream) {
-        say("%s: cannot be opened: %s. %s\n", name ? name : "no file", strerror(name ? errno : EINVAL), what_stays());
-        return S_asLib_badConfig;
-    }
-    long status = load_stream(name, stream, substitutions);
-    fclose(stream);
-    return status;
+    const char *from = name ? name : "asInitFile";
+    if (!begin(from))
+        return S_asLib_InitFailed;
+    FILE *stream = fopen(name ? name : "", "r");
+    long status = stream ? load_stream(from, stream, substitutions) : refuse(from, strerror(errno));
+    if (stream)
+        fclose(stream);
+    return end(status);
 }
 
 EXPORT long asInitMem(const char *acf, const char *substitutions)
 {
-    long status = S_asLib_InitFailed;
-    if (!acf || pthread_mutex_trylock(&loading) != 0)
-        return status;
-    size_t length = strnlen(acf, sizeof text);
-    memcpy(text, acf, length);
-    status = load("asInitMem", length, substitutions);
-    pthread_mutex_unlock(&loading);
-    return status;
+    if (!begin("asInitMem"))
+        return S_asLib_InitFailed;
+    size_t length = acf ? strnlen(acf, sizeof text) : 0;
+    memcpy(text, acf ? acf : "", length);
+    return end(load("asInitMem", length, substitutions));
 }
 
 EXPORT long asInitialize(ASINPUTFUNCPTR input)
 {
-    if (!input || pthread_mutex_trylock(&loading) != 0)
+    if (!begin("asInitialize"))
         return S_asLib_InitFailed;
     size_t length = 0;
-    int more;
-    do {
+    int more = input ? 1 : -1;
+    while (more > 0 && length < sizeof text) {
         more = input(text + length, (int)(sizeof text - length));
         length += more > 0 ? (size_t)more : 0;
-    } while (more > 0 && length < sizeof text);
-    long status = length > sizeof text ? S_asLib_badConfig : load("asInitialize", length, NULL);
-    pthread_mutex_unlock(&loading);
-    return status;
+    }
+    return end(more < 0 || length > sizeof text ? refuse("asInitialize", "no input") : load("asInitialize", length, NULL));
 }

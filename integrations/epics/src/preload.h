@@ -30,11 +30,15 @@
 /* `for EACH (ASG, group, groups())` */
 #define EACH(type, item, list) (type *item = (type *)ellFirst(list); item; item = (type *)ellNext(&item->node))
 
+/* Set when libCom is not the one that this was built for: its lists may be laid out otherwise, so they are not looked at. EPICS then has
+ * no rule, and gives everybody NONE. */
+extern int foreign;
+
 /* EPICS's groups; none after asShutdown. */
 static inline const ELLLIST *groups(void)
 {
     static const ELLLIST none;
-    return pasbase ? (const ELLLIST *)&pasbase->asgList : &none;
+    return pasbase && !foreign ? (const ELLLIST *)&pasbase->asgList : &none;
 }
 
 /* Something to be done under EPICS's lock. EPICS calls a client's callback with its lock held, so a job poses as a client. */

@@ -9,6 +9,7 @@
 
 uint8_t in_force[HRAZVANUT_TABLE];
 int by_address;
+int foreign;
 
 /* Set while EPICS has its links to the sensors down. */
 static int deaf;
@@ -26,6 +27,8 @@ static void run_job(ASCLIENTPVT posing, asClientStatus status)
 
 long locked(struct job *job)
 {
+    if (active() && foreign)
+        return job->run(job);
     long status = active() ? asRegisterClientCallback(&job->posing, run_job) : S_asLib_asNotActive;
     return status ? status : job->status;
 }
@@ -112,6 +115,8 @@ void unhear(void)
 
 static long compute_group(struct job *job)
 {
+    if (foreign)
+        return 0;
     spoil_bad(job->group);
     judge_group(job->group);
     return 0;
@@ -174,14 +179,15 @@ EXPORT void asCaStart(void)
 
 static long compute_client(struct job *job)
 {
-    judge(*job->client, (*job->client)->access);
+    if (!foreign)
+        judge(*job->client, (*job->client)->access);
     return 0;
 }
 
 static long add_client(struct job *job)
 {
     long status = REAL(asAddClient)(job->client, *job->member, job->level, job->name, job->host);
-    if (!status)
+    if (!status && !foreign)
         judge(*job->client, asNOACCESS);
     return status;
 }
@@ -190,6 +196,8 @@ static long add_client(struct job *job)
 static long change_client(struct job *job)
 {
     ASGCLIENT *client = *job->client;
+    if (foreign)
+        return REAL(asChangeClient)(client, job->level, job->name, job->host);
     ASCLIENTCALLBACK callback = client->pcallback;
     asAccessRights before = client->access;
     client->pcallback = NULL;
@@ -223,7 +231,7 @@ static long move_member(struct job *job, long (*move)(ASMEMBERPVT *, const char 
 {
     ASGMEMBER *member = *job->member;
     ELLLIST clients;
-    if (!member)
+    if (!member || foreign)
         return move(job->member, job->name);
     clients = member->clientList;
     ellInit(&member->clientList);

@@ -74,7 +74,6 @@ static const char rules[] = "UAG(ops) {ann} HAG(desk) {PC1}\n"
 static void start(void)
 {
     check(asAddClient(&client, NULL, 0, "ann", host) == S_asLib_asNotActive, "no access security before a load");
-    check(asInitMem("ASG(", NULL) != 0 && !asActive, "a first load that is refused does not start it");
     check(asInitMem(rules, NULL) == 0 && asActive, "a load");
     asAddMember(&member, "");
     asAddClient(&client, member, 1, "ann", host);
@@ -83,6 +82,30 @@ static void start(void)
     half_an_event(1);
     asCompute(client);
     check(is(asREAD, 0), "its first event is half done: still unheard");
+}
+
+/* A server that goes on when its file is refused. */
+static void refused_first(void)
+{
+    check(asInitMem("ASG(", NULL) != 0 && asActive && visitor("low", 0, "ann", host) == asNOACCESS, "a first load is refused: NONE");
+    check(asInitMem("ASG(", NULL) != 0 && visitor("low", 0, "ann", host) == asNOACCESS, "and again");
+    check(asInitMem(rules, NULL) == 0 && visitor("low", 0, "ann", host) == asWRITE, "then a load");
+}
+
+/* With a preload for another libCom. */
+static void other_libcom(void)
+{
+    check(asInitMem(rules, NULL) != 0 && asInitMem(rules, NULL) != 0, "a load is refused, and refused again");
+    check(visitor("low", 0, "ann", host) == asNOACCESS, "NONE for everybody");
+    asAddMember(&member, "low");
+    asAddClient(&client, member, 0, "ann", host);
+    asRegisterClientCallback(client, count);
+    asChangeClient(client, 0, "bob", host);
+    asChangeGroup(&member, "desk");
+    asCompute(client);
+    asComputeAsg(member->pasg);
+    asComputeAllAsg();
+    check(is(asNOACCESS, 1), "whatever is done");
 }
 
 static void sensors(void)
@@ -240,16 +263,23 @@ static void threads(void)
     check(wrong[0] == 0 && wrong[1] == 0, "loads, events and clients from three threads");
 }
 
-int main(void)
+int main(int count_of_words, char **words)
 {
+    const char *mode = count_of_words > 1 ? words[1] : "";
     eltc(0);
-    start();
-    sensors();
-    clients();
-    field_written();
-    loads();
-    addresses();
-    threads();
+    if (!strcmp(mode, "other")) {
+        other_libcom();
+    } else if (!strcmp(mode, "refused")) {
+        refused_first();
+    } else {
+        start();
+        sensors();
+        clients();
+        field_written();
+        loads();
+        addresses();
+        threads();
+    }
     printf("%d checks, %d failed\n", checks, failed);
     return failed;
 }
