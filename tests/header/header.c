@@ -49,6 +49,7 @@ static void words(void)
     size_t k = 0;
     int n;
     CHECK(HRAZVANUT_VERSION_MAJOR == 2 && HRAZVANUT_VERSION_MINOR == 0);
+    CHECK(hrazvanut_abi_bytes(NULL, 0) != NULL);
     CHECK(hrazvanut_string(NULL).length == 0);
     CHECK(hrazvanut_string("").length == 0);
     CHECK(is_text(hrazvanut_string("pc1"), "pc1"));

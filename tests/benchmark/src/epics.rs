@@ -105,10 +105,10 @@ pub struct Asked {
 
 impl Asked {
     /// A and B read these values.
-    pub fn new(group: &str, user: &str, host: &str, level: u8, values: [f64; 2]) -> Asked {
+    pub fn new(group: &str, user: &str, host: &str, level: u32, values: [f64; 2]) -> Asked {
         let text = |s: &str| CString::new(s).expect("no NUL in a sample's names");
         let host = text(host).into_bytes_with_nul();
-        Asked { group: text(group), user: text(user), host, level: level.into(), values }
+        Asked { group: text(group), user: text(user), host, level: level as c_int, values }
     }
 }
 

@@ -57,7 +57,7 @@ impl Prepared<'_> {
     }
 
     fn epics_asked(&self) -> Asked {
-        Asked::new(&self.sample.group, &self.sample.user, &self.sample.host, LEVEL as u8, VALUES)
+        Asked::new(&self.sample.group, &self.sample.user, &self.sample.host, LEVEL, VALUES)
     }
 
     fn epics_text(&self) -> CString {
