@@ -1,4 +1,5 @@
 -- The look-up of an input's process variable name. 01, "The question".
+use mathlib.Core.Path.{_≡_}
 use mathlib.Core.Bool.{cond}
 use mathlib.Core.List.{List, []}
 use mathlib.Core.Option.{Option, none, some}
@@ -7,6 +8,8 @@ use lib.Dec.{eqb}
 use Rattle.spec_lists.specs.Select.{first}
 use Rattle.spec_lists.specs.Runs.{part}
 use Rattle.spec_rule.specs.Answering.{answering}
+use Rattle.spec_rule.specs.Privilege.{First-such, Answers}
+use Rattle.spec_file.specs.Contents.{Link, Asg, File}
 use Rattle.spec_file.specs.Limit.{access-groups, inputs}
 use Rattle.spec_table.specs.Layout.{Content}
 use Rattle.spec_table.specs.View.{view, strings-extent}
@@ -45,3 +48,11 @@ look-up b g letter =
     cond (is-table b)
     (named-part b (input-of (view b) letter (answering (name (view b) access-groups) g (view b .records access-groups))))
     NotTable
+
+-- the same by a file: n is the name of the letter's first input in the group that answers for g
+pub record Names-input (f : File) (g : List ℕ) (letter : ℕ) (n : List ℕ) : Type 0 where
+  pub group : Asg
+  pub searched : Answers (λ a. a .name) g (f .asgs) (some group)
+  pub link : Link
+  pub first : First-such (λ l. l .letter ≡ letter) (group .inputs) link
+  pub named : link .name ≡ n

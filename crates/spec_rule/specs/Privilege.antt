@@ -67,6 +67,7 @@ pub record Passes (q : Question) (r : Rule) : Type 0 where
   -- "If UAG is defined, the user must belong to one of the specified UAGs. If UAG is not defined all users are accepted."
   pub user : Belongs (q .user) (r .uags)
   -- "If HAG is defined, the user's host must belong to one one of the HAGs. If HAG is not defined all hosts are accepted."
+  -- 01: "its ASCII letters lowered first, stored bytes as they are"
   pub host : Belongs (lowered (q .host)) (r .hags)
   -- "If CALC is specified, the calculation must yield the value 1, i.e. TRUE."
   pub calculation : (s : List ℕ) → r .calculation ≡ some s → Yields-true (q .readings) s

@@ -5,6 +5,7 @@
 #include <stdlib.h>
 #include <string.h>
 
+#include "plan.h"
 #include "preload.h"
 
 #include <libComVersion.h>
@@ -21,42 +22,48 @@
 /* A load at work. */
 static pthread_mutex_t loading = PTHREAD_MUTEX_INITIALIZER;
 static char text[HRAZVANUT_FILE + 1]; /* one byte more, so that a longer file is seen to be longer */
-static struct rules next;
-static char plan[RULES_PLAN];
+static uint8_t next[HRAZVANUT_TABLE];
+static char plan[PLAN];
 static const char *plan_rest;
 
 /* ---- what is said of a file */
 
-static const char *const refusals[] = {"", "file too long", "bad byte or unclosed quote", "too many open braces", "grammar",
-                                       "string too long", "table limit passed", "name or letter given again",
-                                       "level neither 0 nor 1", "permission or log word unknown", "calculation not allowed",
-                                       "table too short"};
-static const char *const warnings[] = {"", "unknown item, left out", "unknown predicate, its rule never passes",
-                                       "undefined group, it has no members"};
+/* A table's first byte is not 0. */
+static const char *what_stays(void) { return in_force[0] ? "The rules in force stay." : "Nobody has access."; }
 
-static unsigned line_of(unsigned place)
+static long refuse(const char *from, const char *why)
 {
-    unsigned line = 1;
-    for (unsigned i = 0; i < place && i < sizeof text; i++)
+    say("%s: refused: %s. %s\n", from, why, what_stays());
+    return S_asLib_badConfig;
+}
+
+static size_t line_of(size_t place)
+{
+    size_t line = 1;
+    for (size_t i = 0; i < place && i < sizeof text; i++)
         line += text[i] == '\n';
     return line;
 }
 
-static void say_refusal(const char *from, struct remark r)
+static const char *warning_words(enum hrazvanut_warning_kind kind)
 {
-    say("%s: refusal %u at %u, line %u: %s. %s\n", from, r.number, r.place, line_of(r.place), refusals[r.number < 12 ? r.number : 0],
-        active() ? "The rules in force stay." : "Nobody has access.");
+    switch (kind) {
+    case HRAZVANUT_UNKNOWN_ITEM: return "unknown item, left out";
+    case HRAZVANUT_UNKNOWN_PREDICATE: return "unknown predicate, its rule never passes";
+    case HRAZVANUT_UNDEFINED_GROUP: return "undefined group, it has no members";
+    }
+    return "unknown warning";
 }
 
-static void say_warnings(const char *from, size_t length)
+static void say_warnings(const char *from, struct hrazvanut_text file)
 {
-    struct remark first[8];
-    size_t count = rules_warnings(text, length, first, 8);
-    for (size_t i = 0; i < 8 && i < count; i++)
-        say("%s: warning %u at %u, line %u: %s\n", from, first[i].number, first[i].place, line_of(first[i].place),
-            warnings[first[i].number < 4 ? first[i].number : 0]);
-    if (count > 8)
-        say("%s: and %zu more warnings\n", from, count - 8);
+    struct hrazvanut_warning first[8];
+    struct hrazvanut_listed listed = hrazvanut_list_warnings(file, 0, first, 8);
+    for (size_t i = 0; i < listed.written; i++)
+        say("%s: warning %u at %zu, line %zu: %s\n", from, (unsigned)first[i].kind, first[i].place, line_of(first[i].place),
+            warning_words(first[i].kind));
+    if (listed.count > listed.written)
+        say("%s: and %zu more warnings\n", from, listed.count - listed.written);
 }
 
 /* ---- clients during a load: EPICS moves the members to the new groups; their clients are set aside with their rights */
@@ -128,7 +135,7 @@ static long give_plan(void)
 
 static void put_in_force(void)
 {
-    in_force = next;
+    memcpy(in_force, next, sizeof in_force);
     by_address = &asCheckClientIP && asCheckClientIP;
 }
 
@@ -138,7 +145,7 @@ static long first_time(void)
     put_in_force();
     long status = give_plan();
     if (status)
-        memset(&in_force, 0, sizeof in_force);
+        memset(in_force, 0, sizeof in_force);
     else
         unhear();
     return status;
@@ -165,121 +172,129 @@ static long again(struct job *job)
 
 /* ---- a load */
 
+/* Whether libCom is there, and the one that this was built for. */
 static int right_libcom(void)
 {
     Dl_info where = {0};
-    void *real = dlsym(RTLD_NEXT, "asInitialize");
-    if (!real || !dladdr(real, &where) || !where.dli_fname || !&asActive || !&pasbase || !asRegisterClientCallback) {
-        say("no libCom in reach. Nobody has access.\n");
+    if (!&asActive || !&pasbase || !asRegisterClientCallback || !REAL(asInitialize) || !dladdr((void *)REAL(asInitialize), &where)) {
+        say("no libCom in reach\n");
         return 0;
     }
     const char *slash = strrchr(where.dli_fname, '/'), *name = slash ? slash + 1 : where.dli_fname;
-    if (strcmp(name, HRAZVANUT_LIBCOM) != 0)
+    foreign = strcmp(name, HRAZVANUT_LIBCOM) != 0;
+    if (foreign)
         say("built for %s, and this is %s. Nobody has access.\n", HRAZVANUT_LIBCOM, name);
-    return strcmp(name, HRAZVANUT_LIBCOM) == 0;
+    return !foreign;
 }
 
-/* Makes the rules and the plan of the text. 0 if they can be put in force. */
-static long prepare(const char *from, size_t length, const char *substitutions)
+/* The first load was refused. EPICS grants everything while access security is not on; so it is put on, without a rule. */
+static void shut(void)
 {
-    if (substitutions && memchr(text, '$', length)) {
-        say("%s: refused: macros are not replaced here; replace them before (msi). %s\n", from,
-            active() ? "The rules in force stay." : "Nobody has access.");
+    strcpy(plan, "ASG(DEFAULT)\n");
+    if (!active() && REAL(asInitialize))
+        give_plan();
+}
+
+/* Makes the table and the plan. 0 if they can be put in force. */
+static long prepare(const char *from, struct hrazvanut_text file, const char *substitutions)
+{
+    if (substitutions && memchr(text, '$', file.length))
+        return refuse(from, "macros are not replaced here; replace them before (msi)");
+    struct hrazvanut_room room = {next, sizeof next};
+    struct hrazvanut_loaded loaded = hrazvanut_load(file, room);
+    if (loaded.refusal) {
+        say("%s: refusal %u at %zu, line %zu: %s. %s\n", from, (unsigned)loaded.refusal, loaded.place, line_of(loaded.place),
+            hrazvanut_refusal_words(loaded.refusal), what_stays());
         return S_asLib_badConfig;
     }
-    struct remark refusal = rules_load(&next, text, length);
-    if (refusal.number) {
-        say_refusal(from, refusal);
-        return S_asLib_badConfig;
-    }
-    int left_out = rules_plan(&next, LETTERS, plan);
+    int left_out = write_plan(loaded.table, LETTERS, plan);
     if (left_out < 0)
-        say("%s: refused: the name of a group has a byte that EPICS cannot hold\n", from);
+        return refuse(from, "the name of a group has a byte that EPICS cannot hold");
     if (left_out > 0)
-        say("%s: %d inputs that this EPICS cannot hear (letters past %c, or no name): their rules never pass\n", from, left_out,
+        say("%s: %d inputs that this EPICS cannot hear (a letter past %c, or no name): their rules never pass\n", from, left_out,
             'A' + LETTERS - 1);
-    return left_out < 0 ? S_asLib_badConfig : 0;
+    return 0;
 }
 
 static long load(const char *from, size_t length, const char *substitutions)
 {
     struct job job = {.run = again};
-    long status = right_libcom() ? prepare(from, length, substitutions) : S_asLib_badConfig;
+    struct hrazvanut_text file = {text, length};
+    long status = right_libcom() ? prepare(from, file, substitutions) : S_asLib_badConfig;
     if (status)
         return status;
     status = active() ? locked(&job) : first_time();
-    if (status) {
-        say("%s: refused: EPICS does not take its groups and inputs\n", from);
-        return status;
-    }
-    say_warnings(from, length);
+    if (status)
+        return refuse(from, status == S_asLib_noMemory ? "no memory" : "EPICS does not take its groups and inputs");
+    say_warnings(from, file);
     if (by_address)
         say("%s: asCheckClientIP is set: a HAG must list addresses, a name in it matches nobody\n", from);
     say("%s: in force\n", from);
     return 0;
 }
 
+/* ---- the four ways to load: one at a time, into `text` */
+
+static int begin(const char *from)
+{
+    int free = pthread_mutex_trylock(&loading) == 0;
+    if (!free)
+        say("%s: refused: another load is at work\n", from);
+    return free;
+}
+
+static long end(long status)
+{
+    if (status)
+        shut();
+    pthread_mutex_unlock(&loading);
+    return status;
+}
+
 /* Reads to the end, or to one byte past what a file may have. */
 static long load_stream(const char *from, FILE *stream, const char *substitutions)
 {
-    if (pthread_mutex_trylock(&loading) != 0) {
-        say("%s: refused: another load is at work\n", from);
-        return S_asLib_InitFailed;
-    }
     size_t length = fread(text, 1, sizeof text, stream);
-    long status = S_asLib_badConfig;
-    if (ferror(stream))
-        say("%s: cannot be read: %s. %s\n", from, strerror(errno), active() ? "The rules in force stay." : "Nobody has access.");
-    else
-        status = load(from, length, substitutions);
-    pthread_mutex_unlock(&loading);
-    return status;
+    return ferror(stream) ? refuse(from, strerror(errno)) : load(from, length, substitutions);
 }
 
 EXPORT long asInitFP(FILE *stream, const char *substitutions)
 {
-    return stream ? load_stream("asInitFP", stream, substitutions) : S_asLib_badConfig;
+    if (!begin("asInitFP"))
+        return S_asLib_InitFailed;
+    return end(stream ? load_stream("asInitFP", stream, substitutions) : refuse("asInitFP", "no stream"));
 }
 
 EXPORT long asInitFile(const char *name, const char *substitutions)
 {
-    FILE *stream = name ? fopen(name, "r") : NULL;
-    if (!stream) {
-        say("%s: cannot be opened: %s. %s\n", name ? name : "no file name", strerror(errno),
-            active() ? "The rules in force stay." : "Nobody has access.");
-        return S_asLib_badConfig;
-    }
-    long status = load_stream(name, stream, substitutions);
-    fclose(stream);
-    return status;
+    const char *from = name ? name : "asInitFile";
+    if (!begin(from))
+        return S_asLib_InitFailed;
+    FILE *stream = fopen(name ? name : "", "r");
+    long status = stream ? load_stream(from, stream, substitutions) : refuse(from, strerror(errno));
+    if (stream)
+        fclose(stream);
+    return end(status);
 }
 
 EXPORT long asInitMem(const char *acf, const char *substitutions)
 {
-    long status = S_asLib_InitFailed;
-    if (!acf || pthread_mutex_trylock(&loading) != 0)
-        return status;
-    size_t length = strnlen(acf, sizeof text);
-    memcpy(text, acf, length);
-    status = load("asInitMem", length, substitutions);
-    pthread_mutex_unlock(&loading);
-    return status;
+    if (!begin("asInitMem"))
+        return S_asLib_InitFailed;
+    size_t length = acf ? strnlen(acf, sizeof text) : 0;
+    memcpy(text, acf ? acf : "", length);
+    return end(load("asInitMem", length, substitutions));
 }
 
 EXPORT long asInitialize(ASINPUTFUNCPTR input)
 {
-    if (!input || pthread_mutex_trylock(&loading) != 0)
+    if (!begin("asInitialize"))
         return S_asLib_InitFailed;
     size_t length = 0;
-    int more = 1;
+    int more = input ? 1 : -1;
     while (more > 0 && length < sizeof text) {
-        int room = (int)(sizeof text - length);
-        more = input(text + length, room);
-        if (more > room)
-            abort(); /* it wrote past what it was given */
+        more = input(text + length, (int)(sizeof text - length));
         length += more > 0 ? (size_t)more : 0;
     }
-    long status = load("asInitialize", length, NULL);
-    pthread_mutex_unlock(&loading);
-    return status;
+    return end(more < 0 || length > sizeof text ? refuse("asInitialize", "no input") : load("asInitialize", length, NULL));
 }

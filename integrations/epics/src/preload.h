@@ -8,7 +8,7 @@
 #include <asLib.h>
 #include <postfix.h>
 
-#include "rules.h"
+#include "hrazvanut.h"
 
 #define EXPORT __attribute__((visibility("default")))
 
@@ -30,7 +30,16 @@
 /* `for EACH (ASG, group, groups())` */
 #define EACH(type, item, list) (type *item = (type *)ellFirst(list); item; item = (type *)ellNext(&item->node))
 
-static inline ELLLIST *groups(void) { return (ELLLIST *)&pasbase->asgList; }
+/* Set when libCom is not the one that this was built for: its lists may be laid out otherwise, so they are not looked at. EPICS then has
+ * no rule, and gives everybody NONE. */
+extern int foreign;
+
+/* EPICS's groups; none after asShutdown. */
+static inline const ELLLIST *groups(void)
+{
+    static const ELLLIST none;
+    return pasbase && !foreign ? (const ELLLIST *)&pasbase->asgList : &none;
+}
 
 /* Something to be done under EPICS's lock. EPICS calls a client's callback with its lock held, so a job poses as a client. */
 struct job {
@@ -51,8 +60,9 @@ long locked(struct job *job);
 /* Whether EPICS's access security is on. */
 int active(void);
 
-/* The rules in force, and whether their load found asCheckClientIP set. Written under the lock, or before there is one. */
-extern struct rules in_force;
+/* The table in force, and whether its load found asCheckClientIP set. Written under the lock, or before there is one. All zero is no
+ * table: every question then gets NONE. */
+extern uint8_t in_force[HRAZVANUT_TABLE];
 extern int by_address;
 
 /* No sensor has been heard. After a load EPICS has all inputs good, at 0. */

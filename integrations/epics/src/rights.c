@@ -2,21 +2,21 @@
  * name in libCom. */
 #include <arpa/inet.h>
 #include <math.h>
-#include <string.h>
 
 #include "preload.h"
 
 #include <asCa.h>
 
-struct rules in_force;
+uint8_t in_force[HRAZVANUT_TABLE];
 int by_address;
+int foreign;
 
 /* Set while EPICS has its links to the sensors down. */
 static int deaf;
 
 /* ---- EPICS's lock */
 
-int active(void) { return &asActive && asActive && &pasbase && pasbase && asRegisterClientCallback; }
+int active(void) { return &asActive && &pasbase && asRegisterClientCallback && asActive; }
 
 static void run_job(ASCLIENTPVT posing, asClientStatus status)
 {
@@ -27,6 +27,8 @@ static void run_job(ASCLIENTPVT posing, asClientStatus status)
 
 long locked(struct job *job)
 {
+    if (active() && foreign)
+        return job->run(job);
     long status = active() ? asRegisterClientCallback(&job->posing, run_job) : S_asLib_asNotActive;
     return status ? status : job->status;
 }
@@ -35,16 +37,14 @@ long locked(struct job *job)
 
 static int is_bad(const ASG *group, int letter) { return (group->inpBad >> letter & 1) != 0; }
 
-static struct readings heard_by(const ASG *group)
+/* What EPICS has heard for a group. A letter without input is left as it is: never heard. */
+static void hear(const ASG *group, struct hrazvanut_reading *readings)
 {
-    struct readings heard;
-    memset(&heard, 0, sizeof heard);
     for EACH (ASGINP, input, &group->inpList)
         if (!deaf && input->inpIndex < LETTERS) {
-            heard.states[input->inpIndex] = is_bad(group, input->inpIndex) ? HRAZVANUT_INVALID : HRAZVANUT_VALUE;
-            heard.values[input->inpIndex] = group->pavalue[input->inpIndex];
+            readings[input->inpIndex].state = is_bad(group, input->inpIndex) ? HRAZVANUT_INVALID : HRAZVANUT_VALUE;
+            readings[input->inpIndex].value = group->pavalue[input->inpIndex];
         }
-    return heard;
 }
 
 /* With asCheckClientIP a host is an address; a name is only what a client says of itself, and finds no HAG. */
@@ -61,10 +61,16 @@ static const char *believed(const char *host)
 static void judge(ASGCLIENT *client, asAccessRights before)
 {
     const ASG *group = client->pasgMember->pasg;
-    struct readings heard = heard_by(group);
-    struct right right = rules_ask(&in_force, group->name, client->user, believed(client->host), client->level, &heard);
-    client->access = right.access == 2 ? asWRITE : right.access == 1 ? asREAD : asNOACCESS;
-    client->trapMask = right.trap ? AS_TRAP_WRITE : 0;
+    struct hrazvanut_table table = {in_force, sizeof in_force};
+    struct hrazvanut_question question = {0};
+    question.group = hrazvanut_string(group->name);
+    question.user = hrazvanut_string(client->user);
+    question.host = hrazvanut_string(believed(client->host));
+    question.level = (uint32_t)client->level; /* no level but 0 and 1 becomes 0 or 1 */
+    hear(group, question.readings);
+    struct hrazvanut_answer answer = hrazvanut_decide(table, &question);
+    client->access = answer.access == HRAZVANUT_WRITE ? asWRITE : answer.access == HRAZVANUT_READ ? asREAD : asNOACCESS;
+    client->trapMask = answer.trap ? AS_TRAP_WRITE : 0;
     if (client->pcallback && client->access != before)
         client->pcallback(client, asClientCOAR);
 }
@@ -109,6 +115,8 @@ void unhear(void)
 
 static long compute_group(struct job *job)
 {
+    if (foreign)
+        return 0;
     spoil_bad(job->group);
     judge_group(job->group);
     return 0;
@@ -171,14 +179,15 @@ EXPORT void asCaStart(void)
 
 static long compute_client(struct job *job)
 {
-    judge(*job->client, (*job->client)->access);
+    if (!foreign)
+        judge(*job->client, (*job->client)->access);
     return 0;
 }
 
 static long add_client(struct job *job)
 {
     long status = REAL(asAddClient)(job->client, *job->member, job->level, job->name, job->host);
-    if (!status)
+    if (!status && !foreign)
         judge(*job->client, asNOACCESS);
     return status;
 }
@@ -187,6 +196,8 @@ static long add_client(struct job *job)
 static long change_client(struct job *job)
 {
     ASGCLIENT *client = *job->client;
+    if (foreign)
+        return REAL(asChangeClient)(client, job->level, job->name, job->host);
     ASCLIENTCALLBACK callback = client->pcallback;
     asAccessRights before = client->access;
     client->pcallback = NULL;
@@ -220,7 +231,7 @@ static long move_member(struct job *job, long (*move)(ASMEMBERPVT *, const char 
 {
     ASGMEMBER *member = *job->member;
     ELLLIST clients;
-    if (!member)
+    if (!member || foreign)
         return move(job->member, job->name);
     clients = member->clientList;
     ellInit(&member->clientList);

@@ -74,7 +74,6 @@ static const char rules[] = "UAG(ops) {ann} HAG(desk) {PC1}\n"
 static void start(void)
 {
     check(asAddClient(&client, NULL, 0, "ann", host) == S_asLib_asNotActive, "no access security before a load");
-    check(asInitMem("ASG(", NULL) != 0 && !asActive, "a first load that is refused does not start it");
     check(asInitMem(rules, NULL) == 0 && asActive, "a load");
     asAddMember(&member, "");
     asAddClient(&client, member, 1, "ann", host);
@@ -83,6 +82,30 @@ static void start(void)
     half_an_event(1);
     asCompute(client);
     check(is(asREAD, 0), "its first event is half done: still unheard");
+}
+
+/* A server that goes on when its file is refused. */
+static void refused_first(void)
+{
+    check(asInitMem("ASG(", NULL) != 0 && asActive && visitor("low", 0, "ann", host) == asNOACCESS, "a first load is refused: NONE");
+    check(asInitMem("ASG(", NULL) != 0 && visitor("low", 0, "ann", host) == asNOACCESS, "and again");
+    check(asInitMem(rules, NULL) == 0 && visitor("low", 0, "ann", host) == asWRITE, "then a load");
+}
+
+/* With a preload for another libCom. */
+static void other_libcom(void)
+{
+    check(asInitMem(rules, NULL) != 0 && asInitMem(rules, NULL) != 0, "a load is refused, and refused again");
+    check(visitor("low", 0, "ann", host) == asNOACCESS, "NONE for everybody");
+    asAddMember(&member, "low");
+    asAddClient(&client, member, 0, "ann", host);
+    asRegisterClientCallback(client, count);
+    asChangeClient(client, 0, "bob", host);
+    asChangeGroup(&member, "desk");
+    asCompute(client);
+    asComputeAsg(member->pasg);
+    asComputeAllAsg();
+    check(is(asNOACCESS, 1), "whatever is done");
 }
 
 static void sensors(void)
@@ -106,6 +129,11 @@ static void sensors(void)
     check(is(asREAD, 0), "good again, but half done: the value before INVALID does not count");
     event(1, 0.02);
     check(is(asWRITE, 1), "0.02 is write again");
+    half_an_event(0);
+    asCompute(client);
+    check(is(asREAD, 1), "bad, before EPICS says so: read");
+    event(1, 0.02);
+    told = 0;
 }
 
 static void clients(void)
@@ -130,6 +158,23 @@ static void clients(void)
     check(is(asWRITE, 1), "an undefined group is DEFAULT");
 }
 
+/* EPICS has the name of a record's group where the record has it: it is written first, and the member moved after. */
+static void field_written(void)
+{
+    static char field[8] = "low";
+    ASMEMBERPVT m = NULL;
+    ASCLIENTPVT c = NULL;
+    asAddMember(&m, field);
+    asAddClient(&c, m, 1, "ann", host);
+    strcpy(field, "desk");
+    asCompute(c);
+    check(c->access == asNOACCESS, "an ASG field that is being written: still the old group");
+    asChangeGroup(&m, field);
+    check(c->access == asWRITE, "then the new one");
+    asRemoveClient(&c);
+    asRemoveMember(&m);
+}
+
 static const char *slow_rest;
 
 static int slow_input(char *buffer, int room)
@@ -139,14 +184,27 @@ static int slow_input(char *buffer, int room)
     return *slow_rest ? (slow_rest++, 1) : 0;
 }
 
+/* A disk that fails behind a file's last byte. */
+static ssize_t failing_read(void *rest, char *buffer, size_t room)
+{
+    const char **from = rest;
+    size_t length = strlen(*from);
+    if (length == 0 || length > room)
+        return -1;
+    memcpy(buffer, *from, length);
+    *from += length;
+    return (ssize_t)length;
+}
+
 static void loads(void)
 {
     static char big[16386];
-    FILE *folder = fopen(".", "r");
+    const char *rest = "ASG(DEFAULT) {RULE(1,NONE)}";
+    FILE *failing = fopencookie(&rest, "r", (cookie_io_functions_t){.read = failing_read});
     check(asInitMem("ASG(DEFAULT) {RULE(1,WRITE)", NULL) != 0 && is(asWRITE, 0), "a refused load changes nothing");
-    check(folder && asInitFP(folder, NULL) != 0 && is(asWRITE, 0), "a stream that cannot be read is refused");
+    check(failing && asInitFP(failing, NULL) != 0 && is(asWRITE, 0), "a stream that cannot be read to its end is refused");
     check(asInitFile("no such file", NULL) != 0 && asInitFP(NULL, NULL) != 0 && is(asWRITE, 0), "no file is refused");
-    check(asInitMem("ASG(DEFAULT) {RULE(1,$(R))}", "R=WRITE") != 0 && is(asWRITE, 0), "macros are refused");
+    check(asInitMem("ASG(DEFAULT) {INPA(\"$(P):PGA\")}", "P=B1") != 0 && is(asWRITE, 0), "macros are refused");
     check(asInitMem("ASG(\"a\\\nb\")", NULL) != 0 && is(asWRITE, 0), "a name that EPICS cannot hold is refused");
     memset(big, ' ', 16385);
     memcpy(big, "ASG(DEFAULT) {RULE(1,READ)}", 27);
@@ -162,8 +220,8 @@ static void loads(void)
           "inputs that EPICS cannot hear");
     asComputeAllAsg();
     check(is(asNOACCESS, 0), "and they stay unheard");
-    if (folder)
-        fclose(folder);
+    if (failing)
+        fclose(failing);
 }
 
 static void addresses(void)
@@ -205,15 +263,23 @@ static void threads(void)
     check(wrong[0] == 0 && wrong[1] == 0, "loads, events and clients from three threads");
 }
 
-int main(void)
+int main(int count_of_words, char **words)
 {
+    const char *mode = count_of_words > 1 ? words[1] : "";
     eltc(0);
-    start();
-    sensors();
-    clients();
-    loads();
-    addresses();
-    threads();
+    if (!strcmp(mode, "other")) {
+        other_libcom();
+    } else if (!strcmp(mode, "refused")) {
+        refused_first();
+    } else {
+        start();
+        sensors();
+        clients();
+        field_written();
+        loads();
+        addresses();
+        threads();
+    }
     printf("%d checks, %d failed\n", checks, failed);
     return failed;
 }

@@ -1,0 +1,1 @@
+var asCheckClientIP 1
