@@ -8,7 +8,7 @@ use Rattle.ask.proofs.decide_checked.Statement.{statement}
 use Rattle.ask.proofs.decide_checked.Tie as tie
 
 returns : tie.Need-returns
-returns c = let a = c .before .before .before .before .before in sym (decide-bad (a .args .table .now) (question-of (a .args .group .now) (a .args .user .now) (a .args .host .now) (a .args .level) (a .args .rs)) (a .pre) (c .if1 .taken))
+returns c = let a = c .before .before .before .before .before in sym (decide-bad (a .args .table .now) (question-of (a .args .group .now) (a .args .user .now) (a .args .host .now) (a .args .level) (a .args .rs)) (a .pre) (omega (arith, c .if1 .taken)))
 
 answering-group-requires : tie.Need-answering-group-requires
 answering-group-requires c κs = search needs

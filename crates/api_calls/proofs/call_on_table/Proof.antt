@@ -3,8 +3,8 @@ use lib.ListN.{length}
 use native.Mathlib.Omega.{arith}
 use mathlib.Core.Path.{_≡_, ap, _∙_}
 use borrow.Author.Needs.{needs}
-use Rattle.api_sequence.proofs.call_on_table.Statement.{statement}
-use Rattle.api_sequence.proofs.call_on_table.Tie as tie
+use Rattle.api_calls.proofs.call_on_table.Statement.{statement}
+use Rattle.api_calls.proofs.call_on_table.Tie as tie
 
 is-table-requires : tie.Need-is-table-requires
 is-table-requires c κs = search needs

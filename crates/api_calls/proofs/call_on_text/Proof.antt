@@ -4,8 +4,8 @@ use Rattle.api_script.specs.declared.Reply.the-variants as reply
 use native.Mathlib.Omega.{arith}
 use mathlib.Core.Path.{_∙_, ap}
 use borrow.Author.Needs.{needs}
-use Rattle.api_sequence.proofs.call_on_text.Statement.{statement}
-use Rattle.api_sequence.proofs.call_on_text.Tie as tie
+use Rattle.api_calls.proofs.call_on_text.Statement.{statement}
+use Rattle.api_calls.proofs.call_on_text.Tie as tie
 
 allowed-requires : tie.Need-allowed-requires
 allowed-requires c κs = search needs

@@ -1,8 +1,8 @@
 use Rattle.ask.specs.laws.LookUp.{look-not}
 use mathlib.Core.Path.{sym, _∙_}
 use borrow.Author.Needs.{needs}
-use Rattle.api_sequence.proofs.find_checked.Statement.{statement}
-use Rattle.api_sequence.proofs.find_checked.Tie as tie
+use Rattle.api_calls.proofs.find_checked.Statement.{statement}
+use Rattle.api_calls.proofs.find_checked.Tie as tie
 
 is-table-requires : tie.Need-is-table-requires
 is-table-requires c κs = search needs

@@ -2,8 +2,8 @@ use Rattle.ask.specs.laws.Decide.{decide-not}
 use Rattle.spec_rule.specs.Question.{question-of}
 use mathlib.Core.Path.{sym, _∙_}
 use borrow.Author.Needs.{needs}
-use Rattle.api_sequence.proofs.ask_checked.Statement.{statement}
-use Rattle.api_sequence.proofs.ask_checked.Tie as tie
+use Rattle.api_calls.proofs.ask_checked.Statement.{statement}
+use Rattle.api_calls.proofs.ask_checked.Tie as tie
 
 is-table-requires : tie.Need-is-table-requires
 is-table-requires c κs = search needs
