@@ -26,38 +26,6 @@ use Rattle.spec_file.specs.Refusal.{letters-among, Allowed, Applies, lon
 use Rattle.spec_file.specs.Acceptance.{Nowhere, Caused, caused}
 use Rattle.spec_file.specs.Load.{bad-calculation, Cause, causes, Refusal-at, or-else, refused-by}
 
--- ---- numbers
-
-by-number : List Refusal
-by-number =
-    NoRoom ∷ FileTooLong ∷ BadByte ∷ TooDeep ∷ Ungrammatical ∷ StringTooLong ∷ TooMany ∷ GivenAgain ∷ BadLevel ∷ UnknownWord ∷ BadCalculation ∷ NoRoom ∷ []
-
-numbered : (r : Refusal) → getD by-number (number r) NoRoom ≡ r
-unfolding by-number
-numbered FileTooLong = refl
-numbered BadByte = refl
-numbered TooDeep = refl
-numbered Ungrammatical = refl
-numbered StringTooLong = refl
-numbered TooMany = refl
-numbered GivenAgain = refl
-numbered BadLevel = refl
-numbered UnknownWord = refl
-numbered BadCalculation = refl
-numbered NoRoom = refl
-
-one-number : (a b : Refusal) → number a ≡ number b → a ≡ b
-one-number a b e = sym (numbered a) ∙ ap (λ (n : ℕ). getD by-number n NoRoom) e ∙ numbered b
-
--- only 5 to 10 have causes at tokens
-pub five-to-ten : {c : Context} {r : Refusal} → Applies c r → (5 ≤ number r) × (number r ≤ 10)
-five-to-ten (long h) = omega arith
-five-to-ten (many h) = omega arith
-five-to-ten (again h) = omega arith
-five-to-ten (level h) = omega arith
-five-to-ten (word h) = omega arith
-five-to-ten (calculation h n) = omega arith
-
 -- ---- tests
 
 record Decides (k : Cause) : Type 0 where
@@ -117,6 +85,38 @@ ordered =
     (in-order refl (record { yes = λ c h. again h; no = not-again })
     (in-order refl (record { yes = λ c h. level h; no = not-level })
     (in-order refl (record { yes = λ c h. word h; no = not-word }) (in-order refl (record { yes = bad; no = good }) behind-all)))))
+
+-- ---- numbers
+
+by-number : List Refusal
+by-number =
+    NoRoom ∷ FileTooLong ∷ BadByte ∷ TooDeep ∷ Ungrammatical ∷ StringTooLong ∷ TooMany ∷ GivenAgain ∷ BadLevel ∷ UnknownWord ∷ BadCalculation ∷ NoRoom ∷ []
+
+numbered : (r : Refusal) → getD by-number (number r) NoRoom ≡ r
+unfolding by-number
+numbered FileTooLong = refl
+numbered BadByte = refl
+numbered TooDeep = refl
+numbered Ungrammatical = refl
+numbered StringTooLong = refl
+numbered TooMany = refl
+numbered GivenAgain = refl
+numbered BadLevel = refl
+numbered UnknownWord = refl
+numbered BadCalculation = refl
+numbered NoRoom = refl
+
+one-number : (a b : Refusal) → number a ≡ number b → a ≡ b
+one-number a b e = sym (numbered a) ∙ ap (λ (n : ℕ). getD by-number n NoRoom) e ∙ numbered b
+
+-- only 5 to 10 have causes at tokens
+pub five-to-ten : {c : Context} {r : Refusal} → Applies c r → (5 ≤ number r) × (number r ≤ 10)
+five-to-ten (long h) = omega arith
+five-to-ten (many h) = omega arith
+five-to-ten (again h) = omega arith
+five-to-ten (level h) = omega arith
+five-to-ten (word h) = omega arith
+five-to-ten (calculation h n) = omega arith
 
 -- ---- from the tests to the causes
 

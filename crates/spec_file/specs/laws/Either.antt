@@ -18,8 +18,8 @@ acceptable-or-refusable s = go (verdict s) refl
     go (refuse r p) e = inr (r, p, refused-is s r p e)
 
 module _ {s : List ℕ} where
-  pub never-both : {xs : List Tagged} {r : Refusal} {p : ℕ} → Acceptable s xs → Refusable s r p → ⊥
-  never-both {xs} {r} {p} a b = let e = sym (acceptable-is s xs a) ∙ refusable-is s r p b in let z : _≡_ {A = ℕ} 0 1 = cc in omega arith
+  pub never-acceptable-and-refusable : {xs : List Tagged} {r : Refusal} {p : ℕ} → Acceptable s xs → Refusable s r p → ⊥
+  never-acceptable-and-refusable {xs} {r} {p} a b = let e = sym (acceptable-is s xs a) ∙ refusable-is s r p b in let z : _≡_ {A = ℕ} 0 1 = cc in omega arith
 
   pub one-reading : {xs ys : List Tagged} → Acceptable s xs → Acceptable s ys → xs ≡ ys
   one-reading {xs} {ys} a b = cc (acceptable-is s xs a, acceptable-is s ys b)

@@ -26,8 +26,8 @@ spelled-or-bad s = go (scanned s) refl
     go (tokens ts) e = inl (ts, scanned-sound s (tokens ts) e)
     go (bad p) e = inr (p, scanned-sound s (bad p) e)
 
-pub never-both : {s : List ℕ} {ts : List Token} {p : ℕ} → Spelled s ts → Bad-at s p → ⊥
-never-both d e = let h = one-spelling d e in let z : _≡_ {A = ℕ} 0 1 = cc in omega arith
+pub never-spelled-and-bad : {s : List ℕ} {ts : List Token} {p : ℕ} → Spelled s ts → Bad-at s p → ⊥
+never-spelled-and-bad d e = let h = one-spelling d e in let z : _≡_ {A = ℕ} 0 1 = cc in omega arith
 
 -- ---- places
 
