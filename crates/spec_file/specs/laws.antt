@@ -3,3 +3,4 @@ pub mod Clauses
 pub mod Counted
 pub mod ItemClauses
 pub mod Theorem
+pub mod Calculations

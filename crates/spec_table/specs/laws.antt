@@ -6,3 +6,4 @@ pub mod Preserved
 pub mod Standing
 pub mod Stands
 pub mod Theorem
+pub mod Calculations
