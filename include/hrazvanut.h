@@ -86,7 +86,7 @@ uint64_t hrazvanut_find_input(const uint8_t *table, size_t table_len, const uint
 
 /* ---- a calculation */
 
-/* 1 if a text is a calculation that 01 allows, apart from its letters having inputs, else 0. */
+/* 1 if a text is a calculation that 01 allows, of at most 79 bytes, apart from its letters having inputs, else 0. Any text may be asked. */
 uint8_t hrazvanut_allowed(const uint8_t *text, size_t text_len);
 
 #ifdef __cplusplus
