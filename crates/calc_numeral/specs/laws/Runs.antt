@@ -10,7 +10,7 @@ use lib.Dec.{leb}
 use lib.ListN.{length, getD, drop, List·getD-eq-default}
 use lib.Seq.{drop-cons, getD-drop}
 use Rattle.spec_lists.specs.laws.Both.{absurd-bool}
-use Rattle.spec_lists.specs.Select.{run, after, keep-if, skip-if}
+use Rattle.spec_lists.specs.Select.{run, after, skip-if}
 
 -- ---- a run from an offset on, of a test that 0 does not pass
 

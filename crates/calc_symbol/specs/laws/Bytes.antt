@@ -1,23 +1,22 @@
 -- Laws of single bytes and their spellings. Assumes nothing.
 use mathlib.Core.Path.{_≡_, refl, sym, _∙_, subst}
-use mathlib.Core.Bool.{Bool, true, false, not, cond, _&&_}
+use mathlib.Core.Bool.{Bool, true, false, not, _&&_}
 use mathlib.Core.List.{List, [], _∷_}
 use mathlib.Core.Option.{Option, none, some}
-use Prim.Native.Nat.{ℕ, _+_, _-_, _*_, _≤_, _<_}
+use Prim.Native.Nat.{ℕ, _<_}
 use native.Mathlib.Omega.{arith}
 use borrow.Author.Tests.{ne-eqb, eqb-true, ltb-true}
 use lib.Dec.{eqb, ltb}
 use lib.ListN.{length, getD, take}
 use Rattle.spec_lists.specs.Text.{same, within, among, digit}
-use Rattle.spec_lists.specs.Select.{all, first, first-if}
+use Rattle.spec_lists.specs.Select.{all, first}
 use Rattle.spec_lists.specs.laws.Both.{both, absurd-bool}
 use Rattle.spec_lists.specs.laws.Member.{all-member, first-member}
 use Rattle.spec_calc.specs.declared.Operator.{Operator}
 use Rattle.spec_calc.specs.declared.Operator.the-variants as op
 use Rattle.spec_calc.specs.Symbol.{Symbol, number, letter, operator, not-sign, question, colon, open-paren, close-paren, Spelling, spellings}
-use Rattle.spec_calc.specs.Scanner.{Start, blank}
 use Rattle.spec_calc.specs.Symbol.{numeral-byte}
-use Rattle.spec_calc.specs.Scanner.{figure, sign, sign-of, wrong, start, spelling}
+use Rattle.spec_calc.specs.Scanner.{sign, sign-of, wrong, start, spelling}
 use Rattle.calc_symbol.specs.declared.Spelled.{Spelled}
 use Rattle.calc_symbol.specs.declared.Spelled.the-variants.{As, Nothing}
 use Rattle.calc_symbol.specs.Scan.{single, Pair-ok}

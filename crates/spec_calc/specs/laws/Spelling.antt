@@ -1,9 +1,9 @@
 -- The scanner finds exactly the symbols that a text has.
 use mathlib.Core.Path.{_≡_, refl, sym, _∙_, ap, subst}
-use mathlib.Core.Bool.{Bool, true, false, cond, _&&_}
+use mathlib.Core.Bool.{Bool, true, false, _&&_}
 use mathlib.Core.List.{List, [], _∷_, _++_, List·Memᴰ, List·Memᴰ·head, List·Memᴰ·tail}
 use mathlib.Core.Option.{Option, none, some}
-use Prim.Native.Nat.{ℕ, zero, suc, _+_, _-_, _≤_}
+use Prim.Native.Nat.{ℕ, zero, suc, _-_, _≤_}
 use native.Mathlib.Omega.{arith}
 use borrow.Author.Tests.{leb-true, eqb-true, eq-eqb, ne-eqb}
 use lib.Dec.{leb, eqb}
@@ -11,17 +11,17 @@ use lib.ListN.{length, take, drop}
 use lib.Seq.{take-append-seam, drop-append-seam}
 use lib.Ieee.{Float}
 use Rattle.spec_lists.specs.Text.{same, among, within, digit}
-use Rattle.spec_lists.specs.Select.{all, first, first-if, run, after, keep-if}
+use Rattle.spec_lists.specs.Select.{all, first, first-if, run, after}
 use Rattle.spec_lists.specs.Every.{Every, nil, cons}
 use Rattle.spec_lists.specs.laws.Both.{both, absurd-bool, or-false}
 use Rattle.spec_lists.specs.laws.Range.{bounded}
 use Rattle.spec_lists.specs.laws.Member.{every-member, all-member, first-member}
 use Rattle.spec_calc.specs.declared.Operator.the-variants.{AtMost, AtLeast, Equal, Differs, Less, More}
-use Rattle.spec_calc.specs.Symbol.{Symbol, number, letter, operator, not-sign, numeral-byte, Number, whole-number, with-point, behind-point}
+use Rattle.spec_calc.specs.Symbol.{Symbol, number, operator, not-sign, numeral-byte, Number, whole-number, with-point, behind-point}
 use Rattle.spec_calc.specs.Symbol.{Spelling, spellings, Spelled, Longest, Spells, end, skipped, numbered, capital, small, signed}
-use Rattle.spec_calc.specs.Scanner.{numeral, Start, blank, figure, wrong, sign, sign-of, start, spelling, then, then-number, symbols-in, symbols}
+use Rattle.spec_calc.specs.Scanner.{numeral, Start, blank, figure, wrong, sign, sign-of, start, then, then-number, symbols-in, symbols}
 use Rattle.spec_calc.specs.laws.Numeral.{numeral-complete, numeral-sound}
-use Rattle.spec_calc.specs.laws.Symbols.{start-by, blank-start, start-digit, start-upper, start-lower, blank-byte, figure-byte, scan-end}
+use Rattle.spec_calc.specs.laws.Symbols.{begun-sign, blank-start, start-digit, start-upper, start-lower, blank-byte, figure-byte, scan-end}
 use Rattle.spec_calc.specs.laws.Symbols.{scan-blank, scan-figure, scan-sign}
 
 -- ---- lists of spellings
@@ -176,37 +176,36 @@ drop-behind : (n b : ℕ) (s : List ℕ) → 1 ≤ n → drop n (b ∷ s) ≡ dr
 drop-behind zero b s h = absurd (omega arith)
 drop-behind (suc n) b s h = let z : suc n - 1 ≡ n = omega arith in rw z
 
+-- what a sign is, and what follows it
+sign-parts : (y : Spelling) {x : Symbol} {m : ℕ} → sign-of (some y) ≡ sign x m → (y .symbol ≡ x) × (size y - 1 ≡ m)
+sign-parts y e = (cc, cc)
+
+sign-none : {A : Type 0} {x : Symbol} {m : ℕ} → sign-of none ≡ sign x m → A
+sign-none e = let z : _≡_ {A = ℕ} 0 1 = cc in absurd (omega arith)
+
+at-once : (m : ℕ) (s : List ℕ) {xs : List Symbol} → Spells (drop m s) xs → 0 ≡ m → Spells s xs
+at-once m s {xs} d k = subst (λ (n : ℕ). Spells (drop n s) xs) (sym k) d
+
 module _ (b : ℕ) (s : List ℕ) {x : Symbol} {m : ℕ} {xs : List Symbol} (d : Spells (drop m s) xs) where
-  spelled-sound : spelling b s ≡ sign x m → Spells (b ∷ s) (x ∷ xs)
-  unfolding spelling
-  spelled-sound e = go (first (λ x. same (x .spelled) (take (length (x .spelled)) (b ∷ s))) spellings) refl e
-    where
-      go :
-          (o : Option Spelling) → first (λ x. same (x .spelled) (take (length (x .spelled)) (b ∷ s))) spellings ≡ o → sign-of o ≡ sign x m
-          → Spells (b ∷ s) (x ∷ xs)
-      go none q e = let z : _≡_ {A = ℕ} 0 1 = cc in absurd (omega arith)
-      go (some y) q e =
-          let k = first-member (λ x. same (x .spelled) (take (length (x .spelled)) (b ∷ s))) spellings q in
-          let ex : y .symbol ≡ x = cc in
-          let em : size y - 1 ≡ m = cc in
-          signed {w = y .spelled} {r = drop (size y) (b ∷ s)} {x = x} (begins (y .spelled) (b ∷ s) (k .1)) (rw (← ex) (k .0))
-          (λ v r z t n. first-longest (λ x. same (x .spelled) (take (length (x .spelled)) (b ∷ s))) spellings refl q n (rw (t, take-append-seam v r) (same-refl v)))
-          (subst (λ (l : List ℕ). Spells l xs) (sym (drop-behind (size y) b s (spelled-long (k .0)) ∙ ap (λ (n : ℕ). drop n s) em)) d)
+  first-sound :
+      (o : Option Spelling) → first (λ y. same (y .spelled) (take (length (y .spelled)) (b ∷ s))) spellings ≡ o → sign-of o ≡ sign x m
+      → Spells (b ∷ s) (x ∷ xs)
+  first-sound none q e = sign-none e
+  first-sound (some y) q e =
+      let k = first-member (λ y. same (y .spelled) (take (length (y .spelled)) (b ∷ s))) spellings q in
+      let z = sign-parts y e in
+      signed {w = y .spelled} {r = drop (size y) (b ∷ s)} {x = x} (begins (y .spelled) (b ∷ s) (k .1)) (rw (← (z .0)) (k .0))
+      (λ v r y t n. first-longest (λ y. same (y .spelled) (take (length (y .spelled)) (b ∷ s))) spellings refl q n (rw (t, take-append-seam v r) (same-refl v)))
+      (subst (λ (l : List ℕ). Spells l xs) (sym (drop-behind (size y) b s (spelled-long (k .0)) ∙ ap (λ (n : ℕ). drop n s) (z .1))) d)
 
   sign-sound : start b s ≡ sign x m → Spells (b ∷ s) (x ∷ xs)
-  unfolding spelling
-  sign-sound e = go (among " \t" b) (numeral-byte b) (within 65 85 b) (within 97 117 b) refl refl e
-    where
-      go :
-          (p q u v : Bool) → within 65 85 b ≡ u → within 97 117 b ≡ v → start-by p q u v b (spelling b s) ≡ sign x m
-          → Spells (b ∷ s) (x ∷ xs)
-      go true q u v f g e = let z : _≡_ {A = ℕ} 0 1 = cc in absurd (omega arith)
-      go false true u v f g e = let z : _≡_ {A = ℕ} 0 1 = cc in absurd (omega arith)
-      go false false true v f g e =
-          let z : letter (b - 65) ≡ x = cc in let k : 0 ≡ m = cc in rw (← z) (capital f (subst (λ (n : ℕ). Spells (drop n s) xs) (sym k) d))
-      go false false false true f g e =
-          let z : letter (b - 97) ≡ x = cc in let k : 0 ≡ m = cc in rw (← z) (small g (subst (λ (n : ℕ). Spells (drop n s) xs) (sym k) d))
-      go false false false false f g e = spelled-sound e
+  sign-sound e =
+      begun-sign b (among " \t" b) (numeral-byte b) (within 65 85 b) (within 97 117 b)
+      (sign-of (first (λ y. same (y .spelled) (take (length (y .spelled)) (b ∷ s))) spellings))
+      (λ f g h. subst (λ (y : Symbol). Spells (b ∷ s) (y ∷ xs)) g (capital f (at-once m s d h)))
+      (λ f g h. subst (λ (y : Symbol). Spells (b ∷ s) (y ∷ xs)) g (small f (at-once m s d h)))
+      (first-sound (first (λ y. same (y .spelled) (take (length (y .spelled)) (b ∷ s))) spellings) refl)
+      e
 
 -- the symbols that are found, if they are, are the text's
 abbrev Found : List ℕ → Option (List Symbol) → Type 0

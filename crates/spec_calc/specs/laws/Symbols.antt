@@ -1,9 +1,9 @@
 -- How a text's symbols go on from what the text begins with: the bound on the steps does not matter.
-use mathlib.Core.Path.{_≡_, refl, sym, ap, _∙_}
+use mathlib.Core.Path.{_≡_, refl, ap}
 use mathlib.Core.Bool.{Bool, true, false, cond}
 use mathlib.Core.List.{List, [], _∷_}
 use mathlib.Core.Option.{Option, none, some}
-use Prim.Native.Nat.{ℕ, zero, suc, _-_, _≤_}
+use Prim.Native.Nat.{ℕ, zero, suc, _-_, _≤_, _<_}
 use native.Mathlib.Omega.{arith}
 use borrow.Author.Tests.{ne-eqb}
 use lib.ListN.{length, take, drop, length-drop}
@@ -29,70 +29,86 @@ module _ {A : Type 0} (p : A → Bool) where
 abbrev pub start-by : Bool → Bool → Bool → Bool → ℕ → Start → Start
 start-by p q u v b x = cond p blank (cond q figure (cond u (sign (letter (b - 65)) 0) (cond v (sign (letter (b - 97)) 0) x)))
 
+no-blank : (b : ℕ) → 32 < b → among " \t" b ≡ false
+no-blank b h = rw (ne-eqb b 32 (λ e. omega arith), ne-eqb b 9 (λ e. omega arith))
+
+no-numeral : (b : ℕ) → 57 < b → numeral-byte b ≡ false
+no-numeral b h = rw (above 48 57 b h, ne-eqb b 46 (λ e. omega arith))
+
+-- by the tests, which are made in this order
+module _ (b : ℕ) (p q u v : Bool) (x : Start) where
+  by-blank : p ≡ true → start-by p q u v b x ≡ blank
+  by-blank e = rw e
+
+  by-figure : p ≡ false → q ≡ true → start-by p q u v b x ≡ figure
+  by-figure e f = rw (e, f)
+
+  by-upper : p ≡ false → q ≡ false → u ≡ true → start-by p q u v b x ≡ sign (letter (b - 65)) 0
+  by-upper e f g = rw (e, f, g)
+
+  by-lower : p ≡ false → q ≡ false → u ≡ false → v ≡ true → start-by p q u v b x ≡ sign (letter (b - 97)) 0
+  by-lower e f g h = rw (e, f, g, h)
+
+-- and back
+module _ (b : ℕ) where
+  begun-blank : (p q u v : Bool) (o : Option Spelling) → start-by p q u v b (sign-of o) ≡ blank → p ≡ true
+  begun-blank true q u v o e = refl
+  begun-blank false true u v o e = cc
+  begun-blank false false true v o e = cc
+  begun-blank false false false true o e = cc
+  begun-blank false false false false none e = cc
+  begun-blank false false false false (some x) e = cc
+
+  begun-figure : (p q u v : Bool) (o : Option Spelling) → start-by p q u v b (sign-of o) ≡ figure → q ≡ true
+  begun-figure true q u v o e = cc
+  begun-figure false true u v o e = refl
+  begun-figure false false true v o e = cc
+  begun-figure false false false true o e = cc
+  begun-figure false false false false none e = cc
+  begun-figure false false false false (some x) e = cc
+
+  pub begun-sign :
+      {A : Type 0} (p q u v : Bool) (w : Start) {x : Symbol} {m : ℕ} → (u ≡ true → letter (b - 65) ≡ x → 0 ≡ m → A)
+      → (v ≡ true → letter (b - 97) ≡ x → 0 ≡ m → A) → (w ≡ sign x m → A) → start-by p q u v b w ≡ sign x m → A
+  begun-sign true q u v w f g h e = let z : _≡_ {A = ℕ} 0 1 = cc in absurd (omega arith)
+  begun-sign false true u v w f g h e = let z : _≡_ {A = ℕ} 0 1 = cc in absurd (omega arith)
+  begun-sign false false true v w f g h e = f refl (cc) (cc)
+  begun-sign false false false true w f g h e = g refl (cc) (cc)
+  begun-sign false false false false w f g h e = h e
+
 module _ (b : ℕ) (s : List ℕ) where
   pub blank-start : among " \t" b ≡ true → start b s ≡ blank
   unfolding spelling
-  blank-start e = go (among " \t" b) e
-    where
-      go : (p : Bool) → p ≡ true → start-by p (numeral-byte b) (within 65 85 b) (within 97 117 b) b (spelling b s) ≡ blank
-      go p e = rw e
+  blank-start e = by-blank b (among " \t" b) (numeral-byte b) (within 65 85 b) (within 97 117 b) (spelling b s) e
 
   pub start-digit : 48 ≤ b → b ≤ 57 → start b s ≡ figure
-  start-digit l h = rw (ne-eqb b 32 (λ e. omega arith), ne-eqb b 9 (λ e. omega arith), inside 48 57 b l h)
+  unfolding spelling
+  start-digit l h =
+      by-figure b (among " \t" b) (numeral-byte b) (within 65 85 b) (within 97 117 b) (spelling b s) (no-blank b (omega arith)) (rw (inside 48 57 b l h))
 
   pub start-upper : 65 ≤ b → b ≤ 85 → start b s ≡ sign (letter (b - 65)) 0
+  unfolding spelling
   start-upper l h =
-      rw (
-        ne-eqb b 32 (λ e. omega arith),
-        ne-eqb b 9 (λ e. omega arith),
-        above 48 57 b (omega arith),
-        ne-eqb b 46 (λ e. omega arith),
-        inside 65 85 b l h,
-      )
+      by-upper b (among " \t" b) (numeral-byte b) (within 65 85 b) (within 97 117 b) (spelling b s)
+      (no-blank b (omega arith)) (no-numeral b (omega arith)) (inside 65 85 b l h)
 
   pub start-lower : 97 ≤ b → b ≤ 117 → start b s ≡ sign (letter (b - 97)) 0
-  start-lower l h =
-      rw (
-        ne-eqb b 32 (λ e. omega arith),
-        ne-eqb b 9 (λ e. omega arith),
-        above 48 57 b (omega arith),
-        ne-eqb b 46 (λ e. omega arith),
-        above 65 85 b (omega arith),
-        inside 97 117 b l h,
-      )
-
-  -- a spelling is no blank and no number
-  spelling-only : (x : Start) → spelling b s ≡ x → (x ≡ blank → ⊥) × (x ≡ figure → ⊥)
   unfolding spelling
-  spelling-only x e = rw (← e) (go (first (λ x. same (x .spelled) (take (length (x .spelled)) (b ∷ s))) spellings))
-    where
-      go : (o : Option Spelling) → (sign-of o ≡ blank → ⊥) × (sign-of o ≡ figure → ⊥)
-      go none = ((λ e. let z : _≡_ {A = ℕ} 0 1 = cc in omega arith), (λ e. let z : _≡_ {A = ℕ} 0 1 = cc in omega arith))
-      go (some x) = ((λ e. let z : _≡_ {A = ℕ} 0 1 = cc in omega arith), (λ e. let z : _≡_ {A = ℕ} 0 1 = cc in omega arith))
+  start-lower l h =
+      by-lower b (among " \t" b) (numeral-byte b) (within 65 85 b) (within 97 117 b) (spelling b s)
+      (no-blank b (omega arith)) (no-numeral b (omega arith)) (above 65 85 b (omega arith)) (inside 97 117 b l h)
 
   -- only a blank byte begins a blank
   pub blank-byte : start b s ≡ blank → among " \t" b ≡ true
-  unfolding spelling
-  blank-byte e = go (among " \t" b) (numeral-byte b) (within 65 85 b) (within 97 117 b) e
-    where
-      go : (p q u v : Bool) → start-by p q u v b (spelling b s) ≡ blank → p ≡ true
-      go true q u v e = refl
-      go false true u v e = cc
-      go false false true v e = cc
-      go false false false true e = cc
-      go false false false false e = absurd (spelling-only (spelling b s) refl .0 e)
+  blank-byte e =
+      begun-blank b (among " \t" b) (numeral-byte b) (within 65 85 b) (within 97 117 b)
+      (first (λ x. same (x .spelled) (take (length (x .spelled)) (b ∷ s))) spellings) e
 
   -- only a number begins with a figure
   pub figure-byte : start b s ≡ figure → numeral-byte b ≡ true
-  unfolding spelling
-  figure-byte e = go (among " \t" b) (numeral-byte b) (within 65 85 b) (within 97 117 b) e
-    where
-      go : (p q u v : Bool) → start-by p q u v b (spelling b s) ≡ figure → q ≡ true
-      go true q u v e = cc
-      go false true u v e = refl
-      go false false true v e = cc
-      go false false false true e = cc
-      go false false false false e = absurd (spelling-only (spelling b s) refl .1 e)
+  figure-byte e =
+      begun-figure b (among " \t" b) (numeral-byte b) (within 65 85 b) (within 97 117 b)
+      (first (λ x. same (x .spelled) (take (length (x .spelled)) (b ∷ s))) spellings) e
 
 -- a number takes its first byte
 number-shorter : (b : ℕ) (s : List ℕ) → start b s ≡ figure → length (after numeral-byte (b ∷ s)) ≤ length s

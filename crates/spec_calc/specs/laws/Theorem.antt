@@ -8,9 +8,11 @@ use native.Mathlib.Omega.{arith}
 use borrow.Author.Tests.{leb-true, le-leb, lt-leb}
 use lib.Dec.{leb}
 use lib.ListN.{length}
+use Rattle.spec_lists.specs.Select.{missing}
+use Rattle.spec_lists.specs.laws.Both.{absurd-bool}
 use Rattle.spec_calc.specs.Symbol.{Symbol}
 use Rattle.spec_calc.specs.Scanner.{symbols, symbols-in}
-use Rattle.spec_calc.specs.Expression.{Tree, Expression, longest-calculation, Parses}
+use Rattle.spec_calc.specs.Expression.{Tree, Expression, longest-calculation, Parses, Allowed}
 use Rattle.spec_calc.specs.Reader.{reduce, run, read-tree, read-spelled, tree-of}
 use Rattle.spec_calc.specs.laws.Complete.{expression-read}
 use Rattle.spec_calc.specs.laws.Sound.{Derived, read-derived}
@@ -23,14 +25,14 @@ pub read-complete : (ss : List Symbol) (t : Tree) → Expression ss [] t → rea
 unfolding run reduce
 read-complete ss t d = expression-read d [] (omega arith) (omega arith)
 
--- by its length, a text is read or is none
-pub short-tree : (s : List ℕ) → length s ≤ longest-calculation → tree-of s ≡ read-spelled (symbols s)
-unfolding tree-of
-short-tree s h = rw (le-leb (length s) longest-calculation h)
-
+-- by its length, a text is none or is read
 pub long-tree : (s : List ℕ) → longest-calculation < length s → tree-of s ≡ none
 unfolding tree-of
-long-tree s h = rw (lt-leb (length s) longest-calculation h)
+long-tree s h = ap (λ (b : Bool). cond b (read-spelled (symbols s)) none) (lt-leb (length s) longest-calculation h)
+
+pub short-tree : (s : List ℕ) → length s ≤ longest-calculation → tree-of s ≡ read-spelled (symbols s)
+unfolding tree-of
+short-tree s h = ap (λ (b : Bool). cond b (read-spelled (symbols s)) none) (le-leb (length s) longest-calculation h)
 
 pub parses-sound : (s : List ℕ) (t : Tree) → tree-of s ≡ some t → Parses s t
 unfolding tree-of
@@ -50,6 +52,17 @@ parses-complete s t y = short-tree s (y .short) ∙ (ap read-spelled (spells-com
 
 pub one-tree : (s : List ℕ) (t u : Tree) → Parses s t → Parses s u → t ≡ u
 one-tree s t u y z = cc (parses-complete s t y, parses-complete s u z)
+
+-- the reader has a tree exactly where the text is a calculation
+pub allowed-sound : (s : List ℕ) → missing (tree-of s) ≡ false → Allowed s
+allowed-sound s = go (tree-of s) refl
+  where
+    go : (o : Option Tree) → tree-of s ≡ o → missing o ≡ false → Allowed s
+    go none e h = absurd-bool h
+    go (some t) e h = record { says = t; parses = parses-sound s t e }
+
+pub allowed-complete : (s : List ℕ) → Allowed s → missing (tree-of s) ≡ false
+allowed-complete s a = rw (parses-complete s (a .says) (a .parses))
 
 -- the empty text is no calculation
 pub no-empty : tree-of [] ≡ none

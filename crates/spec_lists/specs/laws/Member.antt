@@ -6,7 +6,7 @@ use mathlib.Core.Option.{some}
 use Prim.Native.Nat.{ℕ}
 use native.Mathlib.Omega.{arith}
 use Rattle.spec_lists.specs.Select.{all, first, first-if}
-use Rattle.spec_lists.specs.Every.{Every, nil, cons}
+use Rattle.spec_lists.specs.Every.{Every, cons}
 use Rattle.spec_lists.specs.laws.Both.{both}
 
 module _ {A : Type 0} where
