@@ -6,6 +6,5 @@ fn main() {
     let mut text = [0u8; 16385];
     let n = prog_input::read_or_empty(b"rules.acf", &mut text);
     let mut table = [0u8; 35108];
-    let mut piece = io::buffer();
-    prog_ask::answer(&text[..n], &mut table, STDIN_FILENO, &mut piece);
+    prog_ask::answer(&text[..n], &mut table, STDIN_FILENO, 4096);
 }

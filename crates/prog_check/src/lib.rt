@@ -1,155 +1,47 @@
-// What the checker prints for a file, and a load's answer in words. No contract can say what is printed.
-use prog_output::put;
-use prog_output::put_number;
+// What the checker prints for a file, written into lent bytes. 01, "Two programs".
 use spec_load::Listed;
-use spec_load::Loaded;
-ghost use Prim.Native.Nat.{_≤_};
-ghost use lib.ListN.{length};
-
-// What lent bytes hold before a load.
-const BEFORE: u8 = 0xA5;
-
-// How many warnings are fetched at once.
-const ROOM: usize = 256;
+ghost use mathlib.Core.Path.{_≡_};
+ghost use Prim.Native.Nat.{_*_, _≤_};
+ghost use lib.ListN.{length, take};
+ghost use Rattle.prog_words.specs.Put.{Stands};
+ghost use Rattle.prog_check.specs.Lines.{lines-by, longest-line, Prints};
 
 // No file has more tokens than bytes, and so no more warnings.
 const MOST: usize = 16384;
 
-// ---- the checker's lines
+// So many bytes have room for the lines of any file: specs/Lines.antt, most-printed.
+pub const MOST_PRINTED: usize = 344064;
 
-fn wide(x: u8) -> usize {
+fn wide(x: u8) -> usize
+    ensures { λ r. ⌜ r ≡ x ⌝ }
+{
     x as usize
 }
 
-fn at_most(n: usize, most: usize) -> usize
-    ensures { λ r. ⌜ r ≤ most ⌝ }
-{
-    if n < most { n } else { most }
-}
-
 // The lines of the first n warnings.
-fn put_warnings(numbers: [u8; ROOM], at: [u16; ROOM], n: usize)
-    requires { ⌜ n ≤ 256 ⌝ }
+fn put_warnings(numbers: &[u8], places: &[u16], n: usize, out: &mut [u8]) -> usize
+    requires { ⌜ (n ≤ length (now numbers)) × (n ≤ length (now places)) ⌝ }
+    ensures { λ r. ⌜
+        Stands (lines-by (take n (now (numbers .entry))) (take n (now (places .entry)))) (now (out .entry)) (now (out .exit)) r (longest-line * n)
+        ⌝ }
 {
+    let mut end = 0;
     let mut i = 0;
     while i < n {
-        prog_output::put_warning(wide(numbers[i]), load_tokens::wide(at[i]));
+        end = prog_words::warning_line(wide(numbers[i]), load_tokens::wide(places[i]), out, end);
         i += 1;
     }
+    end
 }
 
-// The lines of the warnings from the skip-th on, as many as are fetched at once, or the refusal's. Answers how many warnings there are.
-fn put_part(text: &[u8], skip: usize) -> usize {
-    let mut numbers = [0u8; ROOM];
-    let mut at = [0u16; ROOM];
-    match load_listing::list_warnings(text, skip, &mut numbers, &mut at) {
-        Listed::Refused { refusal, place } => {
-            prog_output::put_refusal(refusal, place);
-            0
-        }
-        Listed::Warnings(count) => {
-            if skip < count {
-                put_warnings(numbers, at, at_most(count - skip, ROOM));
-            }
-            count
-        }
-    }
-}
-
-// What the checker prints for a file.
-pub fn check(text: &[u8]) {
-    let count = at_most(put_part(text, 0), MOST);
-    let mut skip = ROOM;
-    while skip < count {
-        put_part(text, skip);
-        skip += ROOM;
-    }
-}
-
-// ---- a load
-
-fn put_pair(word: &[u8], a: usize, b: usize) {
-    put(word);
-    put_number(a);
-    put(b" ");
-    put_number(b);
-    put(b"\n");
-}
-
-// What a load answers, in a line.
-fn put_answer(a: Loaded) {
-    match a {
-        Loaded::Accepted { length, warnings } => put_pair(b"accepted ", length, warnings),
-        Loaded::Refused { refusal, place } => put_pair(
-            b"refused ",
-            prog_output::refusal_number(refusal),
-            place,
-        ),
-    }
-}
-
-// Whether the bytes from an offset on are as they were before the load.
-fn untouched(lent: &[u8], from: usize) -> bool {
-    let mut i = from;
-    while i < lent.len() {
-        if lent[i] != BEFORE {
-            return false;
-        }
-        i += 1;
-    }
-    true
-}
-
-// How many of the lent bytes hold the table after a load.
-fn written(a: Loaded) -> usize {
-    match a {
-        Loaded::Accepted { length, warnings } => length,
-        Loaded::Refused { refusal, place } => 0,
-    }
-}
-
-// Whether a load left all but its table as it was.
-fn put_rest(lent: &[u8], from: usize) {
-    if untouched(lent, from) {
-        put(b"rest untouched\n");
-    } else {
-        put(b"rest written\n");
-    }
-}
-
-// Whether the first bytes are the table in a file, where a file is named and there is a table.
-fn put_table(lent: &[u8], length: usize, path: &[u8]) {
-    if path.len() == 0 || length == 0 {
-        return;
-    }
-    if lent.len() < length {
-        return;
-    }
-    let mut buf = io::large_buffer();
-    let n = prog_input::read(path, &mut buf);
-    if byte_compare::equal(&lent[..length], &buf[..n]) {
-        put(b"table same\n");
-    } else {
-        put(b"table differs\n");
-    }
-}
-
-// Loads a text into the first bytes of those that are lent.
-fn load(text: &[u8], lent: &mut [u8], room: usize, path: &[u8])
-    requires { ⌜ room ≤ length (now lent) ⌝ }
+// Writes what the checker prints for a file, as far as there is room, and answers how many bytes.
+pub fn check(text: &[u8], out: &mut [u8]) -> usize
+    ensures { λ r. ⌜ Prints (now (text .entry)) (now (out .entry)) (now (out .exit)) r ⌝ }
 {
-    let answer = load::load(text, &mut lent[..room]);
-    put_answer(answer);
-    let length = written(answer);
-    put_table(lent, length, path);
-    put_rest(lent, length);
-}
-
-// Checks a file and loads it into so many of 35,108 lent bytes. Its table is compared with that in a file, if one is named.
-pub fn check_and_load(path: &[u8], room: usize, table: &[u8]) {
-    let mut text = [0u8; 16385];
-    let n = prog_input::read(path, &mut text);
-    check(&text[..n]);
-    let mut lent = [BEFORE; 35108];
-    load(&text[..n], &mut lent, at_most(room, 35108), table);
+    let mut numbers = [0u8; MOST];
+    let mut places = [0u16; MOST];
+    match load_listing::list_warnings(text, 0, &mut numbers, &mut places) {
+        Listed::Refused { refusal, place } => prog_words::refusal_line(refusal, place, out),
+        Listed::Warnings(count) => put_warnings(&numbers, &places, count, out),
+    }
 }

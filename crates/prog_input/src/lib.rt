@@ -1,11 +1,67 @@
-// Reading files. No contract can say what is read.
+// Reading files. No contract can say what is read; but a read that fails is never taken for the end of a file.
 ghost use Rattle.io.specs.Counts.{Counts};
+ghost use Rattle.prog_input.specs.Piece.{Within};
 
-// Reads an open file to the start of buf, as far as it fits, closes it, and answers how many bytes.
+// More rounds than any input has bytes.
+const MOST: u64 = 4611686018427387904;
+
+// What one read answers: bytes at the start of the buffer, the end of the file, or a fault.
+pub enum Piece {
+    Bytes(usize),
+    End,
+    Fault,
+}
+
+// Reads once into buf, which has room. A read that a signal interrupts is made again.
+pub fn read_piece(fd: i32, buf: &mut [u8]) -> Piece
+    ensures { λ r. ⌜ Within r (now (buf .exit)) ⌝ }
+{
+    let mut rounds: u64 = 0;
+    while rounds < MOST {
+        let got = libc::read(fd, buf);
+        if got == 0 {
+            return Piece::End;
+        }
+        if got > 0 {
+            return Piece::Bytes(io::count(got, buf));
+        }
+        if os::errno() != libc::EINTR {
+            return Piece::Fault;
+        }
+        rounds += 1;
+    }
+    Piece::Fault
+}
+
+// Reads an open file to its end, keeps its first bytes in buf, as many as have room, and answers how many. A file that
+// cannot be read to its end counts as empty.
+pub fn read_whole(fd: i32, buf: &mut [u8]) -> usize
+    ensures { λ r. ⌜ Counts r (now (buf .exit)) ⌝ }
+{
+    let mut piece = io::buffer();
+    let mut end = 0;
+    let mut rounds: u64 = 0;
+    while rounds < MOST {
+        match read_piece(fd, &mut piece) {
+            Piece::Bytes(n) => {
+                end = prog_words::put(&piece[..n], buf, end);
+            }
+            Piece::End => {
+                return end;
+            }
+            Piece::Fault => {
+                return 0;
+            }
+        }
+        rounds += 1;
+    }
+    0
+}
+
 fn read_open(fd: i32, buf: &mut [u8]) -> usize
     ensures { λ r. ⌜ Counts r (now (buf .exit)) ⌝ }
 {
-    let n = io::read_full(fd, buf);
+    let n = read_whole(fd, buf);
     libc::close(fd);
     n
 }

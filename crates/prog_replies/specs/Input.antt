@@ -5,7 +5,7 @@ use Prim.Native.Nat.{ℕ}
 use lib.Dec.{eqb}
 use Rattle.spec_decision.specs.Decision.{decide}
 use Rattle.prog_line.specs.Line.{Line, refused, question, asks}
-use Rattle.prog_words.specs.Words.{answer-text, refused-line}
+use Rattle.prog_words.specs.Words.{answer-text, refused-line, line}
 
 -- the newline, which ends a line
 abbrev pub ends-line : ℕ → Bool
@@ -44,13 +44,24 @@ answered table (question q) = answer-text (decide table q)
 
 -- what is printed for a line
 unfoldable pub reply : List ℕ → List ℕ → List ℕ
-reply table l = answered table (asks l) ++ (10 ∷ [])
+reply table l = line (answered table (asks l))
 
 -- for some lines
 unfoldable pub replies : List ℕ → List (List ℕ) → List ℕ
 replies table [] = []
 replies table (l ∷ ls) = reply table l ++ replies table ls
 
+-- an input that is read to its end, or whose reading fails behind some bytes
+pub data Input : Type 0 where
+  whole : List ℕ → Input
+  cut : List ℕ → Input
+
+-- A line that a fault of reading cuts is refused: what it would have asked is not known. Where no byte of it came, it is none.
+abbrev pub cut-line : List ℕ → List ℕ
+cut-line [] = []
+cut-line (b ∷ s) = line refused-line
+
 -- for all of the input
-abbrev pub printed : List ℕ → List ℕ → List ℕ
-printed table s = replies table (lines-of s)
+abbrev pub printed : List ℕ → Input → List ℕ
+printed table (whole s) = replies table (lines-of s)
+printed table (cut s) = replies table (parted s .lines) ++ cut-line (parted s .rest)

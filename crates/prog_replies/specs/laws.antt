@@ -3,3 +3,4 @@ pub mod Begun
 pub mod Steps
 pub mod Answer
 pub mod Room
+pub mod History

@@ -2,13 +2,13 @@
 use prog_line::Line;
 ghost use mathlib.Core.Path.{_≡_};
 ghost use mathlib.Core.Bool.{true};
-ghost use Prim.Native.Nat.{_+_, _≤_};
+ghost use Prim.Native.Nat.{_+_, _*_, _≤_};
 ghost use lib.ListN.{length, take};
 ghost use Rattle.spec_table.specs.Check.{is-table};
 ghost use Rattle.prog_line.specs.Line.{asks};
 ghost use Rattle.prog_words.specs.Put.{Put};
 ghost use Rattle.prog_replies.specs.Input.{answered, reply};
-ghost use Rattle.prog_replies.specs.Pieces.{room, Line-span, Extends, Responds, Finishes};
+ghost use Rattle.prog_replies.specs.Pieces.{room, longest-reply, Line-span, Extends, State, Responds, Finishes, Cuts};
 
 // How many bytes of a line that has begun are stored, and how many bytes of answers were written.
 pub struct Progress {
@@ -81,7 +81,7 @@ fn take_line(
 }
 
 // Answers the lines that end in a piece. Of the line behind them as much is stored as shows whether it is too long.
-// The caller has loaded the table, and has count from the piece before.
+// The caller has loaded the table, has count from the piece before, and lends room for the answers.
 pub fn respond(
     table: &[u8],
     piece: &[u8],
@@ -89,9 +89,8 @@ pub fn respond(
     count: usize,
     out: &mut [u8],
 ) -> Progress
-    requires { ⌜ (is-table (now table) ≡ true) × (length (now buffer) ≡ room) × (count ≤ room) ⌝ }
-    ensures { λ r. ⌜ (r .count ≤ room) × (r .printed ≤ length (now (out .exit)))
-        × Responds (now (table .entry)) (now (piece .entry)) (now (out .entry)) (now (buffer .entry)) count
+    requires { ⌜ (is-table (now table) ≡ true) × State (now buffer) count × (longest-reply * length (now piece) ≤ length (now out)) ⌝ }
+    ensures { λ r. ⌜ Responds (now (table .entry)) (now (piece .entry)) (now (out .entry)) (now (buffer .entry)) count
         (now (out .exit)) (r .printed) (now (buffer .exit)) (r .count) ⌝ }
 {
     let mut filled = count;
@@ -113,12 +112,24 @@ pub fn respond(
 // Answers the line that has begun at the end of the input: the last may lack its newline.
 // The caller has loaded the table, and has count from the last piece (respond).
 pub fn finish(table: &[u8], buffer: &[u8], count: usize, out: &mut [u8]) -> usize
-    requires { ⌜ (is-table (now table) ≡ true) × (count ≤ length (now buffer)) ⌝ }
-    ensures { λ r. ⌜ r ≤ length (now (out .exit)) ⌝ }
+    requires { ⌜ (is-table (now table) ≡ true) × State (now buffer) count × (longest-reply ≤ length (now out)) ⌝ }
     ensures { λ r. ⌜ Finishes (now (table .entry)) (now (buffer .entry)) count (now (out .entry)) (now (out .exit)) r ⌝ }
 {
     if count == 0 {
         return 0;
     }
     reply(table, &buffer[..count], out, 0)
+}
+
+// Refuses the line that has begun where the reading of the input fails.
+// The caller has count from the last piece (respond).
+pub fn cut(count: usize, out: &mut [u8]) -> usize
+    requires { ⌜ longest-reply ≤ length (now out) ⌝ }
+    ensures { λ r. ⌜ Cuts count (now (out .entry)) (now (out .exit)) r ⌝ }
+{
+    if 0 < count {
+        let text_end = prog_words::refused_text(out, 0);
+        return prog_words::put(b"\n", out, text_end);
+    }
+    0
 }

@@ -1,3 +1,4 @@
 pub mod Put
 pub mod Digits
+pub mod Length
 pub mod Examples

@@ -5,9 +5,12 @@ ghost use Prim.Native.Nat.{_≤_};
 ghost use lib.ListN.{length};
 ghost use mathlib.Core.List.{_++_};
 ghost use Rattle.spec_lists.specs.Text.{bytes};
-ghost use Rattle.prog_words.specs.Put.{Put};
-ghost use Rattle.prog_words.specs.Words.{access-word, log-word, answer-text, refused-line, decimal-digits, placed, refusal-text, warning-text};
+ghost use Rattle.prog_words.specs.Put.{Put, Stands};
+ghost use Rattle.prog_words.specs.Words.{access-word, log-word, answer-text, refused-line, decimal-digits, placed, refusal-line, warning-line};
+ghost use Rattle.spec_file.specs.Refusal.{number};
+ghost use mathlib.Core.Path.{_≡_};
 use spec_decision::Answer;
+use spec_file::Refusal;
 use spec_rule::Access;
 
 // ---- bytes and numbers
@@ -98,16 +101,37 @@ fn put_placed(word: &[u8], n: usize, p: usize, out: &mut [u8], at: usize) -> usi
     put_number(p, out, c)
 }
 
-pub fn refusal_text(n: usize, p: usize, out: &mut [u8], at: usize) -> usize
-    requires { ⌜ at ≤ length (now out) ⌝ }
-    ensures { λ r. ⌜ Put (refusal-text n p) (now (out .entry)) at (now (out .exit)) r ⌝ }
+// 01's number of a refusal.
+pub fn refusal_number(k: Refusal) -> usize
+    ensures { λ r. ⌜ r ≡ number k ⌝ }
 {
-    put_placed(b"refusal ", n, p, out, at)
+    match k {
+        Refusal::FileTooLong => 1,
+        Refusal::BadByte => 2,
+        Refusal::TooDeep => 3,
+        Refusal::Ungrammatical => 4,
+        Refusal::StringTooLong => 5,
+        Refusal::TooMany => 6,
+        Refusal::GivenAgain => 7,
+        Refusal::BadLevel => 8,
+        Refusal::UnknownWord => 9,
+        Refusal::BadCalculation => 10,
+        Refusal::NoRoom => 11,
+    }
 }
 
-pub fn warning_text(n: usize, p: usize, out: &mut [u8], at: usize) -> usize
-    requires { ⌜ at ≤ length (now out) ⌝ }
-    ensures { λ r. ⌜ Put (warning-text n p) (now (out .entry)) at (now (out .exit)) r ⌝ }
+// From the start on.
+pub fn refusal_line(k: Refusal, p: usize, out: &mut [u8]) -> usize
+    ensures { λ r. ⌜ Stands (refusal-line k p) (now (out .entry)) (now (out .exit)) r 64 ⌝ }
 {
-    put_placed(b"warning ", n, p, out, at)
+    let end = put_placed(b"refusal ", refusal_number(k), p, out, 0);
+    put(b"\n", out, end)
+}
+
+pub fn warning_line(n: usize, p: usize, out: &mut [u8], at: usize) -> usize
+    requires { ⌜ at ≤ length (now out) ⌝ }
+    ensures { λ r. ⌜ Put (warning-line n p) (now (out .entry)) at (now (out .exit)) r ⌝ }
+{
+    let end = put_placed(b"warning ", n, p, out, at);
+    put(b"\n", out, end)
 }

@@ -7,13 +7,12 @@ const PIECE: usize = 61;
 // Answers the questions of a file by the rules of a text.
 fn answer(rules: &[u8], path: &[u8]) {
     let mut table = [0u8; 35108];
-    let mut piece = [0u8; PIECE];
     let fd = os::open_read(path);
     if fd < 0 {
         os::fail(path);
         return;
     }
-    prog_ask::answer(rules, &mut table, fd, &mut piece);
+    prog_ask::answer(rules, &mut table, fd, PIECE);
     libc::close(fd);
 }
 

@@ -36,7 +36,7 @@ fn judge(line: &[u8]) {
     let end = bytes::scan::find(line, 0, line.len(), b' ');
     put(line);
     put(b"\n");
-    prog_check::check_and_load(&line[0..end], number(&line[end..]), b"");
+    vec_load::check_and_load(&line[0..end], number(&line[end..]), b"");
 }
 
 fn judge_all(s: &[u8]) {

@@ -22,7 +22,7 @@ fn judge(line: &[u8]) {
     ];
     put(&name);
     put(b"\n");
-    prog_check::check_and_load(&path, 35108, &table);
+    vec_load::check_and_load(&path, 35108, &table);
 }
 
 fn judge_all(s: &[u8]) {

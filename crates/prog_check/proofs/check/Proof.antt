@@ -1,49 +1,62 @@
-use Prim.Native.Nat.{_-_}
+use Rattle.prog_check.specs.laws.Checked.{refused-prints, warnings-few, warnings-print, prints}
+use native.Mathlib.Omega.{arith}
 use borrow.Author.Needs.{needs}
 use Rattle.prog_check.proofs.check.Statement.{statement}
 use Rattle.prog_check.proofs.check.Tie as tie
 
-abbrev Inv-loop : tie.InvT-loop
-Inv-loop text count skip₀ skip = Unit
+slice-aggregate-list-warnings : tie.Need-slice-aggregate-list-warnings
+slice-aggregate-list-warnings c = search needs
 
-abbrev μ-loop : tie.MeasureT-loop
-μ-loop text count skip₀ skip = count - skip
+slice-aggregate-list-warnings-2 : tie.Need-slice-aggregate-list-warnings-2
+slice-aggregate-list-warnings-2 c = search needs
 
-put-part-requires : tie.Need-put-part-requires Inv-loop μ-loop
-put-part-requires c κs = search needs
+list-warnings-requires : tie.Need-list-warnings-requires
+list-warnings-requires c κs = search needs
 
-at-most-requires : tie.Need-at-most-requires Inv-loop μ-loop
-at-most-requires c κs = search needs
+enum-known-refusal : tie.Need-enum-known-refusal
+enum-known-refusal c = search needs
 
-loop-holds : tie.Need-loop-holds Inv-loop μ-loop
-loop-holds c = search needs
+refusal-line-requires : tie.Need-refusal-line-requires
+refusal-line-requires c κs = search needs
 
-put-part-requires-2 : tie.Need-put-part-requires-2 Inv-loop μ-loop
-put-part-requires-2 c κs = search needs
+enum-known-count : tie.Need-enum-known-count
+enum-known-count c = search needs
 
-add-skip : tie.Need-add-skip Inv-loop μ-loop
-add-skip c = search needs
+slice-aggregate-put-warnings : tie.Need-slice-aggregate-put-warnings
+slice-aggregate-put-warnings c = search needs
 
-loop-less : tie.Need-loop-less Inv-loop μ-loop
-loop-less c = search needs
+slice-aggregate-put-warnings-2 : tie.Need-slice-aggregate-put-warnings-2
+slice-aggregate-put-warnings-2 c = search needs
 
-loop-again : tie.Need-loop-again Inv-loop μ-loop
-loop-again c = search needs
+put-warnings-requires : tie.Need-put-warnings-requires
+put-warnings-requires c κs = let f = warnings-few _ _ _ (c .before .before .before .before .before .before .before .before .list-warnings .ensures) (c .before .before .before .before .count .given .1) in (omega arith, omega arith)
 
-returns : tie.Need-returns Inv-loop μ-loop
-returns c = search needs
+same-length : tie.Need-same-length
+same-length c = search needs
+
+returns : tie.Need-returns
+returns c = prints (refused-prints _ _ _ (c .before .before .before .before .before .before .before .before .before .list-warnings .ensures) (c .before .before .before .before .before .refusal .given .1)) (omega arith) (c .before .before .refusal-line .ensures)
+
+same-length-2 : tie.Need-same-length-2
+same-length-2 c = search needs
+
+returns-2 : tie.Need-returns-2
+returns-2 c = prints (warnings-print _ _ _ (c .before .before .before .before .before .before .before .before .before .before .before .list-warnings .ensures) (c .before .before .before .before .before .before .before .count .given .1) (search needs) (search needs)) (let f = warnings-few _ _ _ (c .before .before .before .before .before .before .before .before .before .before .before .list-warnings .ensures) (c .before .before .before .before .before .before .before .count .given .1) in omega arith) (c .before .before .put-warnings .ensures)
 
 pub check-spec : {M : Type 1} → statement M
 check-spec =
     tie.close
     (tie.spec
-    Inv-loop
-    μ-loop
-    put-part-requires
-    at-most-requires
-    loop-holds
-    put-part-requires-2
-    add-skip
-    loop-less
-    loop-again
-    returns)
+    slice-aggregate-list-warnings
+    slice-aggregate-list-warnings-2
+    list-warnings-requires
+    enum-known-refusal
+    refusal-line-requires
+    enum-known-count
+    slice-aggregate-put-warnings
+    slice-aggregate-put-warnings-2
+    put-warnings-requires
+    same-length
+    returns
+    same-length-2
+    returns-2)

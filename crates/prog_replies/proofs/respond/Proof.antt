@@ -1,11 +1,12 @@
 use Rattle.prog_replies.specs.Pieces.{room, Begun, Answers}
 use Rattle.prog_replies.specs.laws.Steps.{line-span, at-start}
+use Rattle.prog_replies.specs.laws.History.{responds}
 use lib.Seq.{take-all}
 use lib.ListN.{length, take}
 use native.Mathlib.Omega.{arith}
 use Prim.Native.Nat.{ℕ, _+_, _-_, _≤_}
 use mathlib.Core.List.{List}
-use mathlib.Core.Path.{_≡_, refl, sym, subst}
+use mathlib.Core.Path.{_≡_, refl, subst}
 use borrow.Author.Needs.{needs}
 use Rattle.prog_replies.proofs.respond.Statement.{statement}
 use Rattle.prog_replies.proofs.respond.Tie as tie
@@ -27,7 +28,7 @@ abbrev μ-loop : tie.MeasureT-loop
 μ-loop table piece buffer₀ count out₀ filled₀ printed₀ at₀ buffer out filled printed at = length piece - at
 
 loop-holds : tie.Need-loop-holds Inv-loop μ-loop
-loop-holds c = (c .before .before .before .before .pre .1, c .before .before .before .before .pre .2, omega arith, refl, omega arith, λ h a. at-start (c .before .before .before .before .args .table .now) h (c .before .before .before .before .args .piece .now) (c .before .before .before .before .args .out .now) (c .before .before .before .before .args .buffer .now) (c .before .before .before .before .args .count) a)
+loop-holds c = (c .before .before .before .before .pre .1 .size, c .before .before .before .before .pre .1 .within, omega arith, refl, omega arith, λ h a. at-start (c .before .before .before .before .args .table .now) h (c .before .before .before .before .args .piece .now) (c .before .before .before .before .args .out .now) (c .before .before .before .before .args .buffer .now) (c .before .before .before .before .args .count) a)
 
 find-requires : tie.Need-find-requires Inv-loop μ-loop
 find-requires c κs = search needs
@@ -51,7 +52,7 @@ same-length-2 : tie.Need-same-length-2 Inv-loop μ-loop
 same-length-2 c = search needs
 
 returns : tie.Need-returns Inv-loop μ-loop
-returns c = (c .before .loop .inv .1, c .before .loop .inv .2, λ h a. subst (λ (s : List ℕ). Answers (c .before .before .before .before .before .before .args .table .now) h s (c .before .before .before .before .before .before .args .out .now) (c .before .loop .out) (c .before .loop .printed) (c .before .loop .buffer) (c .before .loop .filled)) (take-all (c .before .loop .at) (c .before .before .before .before .before .before .args .piece .now) (let z = c .loop-test .left in omega arith)) (c .before .loop .inv .5 h a))
+returns c = responds (c .before .before .before .before .before .before .pre .1) (c .before .before .before .before .before .before .pre .2) (c .before .loop .inv .0) (c .before .loop .inv .1) (λ h a. subst (λ (s : List ℕ). Answers (c .before .before .before .before .before .before .args .table .now) h s (c .before .before .before .before .before .before .args .out .now) (c .before .loop .out) (c .before .loop .printed) (c .before .loop .buffer) (c .before .loop .filled)) (take-all (c .before .loop .at) (c .before .before .before .before .before .before .args .piece .now) (let z = c .loop-test .left in omega arith)) (c .before .loop .inv .5 h a))
 
 pub respond-spec : {M : Type 1} → statement M
 respond-spec =

@@ -1,11 +1,11 @@
--- An input that comes in pieces is answered as it would be at once.
+-- The lines of an input that comes in pieces.
 use mathlib.Core.Path.{_≡_, refl, sym, ap, subst, _∙_}
 use mathlib.Core.Bool.{Bool, true, false, not, _&&_, false≢true}
-use mathlib.Core.List.{List, [], _∷_, _++_, append-nil, append-assoc}
-use Prim.Native.Nat.{ℕ}
-use Rattle.spec_lists.specs.Select.{joined}
-use Rattle.prog_replies.specs.Input.{ends-line, Parted, in-first, parted, last-line, reply, replies, printed}
-use Rattle.prog_replies.specs.Pieces.{plain, printed-by}
+use mathlib.Core.List.{List, [], _∷_, _++_, append-assoc}
+use Prim.Native.Nat.{ℕ, zero, suc}
+use lib.ListN.{take}
+use Rattle.prog_replies.specs.Input.{ends-line, Parted, in-first, parted, reply, replies}
+use Rattle.prog_replies.specs.Pieces.{plain}
 
 -- ---- one line
 
@@ -42,6 +42,15 @@ plain-append (x ∷ a) b h k = go (ends-line x) refl h (λ z. plain-append a b z
     go : (t : Bool) → ends-line x ≡ t → plain (x ∷ a) ≡ true → (plain a ≡ true → plain (a ++ b) ≡ true) → plain (x ∷ (a ++ b)) ≡ true
     go true e z i = absurd (false≢true (by-first x a true e z))
     go false e z i = rw e (i (by-first x a false e z))
+
+pub plain-take : (n : ℕ) (l : List ℕ) → plain l ≡ true → plain (take n l) ≡ true
+plain-take zero l h = refl
+plain-take (suc n) [] h = refl
+plain-take (suc n) (x ∷ l) h = go (ends-line x) refl h (plain-take n l)
+  where
+    go : (t : Bool) → ends-line x ≡ t → plain (x ∷ l) ≡ true → (plain l ≡ true → plain (take n l) ≡ true) → plain (x ∷ take n l) ≡ true
+    go true e z i = absurd (false≢true (by-first x l true e z))
+    go false e z i = rw e (i (by-first x l false e z))
 
 pub rest-plain : (a : List ℕ) → plain (parted a .rest) ≡ true
 unfolding parted
@@ -82,23 +91,3 @@ unfolding replies
 replies-append table [] b = refl
 replies-append table (l ∷ a) b =
     ap (λ (s : List ℕ). reply table l ++ s) (replies-append table a b) ∙ sym (append-assoc (reply table l) (replies table a) (replies table b))
-
--- ---- all pieces
-
-module _ (table : List ℕ) where
-  -- a line begun, and pieces behind it
-  begun : (h : List ℕ) (ps : List (List ℕ)) → plain h ≡ true → printed-by table h ps ≡ printed table (h ++ joined ps)
-  unfolding printed-by
-  begun h [] k = rw (append-nil h, plain-parted h k) refl
-  begun h (p ∷ ps) k =
-      let next = parted (h ++ p) .rest in
-      let whole : parted (h ++ (p ++ joined ps)) ≡ then (parted (h ++ p)) (joined ps) =
-      ap parted (sym (append-assoc h p (joined ps))) ∙ parted-append (h ++ p) (joined ps) in
-      ap (λ (s : List ℕ). replies table (parted (h ++ p) .lines) ++ s) (begun next ps (rest-plain (h ++ p)))
-      ∙ sym (replies-append table (parted (h ++ p) .lines) (parted (next ++ joined ps) .lines ++ last-line (parted (next ++ joined ps) .rest)))
-      ∙ ap (replies table) (sym (append-assoc (parted (h ++ p) .lines) (parted (next ++ joined ps) .lines) (last-line (parted (next ++ joined ps) .rest))))
-      ∙ ap (λ (q : Parted). replies table (q .lines ++ last-line (q .rest))) (sym whole)
-
-  -- however the input is cut into pieces, the same is printed
-  pub by-pieces : (ps : List (List ℕ)) → printed-by table [] ps ≡ printed table (joined ps)
-  by-pieces ps = begun [] ps refl

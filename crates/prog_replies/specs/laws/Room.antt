@@ -12,7 +12,7 @@ use Rattle.spec_decision.specs.declared.Answer.{Answer}
 use Rattle.spec_decision.specs.declared.Answer.the-variants.{Answered, NotTable, BadLevel}
 use Rattle.spec_decision.specs.Decision.{decide}
 use Rattle.prog_line.specs.Line.{Line, refused, question, asks}
-use Rattle.prog_words.specs.Words.{access-word, log-word, answer-text}
+use Rattle.prog_words.specs.Words.{access-word, log-word, digits-in, decimal-digits, answer-text}
 use Rattle.prog_words.specs.laws.Put.{put-whole}
 use Rattle.prog_replies.specs.Input.{ends-line, in-first, parted, answered, reply, replies}
 use Rattle.prog_replies.specs.Pieces.{plain, Answers}
@@ -27,7 +27,7 @@ short-words access.Write true = omega arith
 short-words access.Write false = omega arith
 
 short-answer : (a : Answer) → length (answer-text a) ≤ 17
-unfolding answer-text
+unfolding answer-text decimal-digits digits-in
 short-answer (Answered d) = short-words (d .access) (d .trap)
 short-answer NotTable = omega arith
 short-answer BadLevel = omega arith
@@ -40,7 +40,7 @@ short-reply : (table l : List ℕ) → length (reply table l) ≤ 18
 unfolding reply
 short-reply table l = let z = length-append (answered table (asks l)) (10 ∷ []) in let y = short-line table (asks l) in omega arith
 
-short-replies : (table : List ℕ) (ls : List (List ℕ)) → length (replies table ls) ≤ 18 * length ls
+pub short-replies : (table : List ℕ) (ls : List (List ℕ)) → length (replies table ls) ≤ 18 * length ls
 unfolding replies
 short-replies table [] = omega arith
 short-replies table (l ∷ ls) =
@@ -59,7 +59,7 @@ few-lines (b ∷ p) = go (ends-line b) refl (few-lines p)
     go true e i = rw e (omega arith)
     go false e i = rw e (let z = as-many b (parted p .lines) (parted p .rest) in omega arith)
 
-few-behind : (h p : List ℕ) → plain h ≡ true → length (parted (h ++ p) .lines) ≤ length p
+pub few-behind : (h p : List ℕ) → plain h ≡ true → length (parted (h ++ p) .lines) ≤ length p
 unfolding parted
 few-behind [] p k = few-lines p
 few-behind (b ∷ h) p k = go (ends-line b) refl (few-behind h p)

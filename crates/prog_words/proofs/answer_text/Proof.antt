@@ -1,4 +1,4 @@
-use Rattle.prog_words.specs.Words.{answer-text}
+use Rattle.prog_words.specs.Words.{answer-text, digits-in, decimal-digits}
 use Rattle.prog_words.specs.laws.Put.{put-within, put-put, put-as}
 use mathlib.Core.Path.{ap}
 use borrow.Author.Needs.{needs}
@@ -43,14 +43,14 @@ same-length-2 : tie.Need-same-length-2
 same-length-2 c = search needs
 
 returns-2 : tie.Need-returns-2
-unfolding answer-text
+unfolding answer-text decimal-digits digits-in
 returns-2 c = put-as (ap answer-text (c .before .before .before .before .before .enum-told .given .1)) (c .before .before .put .ensures)
 
 same-length-3 : tie.Need-same-length-3
 same-length-3 c = search needs
 
 returns-3 : tie.Need-returns-3
-unfolding answer-text
+unfolding answer-text decimal-digits digits-in
 returns-3 c = put-as (ap answer-text (c .before .before .before .before .before .enum-told2 .given .1)) (c .before .before .put2 .ensures)
 
 pub answer-text-spec : {M : Type 1} → statement M

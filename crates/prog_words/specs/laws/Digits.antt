@@ -5,7 +5,8 @@ use mathlib.Core.List.{List, [], _∷_, _++_}
 use Prim.Native.Nat.{ℕ, zero, suc, _+_, _-_, _*_, _/_, _%_, _≤_, _<_}
 use native.Mathlib.Omega.{arith}
 use lib.Dec.{ltb}
-use borrow.Author.Tests.{ltb-false, lt-ltb, le-ltb}
+use lib.ListN.{length, length-append}
+use borrow.Author.Tests.{ltb-true, ltb-false, lt-ltb, le-ltb}
 use Rattle.spec_lists.specs.Text.{whole}
 use Rattle.prog_words.specs.Words.{digits-in, decimal-digits}
 use Rattle.prog_words.specs.Put.{Put}
@@ -65,3 +66,23 @@ spelled-in (suc f) n h = go (ltb n 10) refl (spelled-in f (n / 10))
 pub spelled : (n : ℕ) → whole 0 (decimal-digits n) ≡ n
 unfolding decimal-digits
 spelled n = spelled-in (suc n) n (omega arith)
+
+-- ---- how many digits a number has
+
+-- a one and n zeros
+abbrev pub power-of-ten : ℕ → ℕ
+power-of-ten zero = 1
+power-of-ten (suc n) = power-of-ten n * 10
+
+pub few-digits : (k n : ℕ) → n < power-of-ten (suc k) → length (decimal-digits n) ≤ suc k
+few-digits zero n h = rw (one-digit n (omega arith)) (omega arith)
+few-digits (suc k) n h = go (ltb n 10) refl (few-digits k (n / 10))
+  where
+    go :
+        (t : Bool) → ltb n 10 ≡ t → (n / 10 < power-of-ten (suc k) → length (decimal-digits (n / 10)) ≤ suc k)
+        → length (decimal-digits n) ≤ suc (suc k)
+    go true e i = rw (one-digit n (ltb-true n 10 e)) (omega arith)
+    go false e i =
+        let z = length-append (decimal-digits (n / 10)) ((48 + n % 10) ∷ []) in
+        let y = i (omega arith) in
+        rw (more-digits n (ltb-false n 10 e)) (omega arith)

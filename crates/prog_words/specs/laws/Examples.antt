@@ -4,8 +4,8 @@ use mathlib.Core.Bool.{true, false}
 use Rattle.spec_lists.specs.Text.{bytes}
 use Rattle.spec_rule.specs.declared.Access.the-variants as access
 use Rattle.spec_rule.specs.Decision.{with-trap}
-use Rattle.spec_decision.specs.declared.Answer.the-variants.{Answered}
-use Rattle.prog_words.specs.Words.{answer-text, digits-in, decimal-digits, placed, warning-text}
+use Rattle.spec_decision.specs.declared.Answer.the-variants.{Answered, BadLevel}
+use Rattle.prog_words.specs.Words.{answer-text, digits-in, decimal-digits, placed, line, warning-line}
 
 write-trap : answer-text (Answered (with-trap access.Write true)) ≡ bytes "WRITE TRAPWRITE"
 unfolding answer-text
@@ -15,6 +15,10 @@ read : answer-text (Answered (with-trap access.Read false)) ≡ bytes "READ NOTR
 unfolding answer-text
 read = refl
 
-a-warning : warning-text 2 54 ≡ bytes "warning 2 at 54"
+refused-21 : answer-text BadLevel ≡ bytes "refused 21"
+unfolding answer-text decimal-digits digits-in
+refused-21 = refl
+
+a-warning : warning-line 2 54 ≡ line (bytes "warning 2 at 54")
 unfolding placed decimal-digits digits-in
 a-warning = refl

@@ -1,8 +1,8 @@
 use lib.ListN.{length}
 use Prim.Native.Nat.{_-_}
 use borrow.Author.Needs.{needs}
-use Rattle.prog_check.proofs.untouched.Statement.{statement}
-use Rattle.prog_check.proofs.untouched.Tie as tie
+use Rattle.vec_load.proofs.untouched.Statement.{statement}
+use Rattle.vec_load.proofs.untouched.Tie as tie
 
 abbrev Inv-loop : tie.InvT-loop
 Inv-loop lent from i₀ i = Unit

@@ -2,10 +2,10 @@ use native.Mathlib.Omega.{arith}
 use mathlib.Core.Path.{sym}
 use lib.Seq.{length-take-le}
 use borrow.Author.Needs.{needs}
-use Rattle.prog_check.proofs.put_table.Statement.{statement}
-use Rattle.prog_check.proofs.put_table.Tie as tie
-use Rattle.prog_check.proofs.put_table.Reads as reads
-use Rattle.prog_check.proofs.put_table.Lts as lts
+use Rattle.vec_load.proofs.put_table.Statement.{statement}
+use Rattle.vec_load.proofs.put_table.Tie as tie
+use Rattle.vec_load.proofs.put_table.Reads as reads
+use Rattle.vec_load.proofs.put_table.Lts as lts
 use Rattle.byte_compare.proofs.equal.Reads as equal-reads
 use Rattle.io.proofs.large_buffer.Reads as large-buffer-reads
 use Rattle.prog_input.proofs.read.Reads as read-reads

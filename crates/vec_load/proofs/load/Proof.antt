@@ -1,15 +1,15 @@
 use mathlib.Core.Path.{sym}
 use lib.Seq.{length-take-le}
 use borrow.Author.Needs.{needs}
-use Rattle.prog_check.proofs.load.Statement.{statement}
-use Rattle.prog_check.proofs.load.Tie as tie
-use Rattle.prog_check.proofs.load.Reads as reads
-use Rattle.prog_check.proofs.load.Lts as lts
+use Rattle.vec_load.proofs.load.Statement.{statement}
+use Rattle.vec_load.proofs.load.Tie as tie
+use Rattle.vec_load.proofs.load.Reads as reads
+use Rattle.vec_load.proofs.load.Lts as lts
 use Rattle.load.proofs.load.Reads as load-reads
-use Rattle.prog_check.proofs.put_answer.Reads as put-answer-reads
-use Rattle.prog_check.proofs.put_rest.Reads as put-rest-reads
-use Rattle.prog_check.proofs.put_table.Reads as put-table-reads
-use Rattle.prog_check.proofs.written.Reads as written-reads
+use Rattle.vec_load.proofs.put_answer.Reads as put-answer-reads
+use Rattle.vec_load.proofs.put_rest.Reads as put-rest-reads
+use Rattle.vec_load.proofs.put_table.Reads as put-table-reads
+use Rattle.vec_load.proofs.written.Reads as written-reads
 
 -- src/lib.rt:134:37
 slice-relend-prefix-load : tie.Need-slice-relend-prefix-load

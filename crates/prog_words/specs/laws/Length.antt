@@ -1,0 +1,46 @@
+-- How long a line is.
+use mathlib.Core.List.{_∷_, [], List, _++_}
+use mathlib.Core.Path.{_≡_}
+use Prim.Native.Nat.{ℕ, _+_, _≤_, _<_}
+use native.Mathlib.Omega.{arith}
+use lib.ListN.{length, length-append}
+use Rattle.spec_lists.specs.Text.{bytes}
+use Rattle.spec_file.specs.declared.Refusal.{Refusal}
+use Rattle.spec_file.specs.declared.Refusal.the-variants as cause
+use Rattle.spec_file.specs.Refusal as refusal
+use Rattle.prog_words.specs.Words.{decimal-digits, placed, refusal-line}
+use Rattle.prog_words.specs.laws.Digits.{few-digits}
+
+pub placed-length : (w : List ℕ) (n p : ℕ) → length (placed w n p) ≡ length w + length (decimal-digits n) + 4 + length (decimal-digits p)
+unfolding placed
+placed-length w n p =
+    omega (
+      arith,
+      length-append w (decimal-digits n ++ (bytes " at " ++ decimal-digits p)),
+      length-append (decimal-digits n) (bytes " at " ++ decimal-digits p),
+      length-append (bytes " at ") (decimal-digits p),
+    )
+
+small-number : (k : Refusal) → refusal.number k < 100
+small-number cause.FileTooLong = omega arith
+small-number cause.BadByte = omega arith
+small-number cause.TooDeep = omega arith
+small-number cause.Ungrammatical = omega arith
+small-number cause.StringTooLong = omega arith
+small-number cause.TooMany = omega arith
+small-number cause.GivenAgain = omega arith
+small-number cause.BadLevel = omega arith
+small-number cause.UnknownWord = omega arith
+small-number cause.BadCalculation = omega arith
+small-number cause.NoRoom = omega arith
+
+-- a refusal whose place has 20 digits at most
+pub short-refusal : (k : Refusal) (p : ℕ) → p < 100000000000000000000 → length (refusal-line k p) ≤ 64
+short-refusal k p h =
+    omega (
+      arith,
+      length-append (placed (bytes "refusal ") (refusal.number k) p) (10 ∷ []),
+      placed-length (bytes "refusal ") (refusal.number k) p,
+      few-digits 1 (refusal.number k) (let z = small-number k in omega arith),
+      few-digits 19 p (omega arith),
+    )
