@@ -17,7 +17,7 @@ use Rattle.spec_demand.specs.Vocabulary.{Every, Token, Spelled, Ascendin
 use Rattle.spec_demand.specs.Vocabulary.{Question, reading-instead, rank, greatest-level, Refusal, refusal-number, place, file-of, Context, contexts, Applies}
 use Rattle.spec_demand.specs.Vocabulary.{Text-reads, Caused, Acceptable, Refusable, Warned, warnings, Given, Table, is-table, total-of, view, table-of}
 use Rattle.spec_demand.specs.Vocabulary.{greatest-table, written, without-room, load, warnings-written, listing, look-up, look-up-number, part-in}
-use Rattle.spec_demand.specs.Vocabulary.{number, access-in, trap-in, decide, By-table, By-file, Edition, access-later, Says-no, input-by-file, name-found}
+use Rattle.spec_demand.specs.Vocabulary.{number, access-in, trap-in, decide, By-table, By-file, Edition, access-later, Says-no, Names-input, name-found}
 use Rattle.spec_demand.specs.Vocabulary.{Call, after-call, is-accepted, No-accepted-load, Told, refusal-of, Proved-cases}
 use Rattle.spec_demand.specs.Vocabulary.{Memory, Storage, bytes-in, Step, calls-of, Made, Nobody-else-writes}
 use Rattle.spec_demand.specs.laws.Cited as proved
@@ -99,15 +99,15 @@ pub record Exact : Type 0 where
       → (decide (table-of (file-of xs) ++ rest) q ≡ Answered d) ↔ ((q .level ≤ greatest-level) × By-file (file-of xs) q d)
   -- the look-up finds the name that the file gives an input; no letter over 20 has one
   pub inputs :
-      (s : List ℕ) (xs : List Tagged) → Acceptable s xs → (rest g : List ℕ) (letter : ℕ)
-      → name-found (look-up (table-of (file-of xs) ++ rest) g letter) (table-of (file-of xs) ++ rest) ≡ input-by-file (file-of xs) g letter
+      (s : List ℕ) (xs : List Tagged) → Acceptable s xs → (rest g : List ℕ) (letter : ℕ) (n : List ℕ)
+      → (name-found (look-up (table-of (file-of xs) ++ rest) g letter) (table-of (file-of xs) ++ rest) ≡ some n) ↔ Names-input (file-of xs) g letter n
   pub letter-over : (b : List ℕ) → Table b → (g : List ℕ) (letter : ℕ) → greatest-letter < letter → look-up b g letter ≡ NoInput
 
 pub demand-2 : Exact
 demand-2 =
     record {
       either = proved.acceptable-or-refusable;
-      never-both = proved.never-both;
+      never-both = proved.never-acceptable-and-refusable;
       one-meaning = proved.one-reading;
       one-refusal = proved.one-refusal;
       places-ascend = proved.places-ascend;
@@ -129,7 +129,7 @@ demand-2 =
       bad-level = proved.bad-level-is;
       by-table = proved.by-table-is;
       by-file = proved.by-file-is;
-      inputs = proved.inputs-by-file;
+      inputs = proved.input-is;
       letter-over = proved.letter-over;
     }
 

@@ -2,7 +2,7 @@
 pub use Rattle.spec_token.specs.laws.Theorem.{places-ascend, tokens-stand}
 pub use Rattle.spec_calc.specs.laws.Theorem.{parses-sound, parses-complete}
 pub use Rattle.spec_file.specs.laws.Causes.{five-to-ten}
-pub use Rattle.spec_file.specs.laws.Either.{acceptable-or-refusable, never-both, one-reading, one-refusal}
+pub use Rattle.spec_file.specs.laws.Either.{acceptable-or-refusable, never-acceptable-and-refusable, one-reading, one-refusal}
 pub use Rattle.spec_file.specs.laws.Places.{earliest, warnings-by-place}
 pub use Rattle.spec_file.specs.laws.Warnings.{warned-exactly}
 pub use Rattle.spec_table.specs.laws.Table.{table-is}
@@ -12,7 +12,7 @@ pub use Rattle.spec_decision.specs.laws.Privilege.{by-table-is}
 pub use Rattle.spec_demand.specs.laws.Answered.{refused-load, refused-listing, accepted-listing}
 pub use Rattle.spec_demand.specs.laws.Refusals.{refused-load-numbered, refused-listing-numbered}
 pub use Rattle.spec_demand.specs.laws.Loaded.{refused-call-leaves}
-pub use Rattle.spec_demand.specs.laws.Privilege.{by-file-is}
-pub use Rattle.spec_demand.specs.laws.Exact.{refused-grants-nothing, zeros-grant-nothing, laid-down, not-laid-down, stands, inputs-by-file}
+pub use Rattle.spec_demand.specs.laws.Privilege.{by-file-is, input-is}
+pub use Rattle.spec_demand.specs.laws.Exact.{refused-grants-nothing, zeros-grant-nothing, laid-down, not-laid-down, stands}
 pub use Rattle.spec_demand.specs.laws.Memory.{never-more}
 pub use Rattle.spec_demand.specs.laws.Cases.{proved-cases}
