@@ -22,8 +22,8 @@ fn ask_checked(
 ) -> Answer
     ensures { λ r. ⌜ r ≡ decide (now (lent .entry)) (question-of (now (group .entry)) (now (user .entry)) (now (host .entry)) level rs) ⌝ }
 {
-    if table_check::is_table(lent) {
-        ask::decide_checked(lent, group, user, host, level, rs)
+    if table::is_table(lent) {
+        ask_checked::decide_checked(lent, group, user, host, level, rs)
     } else {
         Answer::NotTable
     }
@@ -33,8 +33,8 @@ fn ask_checked(
 fn find_checked(lent: &[u8], group: &[u8], letter: u32) -> Found
     ensures { λ r. ⌜ r ≡ look-up (now (lent .entry)) (now (group .entry)) letter ⌝ }
 {
-    if table_check::is_table(lent) {
-        ask::find_input_checked(lent, group, letter)
+    if table::is_table(lent) {
+        ask_checked::find_input_checked(lent, group, letter)
     } else {
         Found::NotTable
     }
@@ -55,7 +55,7 @@ fn call_on_table(
     ensures { λ r. ⌜ r ≡ answer-to (now (lent .entry)) (call-of what (now (a .entry)) (now (b .entry)) (now (c .entry)) skip n rs) ⌝ }
 {
     if what == 2 {
-        return Reply::Checked(table_check::is_table(lent));
+        return Reply::Checked(table::is_table(lent));
     }
     if what == 3 {
         return Reply::Answered(ask::decide(lent, a, b, c, n, rs));
@@ -96,7 +96,7 @@ fn call_on_text(
     Reply::Holds(calc::holds(a, rs))
 }
 
-// A call that only reads: it is given the table as &[u8]. Its caller, api_sequence, has made loads and lists of warnings itself.
+// A call that only reads: it is given the table as &[u8]. Its caller, sequence, has made loads and lists of warnings itself.
 pub fn call_reading(
     what: usize,
     a: &[u8],

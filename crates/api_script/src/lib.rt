@@ -46,7 +46,7 @@ fn part<'a>(pool: &'a [u8], from: usize, to: usize) -> &'a [u8]
     &pool[from..to]
 }
 
-// The j-th word of the i-th call. The caller, api_sequence, asks for calls that stand in the script whole.
+// The j-th word of the i-th call. The caller, sequence, asks for calls that stand in the script whole.
 pub fn word(script: &[usize], i: usize, j: usize) -> usize
     requires { ⌜ (i * 16 + 16 ≤ length (now script)) × (j < 16) ⌝ }
     ensures { λ r. ⌜ r ≡ word (now (script .entry)) i j ⌝ }

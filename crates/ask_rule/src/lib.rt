@@ -174,7 +174,7 @@ fn calculation_true(table: &[u8], rule: usize, values: &[f64; 21], goods: &[bool
     if at + n == 0 {
         return true;
     }
-    calc::holds_with(
+    calc_truth::holds_with(
         table_read::name_of(table, Section::Rules, rule),
         values,
         goods,

@@ -28,14 +28,14 @@ pub extern "C" fn hrazvanut_abi_list_warnings(
         Lists (listing skip (now (numbers .entry)) (now (places .entry)) (now (text .entry))) (now (numbers .exit)) (now (places .exit)) r
         ⌝ }
 {
-    api_numbers::listed_number(load_listing::list_warnings(text, skip, numbers, places))
+    api_numbers::listed_number(warnings::list_warnings(text, skip, numbers, places))
 }
 
 #[no_mangle]
 pub extern "C" fn hrazvanut_abi_is_table(table: &[u8]) -> u8
     ensures { λ r. ⌜ r ≡ yes (is-table (now (table .entry))) ⌝ }
 {
-    if table_check::is_table(table) { 1 } else { 0 }
+    if table::is_table(table) { 1 } else { 0 }
 }
 
 #[no_mangle]
@@ -73,7 +73,7 @@ pub extern "C" fn hrazvanut_abi_decide_checked(
         ⌝ }
 {
     let rs = api_readings::readings(states, values, 0);
-    api_numbers::answer_number(ask::decide_checked(table, group, user, host, level, rs))
+    api_numbers::answer_number(ask_checked::decide_checked(table, group, user, host, level, rs))
 }
 
 #[no_mangle]

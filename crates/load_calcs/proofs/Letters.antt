@@ -13,7 +13,7 @@ use Rattle.spec_calc.specs.Value.{letters}
 use Rattle.spec_calc.specs.Reader.{tree-of}
 use Rattle.spec_calc.specs.laws.Theorem.{parses-sound}
 use Rattle.spec_file.specs.Refusal.{letters-among}
-use Rattle.calc.specs.laws.Letters.{parsed-letters}
+use Rattle.calc_truth.specs.laws.Letters.{parsed-letters}
 use Rattle.load_calcs.specs.laws.Letter.{in-range, spells-in-range}
 
 in-range-below : (i : ℕ) → in-range i ≡ true → i < 21

@@ -63,7 +63,7 @@ fn judge_long(
 }
 
 // The refusals 2 to 10. The arrays hold the tokens of a text that has none; else they are scratch.
-// The callers, load_listing and load, have looked at the text's length and have arrays as long as the text.
+// The callers, warnings and load, have looked at the text's length and have arrays as long as the text.
 pub fn judge(
     s: &[u8],
     places: &mut [u16],

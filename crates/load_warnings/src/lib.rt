@@ -126,7 +126,7 @@ fn write(
 }
 
 // The warnings of n tokens of an accepted file, from the skip-th on, as many as there is room for, and how many there are.
-// The callers, load_listing and load_store, have the tokens from load_judge.
+// The callers, warnings and load_store, have the tokens from load_judge.
 pub fn warnings(
     s: &[u8],
     places: &[u16],

@@ -40,7 +40,7 @@ pub fn check(text: &[u8], out: &mut [u8]) -> usize
 {
     let mut numbers = [0u8; MOST];
     let mut places = [0u16; MOST];
-    match load_listing::list_warnings(text, 0, &mut numbers, &mut places) {
+    match warnings::list_warnings(text, 0, &mut numbers, &mut places) {
         Listed::Refused { refusal, place } => prog_words::refusal_line(refusal, place, out),
         Listed::Warnings(count) => put_warnings(&numbers, &places, count, out),
     }

@@ -34,7 +34,7 @@ fn answer_line(table: &[u8], line: &[u8], out: &mut [u8], at: usize) -> usize
             let host_name = prog_line::part(line, host, level_at);
             let mut allowed = false;
             let rs = prog_line::readings(line, level_at + 1, &mut allowed);
-            let answer = ask::decide_checked(table, group, user_name, host_name, level, rs);
+            let answer = ask_checked::decide_checked(table, group, user_name, host_name, level, rs);
             prog_words::answer_text(answer, out, at)
         }
     }

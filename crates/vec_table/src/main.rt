@@ -11,7 +11,7 @@ fn judge(line: &[u8]) {
     let mut buf = io::large_buffer();
     let n = prog_input::read(&path, &mut buf);
     put(&name);
-    if table_check::is_table(&buf[..n]) {
+    if table::is_table(&buf[..n]) {
         put(b" table\n");
     } else {
         put(b" no\n");

@@ -1,4 +1,4 @@
-use Rattle.ask.specs.laws.Decide.{decide-not}
+use Rattle.ask_checked.specs.laws.Decide.{decide-not}
 use Rattle.spec_rule.specs.Question.{question-of}
 use mathlib.Core.Path.{sym, _∙_}
 use borrow.Author.Needs.{needs}

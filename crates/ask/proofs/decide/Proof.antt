@@ -1,5 +1,5 @@
 use Rattle.spec_rule.specs.Question.{question-of}
-use Rattle.ask.specs.laws.Decide.{decide-not}
+use Rattle.ask_checked.specs.laws.Decide.{decide-not}
 use mathlib.Core.Path.{sym, _∙_}
 use borrow.Author.Needs.{needs}
 use Rattle.ask.proofs.decide.Statement.{statement}

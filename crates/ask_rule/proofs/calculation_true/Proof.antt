@@ -6,7 +6,7 @@ use Rattle.spec_rule.specs.Rule.{true-tree}
 use Rattle.spec_calc.specs.Reader.{tree-of}
 use native.Mathlib.Omega.{arith}
 use mathlib.Core.Path.{sym, ap, _∙_}
-use Rattle.calc.specs.laws.Answers.{holds-is}
+use Rattle.calc_truth.specs.laws.Answers.{holds-is}
 use borrow.Author.Needs.{needs}
 use Rattle.ask_rule.proofs.calculation_true.Statement.{statement}
 use Rattle.ask_rule.proofs.calculation_true.Tie as tie

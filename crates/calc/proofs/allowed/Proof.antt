@@ -1,5 +1,5 @@
 use Rattle.spec_calc.specs.Reader.{tree-of}
-use Rattle.calc.specs.laws.Answers.{allowed-yes, allowed-no}
+use Rattle.calc_truth.specs.laws.Answers.{allowed-yes, allowed-no}
 use borrow.Author.Needs.{needs}
 use Rattle.calc.proofs.allowed.Statement.{statement}
 use Rattle.calc.proofs.allowed.Tie as tie

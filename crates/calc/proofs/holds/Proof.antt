@@ -1,5 +1,5 @@
 use Rattle.spec_calc.specs.Reader.{tree-of}
-use Rattle.calc.specs.laws.Answers.{holds-is}
+use Rattle.calc_truth.specs.laws.Answers.{holds-is}
 use borrow.Author.Needs.{needs}
 use Rattle.calc.proofs.holds.Statement.{statement}
 use Rattle.calc.proofs.holds.Tie as tie

@@ -1,7 +1,7 @@
 use Prim.Native.Nat.{_-_}
 use mathlib.Core.Path.{refl}
 use native.Mathlib.Omega.{arith}
-use Rattle.calc.specs.laws.Answers.{Filled-to, filled-none, filled-more, filled-all}
+use Rattle.calc_truth.specs.laws.Answers.{Filled-to, filled-none, filled-more, filled-all}
 use borrow.Author.Needs.{needs}
 use Rattle.calc.proofs.inputs_of.Statement.{statement}
 use Rattle.calc.proofs.inputs_of.Tie as tie

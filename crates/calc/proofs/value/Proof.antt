@@ -1,4 +1,4 @@
-use Rattle.calc.specs.laws.Answers.{value-none, value-good, value-bad}
+use Rattle.calc_truth.specs.laws.Answers.{value-none, value-good, value-bad}
 use borrow.Author.Needs.{needs}
 use Rattle.calc.proofs.value.Statement.{statement}
 use Rattle.calc.proofs.value.Tie as tie

@@ -8,8 +8,8 @@ use lib.ListN.{replicate, getD-replicate}
 use Rattle.spec_lists.specs.Select.{all}
 use Rattle.spec_lists.specs.laws.Range.{bounded}
 use Rattle.spec_calc.specs.Symbol.{Symbol, Spells, end, skipped, numbered, capital, small, signed}
-use Rattle.calc.specs.Answer.{given-letter, letters-in}
-use Rattle.calc.specs.laws.Letters.{sign-letters}
+use Rattle.calc_truth.specs.Answer.{given-letter, letters-in}
+use Rattle.calc_truth.specs.laws.Letters.{sign-letters}
 
 -- a letter of the 21
 abbrev pub in-range : ℕ → Bool

@@ -6,7 +6,7 @@ use Rattle.prog_replies.proofs.answer_line.Statement.{statement}
 use Rattle.prog_replies.proofs.answer_line.Tie as tie
 use Rattle.prog_replies.proofs.answer_line.Reads as reads
 use Rattle.prog_replies.proofs.answer_line.Lts as lts
-use Rattle.ask.proofs.decide_checked.Reads as decide-checked-reads
+use Rattle.ask_checked.proofs.decide_checked.Reads as decide-checked-reads
 use Rattle.prog_line.proofs.group.Reads as group-reads
 use Rattle.prog_line.proofs.part.Reads as part-reads
 use Rattle.prog_line.proofs.question.Reads as question-reads

@@ -1,0 +1,69 @@
+-- The look-up, from the input that a search finds.
+use mathlib.Core.Path.{_≡_, sym, ap, ap₂, subst, _∙_}
+use mathlib.Core.Bool.{true, false}
+use mathlib.Core.List.{List}
+use mathlib.Core.Option.{Option, none, some}
+use Prim.Native.Nat.{ℕ, _+_}
+use Rattle.spec_file.specs.Limit.{access-groups, inputs}
+use Rattle.spec_table.specs.View.{view, strings-extent, strings-order, offset-of}
+use Rattle.spec_table.specs.Check.{is-table, name-run}
+use Rattle.spec_table.specs.Policy.{name, row}
+use Rattle.spec_table.specs.laws.Fields.{string-at, strings-count}
+use Rattle.spec_table.specs.laws.Standing.{stands, name-within}
+use Rattle.spec_decision.specs.declared.Found.{Found}
+use Rattle.spec_decision.specs.declared.Found.the-variants as found
+use Rattle.spec_decision.specs.LookUp.{part-in, input-of, named-part, look-up}
+use Rattle.table_fields.specs.Field.{Word}
+use Rattle.table_read.specs.declared.Index.{Index}
+use Rattle.table_read.specs.declared.Index.the-variants.{At, Missing}
+use Rattle.table_read.specs.Stored.{word-of}
+use Rattle.table_read.specs.Search.{Finds, not-found, group-for, Finds-answering}
+use Rattle.table_read.specs.laws.Search.{finds-at, finds-none}
+use Rattle.ask_checked.specs.Group.{Finds-letter}
+
+module _ (b g : List ℕ) (l : ℕ) where
+  pub look-not : is-table b ≡ false → look-up b g l ≡ found.NotTable
+  unfolding look-up
+  look-not h = rw h
+
+  pub input-missing : {r : Index} → Finds-answering b g r → r ≡ Missing → Finds-letter b g l Missing
+  input-missing f e = subst (λ (o : Option (List ℕ)). Finds (view b .records inputs) (input-of (view b) l o) Missing) (sym (finds-none f e)) not-found
+
+  pub input-found :
+      {r p : Index} {x : ℕ} (i : ℕ) → Finds-answering b g r → r ≡ At i → x ≡ l
+      → Finds (view b .records inputs) (input-of (view b) x (some (row (view b) access-groups i))) p
+      → Finds-letter b g l p
+  input-found {r} {p} i f e y d =
+      subst
+      (λ (o : Option (List ℕ)). Finds (view b .records inputs) (input-of (view b) l o) p)
+      (sym (finds-at i f e .0))
+      (rw y at d)
+
+  module _ (h : is-table b ≡ true) where
+    pub look-none : {r : Index} → Finds-letter b g l r → r ≡ Missing → look-up b g l ≡ found.NoInput
+    unfolding look-up
+    look-none f e =
+        let z : input-of (view b) l (group-for b g) ≡ none = finds-none f e in
+        rw h (ap (named-part b) z)
+
+    pub look-found :
+        {r : Index} (i : ℕ) → Finds-letter b g l r → r ≡ At i
+        → look-up b g l ≡ found.Part (strings-extent b .first + name-run inputs (row (view b) inputs i) .first) (name-run inputs (row (view b) inputs i) .count)
+    unfolding look-up
+    look-found i f e =
+        let z : input-of (view b) l (group-for b g) ≡ some (row (view b) inputs i) = finds-at i f e .0 in
+        rw h (ap (named-part b) z)
+
+    pub look-part :
+        {r : Index} {o f n : ℕ} (i : ℕ) → Finds-letter b g l r → r ≡ At i
+        → Word (offset-of b strings-order) o → Word (word-of b inputs i 1) f → Word (word-of b inputs i 2) n
+        → found.Part (o + f) n ≡ look-up b g l
+    look-part i d e o f n = ap₂ (λ (x y : ℕ). found.Part x y) (ap₂ (λ (x y : ℕ). x + y) (o .is) (f .is)) (n .is) ∙ sym (look-found i d e)
+
+    -- the part of the table is the name
+    pub part-found : {r : Index} (i : ℕ) → Finds-letter b g l r → r ≡ At i → name (view b) inputs (row (view b) inputs i) ≡ part-in (look-up b g l) b
+    part-found i f e =
+        let s = stands b h in
+        let w = name-within (view b) (s .1) inputs i (finds-at i f e .1) in
+        string-at b (s .0) (name-run inputs (row (view b) inputs i)) (rw (strings-count b (s .0)) at w)
+        ∙ ap (λ (x : Found). part-in x b) (sym (look-found i f e))

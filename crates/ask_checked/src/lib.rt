@@ -1,0 +1,118 @@
+// The answer to a question, and the look-up of an input, on a table that was checked before.
+use spec_calc::Reading;
+use spec_decision::Answer;
+use spec_decision::Found;
+use spec_rule::Access;
+use spec_rule::Decision;
+use table_fields::STRINGS;
+use table_read::Index;
+use table_read::Section;
+ghost use mathlib.Core.Path.{_≡_};
+ghost use mathlib.Core.Bool.{true};
+ghost use lib.ListN.{length};
+ghost use Rattle.spec_rule.specs.Question.{question-of};
+ghost use Rattle.spec_file.specs.Limit.{access-groups};
+ghost use Rattle.spec_table.specs.Check.{is-table};
+ghost use Rattle.spec_decision.specs.Decision.{decide};
+ghost use Rattle.spec_decision.specs.LookUp.{look-up};
+ghost use Rattle.table_read.specs.Stored.{Stored};
+ghost use Rattle.ask_checked.specs.Group.{By-group, Finds-letter};
+
+// A level or a letter as a number.
+fn wide(n: u32) -> usize
+    ensures { λ r. ⌜ r ≡ n ⌝ }
+{
+    n as usize
+}
+
+// What the rules of an access group give: each is tried at most once.
+fn decision_of_group(
+    table: &[u8],
+    group: usize,
+    user: &[u8],
+    host: &[u8],
+    level: usize,
+    values: &[f64; 21],
+    goods: &[bool; 21],
+) -> Decision
+    requires { ⌜ Stored (now table) access-groups group × (length (now values) ≡ 21) ⌝ }
+    ensures { λ r. ⌜ By-group (now (table .entry)) group (now (user .entry)) (now (host .entry)) level (now (values .entry)) (now (goods .entry)) r ⌝ }
+{
+    let start = table_read::field(table, Section::AccessGroups, group, 4);
+    let n = table_read::field(table, Section::AccessGroups, group, 5);
+    let mut so_far = Decision {
+        access: Access::None,
+        trap: false,
+    };
+    let mut i = 0;
+    while i < n {
+        so_far = ask_rule::with_rule(table, start + i, user, host, level, values, goods, so_far);
+        i += 1;
+    }
+    so_far
+}
+
+// ---- the question
+
+// The answer to a question on a table that was checked before: only the answering group's rules are tried.
+// Callers have asked is_table, or have the bytes of an accepted load (spec_demand/specs/laws/Exact: leaves-table); others call ask::decide.
+pub fn decide_checked(
+    table: &[u8],
+    group: &[u8],
+    user: &[u8],
+    host: &[u8],
+    level: u32,
+    rs: [Reading; 21],
+) -> Answer
+    requires { ⌜ is-table (now table) ≡ true ⌝ }
+    ensures { λ r. ⌜ r ≡ decide (now (table .entry)) (question-of (now (group .entry)) (now (user .entry)) (now (host .entry)) level rs) ⌝ }
+{
+    if 1 < level {
+        return Answer::BadLevel;
+    }
+    match table_read::answering_group(table, group) {
+        Index::Missing => Answer::Answered(Decision {
+            access: Access::None,
+            trap: false,
+        }),
+        Index::At(i) => {
+            let h = calc::inputs_of(rs);
+            let values = h.values;
+            let goods = h.good;
+            let d = decision_of_group(table, i, user, host, wide(level), &values, &goods);
+            Answer::Answered(d)
+        }
+    }
+}
+
+// ---- the look-up
+
+// The input of a letter. ask::look_up has asked is_table.
+pub fn input_of(table: &[u8], group: &[u8], letter: u32) -> Index
+    requires { ⌜ is-table (now table) ≡ true ⌝ }
+    ensures { λ r. ⌜ Finds-letter (now (table .entry)) (now (group .entry)) letter r ⌝ }
+{
+    match table_read::answering_group(table, group) {
+        Index::Missing => Index::Missing,
+        Index::At(i) => table_read::first_input(table, i, wide(letter)),
+    }
+}
+
+// Where the name of a letter's input stands, in a table that was checked before. Callers as of decide_checked; others call ask::find_input.
+pub fn find_input_checked(table: &[u8], group: &[u8], letter: u32) -> Found
+    requires { ⌜ is-table (now table) ≡ true ⌝ }
+    ensures { λ r. ⌜ r ≡ look-up (now (table .entry)) (now (group .entry)) letter ⌝ }
+{
+    match input_of(table, group, letter) {
+        Index::Missing => Found::NoInput,
+        Index::At(i) => {
+            let strings = table_fields::offset(table, STRINGS);
+            let at = table_read::field(table, Section::Inputs, i, 1);
+            let length = table_read::field(table, Section::Inputs, i, 2);
+            Found::Part {
+                at: strings + at,
+                length,
+            }
+        }
+    }
+}
