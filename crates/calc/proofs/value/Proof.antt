@@ -19,13 +19,26 @@ letters-given-requires : tie.Need-letters-given-requires
 letters-given-requires c κs = search needs
 
 returns : tie.Need-returns
-returns c = value-none (c .before .before .before .before .before .before .before .before .args .rs) (c .before .before .before .before .before .before .before .before .args .s .now) (c .before .before .before .before .before .before .inputs-of .ensures .0) (c .before .before .before .before .before .before .inputs-of .ensures .1) (c .before .before .compute .ensures) (c .enum-told .given .1)
+returns c =
+    let a = c .before .before .before .before .before .before .before .before .args in
+    let k = c .before .before .before .before .before .before .inputs-of .ensures in
+    value-none (a .rs) (a .s .now) (k .0) (k .1) (c .before .before .compute .ensures) (c .enum-told .given .1)
 
 returns-2 : tie.Need-returns-2
-returns-2 c = value-good (c .before .before .before .before .before .before .before .before .before .before .before .before .args .rs) (c .before .before .before .before .before .before .before .before .before .before .before .before .args .s .now) (c .before .before .before .before .before .before .before .before .before .before .inputs-of .ensures .0) (c .before .before .before .before .before .before .before .before .before .before .inputs-of .ensures .1) (c .before .before .before .before .before .before .compute .ensures) (c .before .before .before .before .v .given .1) (c .before .letters-given .ensures) (c .if1 .taken)
+returns-2 c =
+    let a = c .before .before .before .before .before .before .before .before .before .before .before .before .args in
+    let k = c .before .before .before .before .before .before .before .before .before .before .inputs-of .ensures in
+    let v = c .before .before .before .before .v .given .1 in
+    value-good (a .rs) (a .s .now) (k .0) (k .1) (c .before .before .before .before .before .before .compute .ensures)
+    v (c .before .letters-given .ensures) (c .if1 .taken)
 
 returns-3 : tie.Need-returns-3
-returns-3 c = value-bad (c .before .before .before .before .before .before .before .before .before .before .before .before .args .rs) (c .before .before .before .before .before .before .before .before .before .before .before .before .args .s .now) (c .before .before .before .before .before .before .before .before .before .before .inputs-of .ensures .0) (c .before .before .before .before .before .before .before .before .before .before .inputs-of .ensures .1) (c .before .before .before .before .before .before .compute .ensures) (c .before .before .before .before .v .given .1) (c .before .letters-given .ensures) (c .if1 .left)
+returns-3 c =
+    let a = c .before .before .before .before .before .before .before .before .before .before .before .before .args in
+    let k = c .before .before .before .before .before .before .before .before .before .before .inputs-of .ensures in
+    let v = c .before .before .before .before .v .given .1 in
+    value-bad (a .rs) (a .s .now) (k .0) (k .1) (c .before .before .before .before .before .before .compute .ensures)
+    v (c .before .letters-given .ensures) (c .if1 .left)
 
 pub value-spec : {M : Type 1} → statement M
 value-spec =

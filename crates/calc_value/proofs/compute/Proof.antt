@@ -19,16 +19,32 @@ enum-known-v : tie.Need-enum-known-v
 enum-known-v c = search needs
 
 is-end-requires : tie.Need-is-end-requires
-is-end-requires c κs = parses-is (c .before .before .before .before .before .before .args .vs .now) (c .before .before .before .before .before .before .args .s .now) wanted 0 0 1 (c .before .before .before .expression .result) (c .before .before .before .expression .ensures) (c .before .v .given .1) .within
+is-end-requires c κs =
+    let a = c .before .before .before .before .before .before .args in
+    let k = c .before .before .before .expression in
+    parses-is (a .vs .now) (a .s .now) wanted 0 0 1 (k .result) (k .ensures) (c .before .v .given .1) .within
 
 returns-2 : tie.Need-returns-2
-returns-2 c = computed-bad (c .before .before .before .before .before .args .vs .now) (c .before .before .before .before .before .args .s .now) (omega arith) (c .before .before .expression .result) (c .before .before .expression .ensures) (c .enum-told .given .1)
+returns-2 c =
+    let a = c .before .before .before .before .before .args in
+    let k = c .before .before .expression in
+    computed-bad (a .vs .now) (a .s .now) (omega arith) (k .result) (k .ensures) (c .enum-told .given .1)
 
 returns-3 : tie.Need-returns-3
-returns-3 c = computed-end (c .before .before .before .before .before .before .before .before .args .vs .now) (c .before .before .before .before .before .before .before .before .args .s .now) (omega arith) (c .before .before .before .before .before .expression .result) (c .before .before .before .before .before .expression .ensures) (c .before .before .before .v .given .1) (c .before .is-end .result) (c .before .is-end .ensures) (c .if2 .taken)
+returns-3 c =
+    let a = c .before .before .before .before .before .before .before .before .args in
+    let k = c .before .before .before .before .before .expression in
+    let e = c .before .is-end in
+    computed-end (a .vs .now) (a .s .now) (omega arith) (k .result) (k .ensures) (c .before .before .before .v .given .1)
+    (e .result) (e .ensures) (c .if2 .taken)
 
 returns-4 : tie.Need-returns-4
-returns-4 c = computed-more (c .before .before .before .before .before .before .before .before .args .vs .now) (c .before .before .before .before .before .before .before .before .args .s .now) (omega arith) (c .before .before .before .before .before .expression .result) (c .before .before .before .before .before .expression .ensures) (c .before .before .before .v .given .1) (c .before .is-end .result) (c .before .is-end .ensures) (c .if2 .left)
+returns-4 c =
+    let a = c .before .before .before .before .before .before .before .before .args in
+    let k = c .before .before .before .before .before .expression in
+    let e = c .before .is-end in
+    computed-more (a .vs .now) (a .s .now) (omega arith) (k .result) (k .ensures) (c .before .before .before .v .given .1)
+    (e .result) (e .ensures) (c .if2 .left)
 
 pub compute-spec : {M : Type 1} → statement M
 compute-spec =

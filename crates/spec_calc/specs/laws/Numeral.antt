@@ -44,7 +44,8 @@ within-is w f {v} e = go (leb (length w + length f) most-digits) refl e
 -- whole digits, maybe none, then a point and digits
 pointed-number : (w f : List ℕ) {v : Float} → all digit w ≡ true → Digits f → within-digits w f ≡ some v → Number (w ++ (46 ∷ f)) v
 pointed-number [] f e g h = let z = within-is [] f h in subst (Number (46 ∷ f)) (z .1) (behind-point g (omega (arith, z .0)))
-pointed-number (b ∷ w) f e g h = let z = within-is (b ∷ w) f h in subst (Number ((b ∷ w) ++ (46 ∷ f))) (z .1) (with-point (b ∷ w) f (e, omega arith) g refl (z .0))
+pointed-number (b ∷ w) f e g h =
+    let z = within-is (b ∷ w) f h in subst (Number ((b ∷ w) ++ (46 ∷ f))) (z .1) (with-point (b ∷ w) f (e, omega arith) g refl (z .0))
 
 parts-number : (w r : List ℕ) {v : Float} → all digit w ≡ true → 1 ≤ length (w ++ r) → pointed w r ≡ some v → Number (w ++ r) v
 parts-number w [] {v} e l h =
