@@ -75,8 +75,3 @@ pub record Parses (s : List ℕ) (t : Tree) : Type 0 where
   pub spelled : List Symbol
   pub spelling : Spells s spelled
   pub derived : Expression spelled [] t
-
--- the text s is a calculation; of its letters' inputs this says nothing
-pub record Allowed (s : List ℕ) : Type 0 where
-  pub says : Tree
-  pub parses : Parses s says

@@ -22,12 +22,11 @@ pub data Call : Type 0 where
   -- of a text; of a text and how many of its warnings are skipped
   load-text : List ℕ → Call
   list-warnings : List ℕ → ℕ → Call
-  -- of the table
   check-table : Call
   -- a question, also of a table that was checked before
   ask : Question → Call
   ask-checked : Question → Call
-  -- of a group's letter: where its input's name stands, also in a table that was checked before; the name itself
+  -- of a group's letter: where its input's name stands; the name itself
   find-input : List ℕ → ℕ → Call
   find-input-checked : List ℕ → ℕ → Call
   look-up-name : List ℕ → ℕ → Call
@@ -98,8 +97,7 @@ abbrev pub listing-told : Listed → Option Told
 listing-told (listed.Warnings n) = none
 listing-told (listed.Refused r p) = some (at-place r p)
 
--- What a call on a table's bytes is refused with. A check and a calculation's calls are never refused: what they answer is yes or no, or a value or that
--- there is none. The name that a refused look-up answers is empty, and find-input on the same bytes tells the number.
+-- What a call on a table's bytes is refused with. A check and the calculation's calls never are; of a look-up, find-input tells the number.
 abbrev pub refusal-of : List ℕ → Call → Option Told
 refusal-of b (load-text s) = load-told (load b s .answer)
 refusal-of b (list-warnings s skip) = listing-told (listing skip [] [] s .answer)

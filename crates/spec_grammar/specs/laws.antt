@@ -6,3 +6,4 @@ pub mod OneStop
 pub mod Sound
 pub mod Stopping
 pub mod Theorem
+pub mod Codes

@@ -8,11 +8,10 @@ use native.Mathlib.Omega.{arith}
 use borrow.Author.Tests.{leb-true, le-leb, lt-leb}
 use lib.Dec.{leb}
 use lib.ListN.{length}
-use Rattle.spec_lists.specs.Select.{missing}
 use Rattle.spec_lists.specs.laws.Both.{absurd-bool}
 use Rattle.spec_calc.specs.Symbol.{Symbol}
 use Rattle.spec_calc.specs.Scanner.{symbols, symbols-in}
-use Rattle.spec_calc.specs.Expression.{Tree, Expression, longest-calculation, Parses, Allowed}
+use Rattle.spec_calc.specs.Expression.{Tree, Expression, longest-calculation, Parses}
 use Rattle.spec_calc.specs.Reader.{reduce, run, read-tree, read-spelled, tree-of}
 use Rattle.spec_calc.specs.laws.Complete.{expression-read}
 use Rattle.spec_calc.specs.laws.Sound.{Derived, read-derived}
@@ -52,17 +51,6 @@ parses-complete s t y = short-tree s (y .short) ∙ (ap read-spelled (spells-com
 
 pub one-tree : (s : List ℕ) (t u : Tree) → Parses s t → Parses s u → t ≡ u
 one-tree s t u y z = cc (parses-complete s t y, parses-complete s u z)
-
--- the reader has a tree exactly where the text is a calculation
-pub allowed-sound : (s : List ℕ) → missing (tree-of s) ≡ false → Allowed s
-allowed-sound s = go (tree-of s) refl
-  where
-    go : (o : Option Tree) → tree-of s ≡ o → missing o ≡ false → Allowed s
-    go none e h = absurd-bool h
-    go (some t) e h = record { says = t; parses = parses-sound s t e }
-
-pub allowed-complete : (s : List ℕ) → Allowed s → missing (tree-of s) ≡ false
-allowed-complete s a = rw (parses-complete s (a .says) (a .parses))
 
 -- the empty text is no calculation
 pub no-empty : tree-of [] ≡ none

@@ -1,7 +1,7 @@
 -- The tokens of a text are no longer than the text, and an input's word spells a letter from A to U.
 use mathlib.Core.Path.{_≡_, subst, ap}
 use mathlib.Core.List.{List, [], _∷_, map}
-use Prim.Native.Nat.{ℕ, suc, _+_, _≤_}
+use Prim.Native.Nat.{ℕ, suc, _+_, _≤_, _<_}
 use Prim.Native.Char.{code}
 use native.Mathlib.Omega.{arith}
 use lib.Dec.{leb}
@@ -39,25 +39,26 @@ text-bytes ts = total (map (λ t. length (t .text)) ts)
 
 -- what n bytes may spell
 data Kept (n : ℕ) : Tokens → Type 0 where
-  kept : {ts : List Token} → text-bytes ts ≤ n → Every Input-spelled ts → Kept n (tokens ts)
+  kept : {ts : List Token} → text-bytes ts ≤ n → length ts ≤ n → Every Input-spelled ts → Kept n (tokens ts)
   refused : {p : ℕ} → Kept n (bad p)
 
 kept-more : {m n : ℕ} {o : Tokens} → m ≤ n → Kept m o → Kept n o
-kept-more l (kept {ts = ts} h e) = kept {ts = ts} (omega arith) e
+kept-more l (kept {ts = ts} h c e) = kept {ts = ts} (omega arith) (omega arith) e
 kept-more l refused = refused
 
-kept-then : {m n : ℕ} (t : Token) {o : Tokens} → length (t .text) + m ≤ n → Input-spelled t → Kept m o → Kept n (then t o)
-kept-then t l i (kept {ts = ts} h e) = kept {ts = t ∷ ts} (omega arith) (cons i e)
-kept-then t l i refused = refused
+kept-then : {m n : ℕ} (t : Token) {o : Tokens} → length (t .text) + m ≤ n → m < n → Input-spelled t → Kept m o → Kept n (then t o)
+kept-then t l k i (kept {ts = ts} h c e) = kept {ts = t ∷ ts} (omega arith) (omega arith) (cons i e)
+kept-then t l k i refused = refused
 
 keeps : {p : ℕ} {s : List ℕ} {o : Tokens} → Spells p s o → Kept (length s) o
-keeps end = kept {ts = []} (omega arith) nil
+keeps end = kept {ts = []} (omega arith) (omega arith) nil
 keeps (gap h d) = kept-more (omega arith) (keeps d)
 keeps (spelled.comment {w = w} {r = r} h d) = let m = length-append w r in kept-more (omega (arith, ap length (h .parts))) (keeps d)
 keeps {p = p} (spelled.word {b = b} {w = w} {r = r} {k = k} h f d) =
     let m = length-append w r in
     kept-then
     (record { kind = k; place = p; text = b ∷ w })
+    (omega (arith, ap length (h .parts)))
     (omega (arith, ap length (h .parts)))
     (λ e. input-letter (subst (Of-kind (b ∷ w)) e f))
     (keeps d)
@@ -66,22 +67,30 @@ keeps {p = p} (spelled.quoted {w = w} {r = r} e t d) =
     kept-then
     (record { kind = _; place = p; text = w })
     (omega (arith, ap length e))
+    (omega (arith, ap length e))
     (λ i. let z : _≡_ {A = ℕ} 0 1 = cc in absurd (omega arith))
     (keeps d)
 keeps {p = p} (spelled.alone {b = b} {k = k} h d) =
-    kept-then (record { kind = k; place = p; text = b ∷ [] }) (omega arith) (λ e. absurd (no-input h e)) (keeps d)
+    kept-then (record { kind = k; place = p; text = b ∷ [] }) (omega arith) (omega arith) (λ e. absurd (no-input h e)) (keeps d)
 keeps (bare-newline r e t) = refused
 keeps (spelled.unclosed u) = refused
 keeps (spelled.other h) = refused
 
 kept-bytes : {n : ℕ} {ts : List Token} → Kept n (tokens ts) → text-bytes ts ≤ n
-kept-bytes (kept h e) = h
+kept-bytes (kept h c e) = h
 
 kept-inputs : {n : ℕ} {ts : List Token} → Kept n (tokens ts) → Every Input-spelled ts
-kept-inputs (kept h e) = e
+kept-inputs (kept h c e) = e
+
+kept-few : {n : ℕ} {ts : List Token} → Kept n (tokens ts) → length ts ≤ n
+kept-few (kept h c e) = c
 
 pub spelled-bytes : {s : List ℕ} {ts : List Token} → Spelled s ts → total (map (λ t. length (t .text)) ts) ≤ length s
 spelled-bytes d = kept-bytes (keeps d)
 
 pub spelled-inputs : {s : List ℕ} {ts : List Token} → Spelled s ts → Every Input-spelled ts
 spelled-inputs d = kept-inputs (keeps d)
+
+-- no more tokens than bytes
+pub spelled-few : {s : List ℕ} {ts : List Token} → Spelled s ts → length ts ≤ length s
+spelled-few d = kept-few (keeps d)
