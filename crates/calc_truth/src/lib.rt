@@ -1,11 +1,13 @@
-// Whether a calculation is true, from its letters' values and which of them are good.
+// The inputs of a question, and whether a calculation is true of them.
 use calc_symbol::Class;
 use calc_value::Computed;
+use spec_calc::Reading;
 ghost use mathlib.Core.Path.{_≡_};
-ghost use mathlib.Core.List.{[]};
+ghost use mathlib.Core.List.{[], map};
 ghost use lib.ListN.{length};
 ghost use Rattle.spec_lists.specs.Select.{all};
 ghost use Rattle.spec_calc.specs.Scanner.{start};
+ghost use Rattle.spec_calc.specs.Value.{heard, good};
 ghost use Rattle.spec_calc.specs.Reader.{tree-of};
 ghost use Rattle.calc_truth.specs.Answer.{given-letter, letter-begun, byte-letters, true-with, near-computed};
 
@@ -13,6 +15,43 @@ ghost use Rattle.calc_truth.specs.Answer.{given-letter, letter-begun, by
 pub struct Inputs {
     pub values: [f64; 21],
     pub good: [bool; 21],
+}
+
+// The value of a reading, and 0 for one that has none.
+fn value_of(r: Reading) -> f64
+    ensures { λ v. ⌜ v ≡ heard r ⌝ }
+{
+    match r {
+        Reading::Value(x) => x,
+        Reading::NeverHeard => 0.0,
+        Reading::Invalid => 0.0,
+    }
+}
+
+fn is_good(r: Reading) -> bool
+    ensures { λ v. ⌜ v ≡ good r ⌝ }
+{
+    match r {
+        Reading::Value(x) => calc_arith::is_finite(x),
+        Reading::NeverHeard => false,
+        Reading::Invalid => false,
+    }
+}
+
+// The readings as inputs: they are matched on once, before any calculation runs.
+pub fn inputs_of(rs: [Reading; 21]) -> Inputs
+    ensures { λ r. ⌜ (r .values ≡ map heard rs) × (r .good ≡ map good rs) ⌝ }
+{
+    let mut values = [0.0; 21];
+    let mut good = [false; 21];
+    let mut i: usize = 0;
+    while i < 21 {
+        let r = rs[i];
+        values[i] = value_of(r);
+        good[i] = is_good(r);
+        i += 1;
+    }
+    Inputs { values, good }
 }
 
 // Whether a byte is no letter, or one of those given.
@@ -50,7 +89,7 @@ fn near(w: Computed) -> bool
 }
 
 // Whether a calculation is true, from the letters' values and which of them are good.
-// ask_checked has both arrays from calc::inputs_of, which makes 21 of each.
+// ask_checked has both arrays from inputs_of, which makes 21 of each.
 pub fn holds_with(s: &[u8], values: &[f64; 21], goods: &[bool; 21]) -> bool
     requires { ⌜ length (now values) ≡ 21 ⌝ }
     ensures { λ r. ⌜ r ≡ true-with (now (values .entry)) (now (goods .entry)) (tree-of (now (s .entry))) ⌝ }

@@ -1,8 +1,11 @@
 // Cause 10: a calculation not allowed.
 ghost use mathlib.Core.Path.{_≡_};
-ghost use mathlib.Core.Bool.{true};
+ghost use mathlib.Core.Bool.{true, false};
 ghost use Prim.Native.Nat.{_+_, _<_};
-ghost use lib.ListN.{length, set};
+ghost use lib.ListN.{length, set, getD};
+ghost use Rattle.spec_lists.specs.Select.{all, holds-of};
+ghost use Rattle.spec_calc.specs.Value.{letters};
+ghost use Rattle.spec_calc.specs.Reader.{tree-of};
 ghost use Rattle.spec_file.specs.Load.{bad-calculation};
 ghost use Rattle.load_spans.specs.Roles.{Spans-fit, arrays};
 ghost use Rattle.load_spans.specs.Search.{first-of, applies-at};
@@ -10,6 +13,17 @@ ghost use Rattle.load_calcs.specs.Input.{Gives, ahead, around};
 use load_tokens::ASG_NAME;
 use load_tokens::CALCULATION;
 use load_tokens::INPUT;
+
+// Whether a text is a calculation whose letters are all among those given.
+fn allowed_with(s: &[u8], given: [bool; 21]) -> bool
+    ensures { λ r. ⌜ r ≡ holds-of (tree-of (now (s .entry))) (λ t. all (λ i. getD given i false) (letters t)) ⌝ }
+{
+    if calc_truth::letters_given(s, &given) {
+        calc::allowed(s)
+    } else {
+        false
+    }
+}
 
 // A letter more; no calculation has one past the 21.
 fn with_letter(mut given: [bool; 21], l: usize) -> [bool; 21]
@@ -66,7 +80,7 @@ fn bad_calculation_at(
     ensures { λ r. ⌜ r ≡ applies-at bad-calculation (now (s .entry)) (now (starts .entry)) (now (ends .entry)) (now (roles .entry)) n i ⌝ }
 {
     if roles[i] == CALCULATION {
-        return !calc::allowed_with(load_spans::text(s, starts, ends, i), given);
+        return !allowed_with(load_spans::text(s, starts, ends, i), given);
     }
     false
 }

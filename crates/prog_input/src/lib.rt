@@ -12,7 +12,8 @@ pub enum Piece {
     Fault,
 }
 
-// Reads once into buf, which has room. A read that a signal interrupts is made again.
+// Reads once into buf, which has room: into none, every file has ended. A read that a signal interrupts is made again.
+// Behind the bytes that were read, and after a fault, what buf holds is open.
 pub fn read_piece(fd: i32, buf: &mut [u8]) -> Piece
     ensures { λ r. ⌜ Within r (now (buf .exit)) ⌝ }
 {

@@ -107,6 +107,7 @@ fn level_of(line: &[u8], at: usize) -> Level
 }
 
 // The readings that the parts behind an offset name, where a space stands or the line ends, and whether they are allowed.
+// Where they are not, the array is open.
 // Callers have the level's offset from question, which says that it lies in the line (Meaning: Ordered).
 pub fn readings(line: &[u8], from: usize, allowed: &mut bool) -> [Reading; 21]
     requires { ⌜ from ≤ length (now line) ⌝ }

@@ -1,9 +1,13 @@
 // Printing on standard output. No contract can say what is printed.
 use libc::STDOUT_FILENO;
 
-// Prints, and says whether all of it was written.
+// Prints, and says whether all of it was written; if not, standard error tells, so that nothing printed is not taken for a clean file.
 pub fn put(s: &[u8]) -> bool {
-    io::write_all(STDOUT_FILENO, s)
+    let all = io::write_all(STDOUT_FILENO, s);
+    if !all {
+        os::fail(b"standard output");
+    }
+    all
 }
 
 pub fn put_number(n: usize) {

@@ -17,7 +17,7 @@ use Rattle.spec_load.specs.Listing.{listing}
 use Rattle.spec_decision.specs.Decision as question
 use Rattle.spec_decision.specs.LookUp as look-up
 
--- Every function that outsiders call; those of include/hrazvanut.h are among them.
+-- Every call of the library; those of include/hrazvanut.h are among them. What the crate sequence offers are sequences of these.
 pub data Call : Type 0 where
   -- of a text; of a text and how many of its warnings are skipped
   load-text : List ℕ → Call

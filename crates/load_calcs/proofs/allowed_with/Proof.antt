@@ -1,7 +1,7 @@
 use Rattle.calc_truth.specs.laws.Answers.{with-yes, with-no}
 use borrow.Author.Needs.{needs}
-use Rattle.calc.proofs.allowed_with.Statement.{statement}
-use Rattle.calc.proofs.allowed_with.Tie as tie
+use Rattle.load_calcs.proofs.allowed_with.Statement.{statement}
+use Rattle.load_calcs.proofs.allowed_with.Tie as tie
 
 letters-given-requires : tie.Need-letters-given-requires
 letters-given-requires c κs = search needs
