@@ -33,17 +33,15 @@ bytes-from m a (suc n) = m a ∷ bytes-from m (suc a) n
 abbrev pub bytes-in : Memory → Storage → List ℕ
 bytes-in m s = bytes-from m (s .from) (s .size)
 
--- A call as it is made: what is called, the storage lent to it for writing besides the table, and the memory before and after.
+-- A call as it is made: what is called; whether it is lent this table (one of a text alone, on another table, or a load into other storage is not); the
+-- storage lent to it for writing besides the table, the call's own stack counted as lent; and the memory before and after.
 pub record Step : Type 0 where
   pub call : Call
-  -- whether it is lent the table; one of a text alone, on another table, or a load into other storage is not
   pub on-table : Bool
-  -- the call's own stack counts as lent
   pub lent : List Storage
   pub before : Memory
   pub after : Memory
 
--- the calls on the table
 abbrev pub calls-of : List Step → List Call
 calls-of xs = map (λ x. x .call) (select (λ x. x .on-table) xs)
 
