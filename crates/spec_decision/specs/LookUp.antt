@@ -9,7 +9,7 @@ use Rattle.spec_lists.specs.Select.{first}
 use Rattle.spec_lists.specs.Runs.{part}
 use Rattle.spec_rule.specs.Answering.{answering}
 use Rattle.spec_rule.specs.Privilege.{First-such, Answers}
-use Rattle.spec_file.specs.Contents.{Link, Asg, File}
+use Rattle.spec_file.specs.Contents.{File}
 use Rattle.spec_file.specs.Limit.{access-groups, inputs}
 use Rattle.spec_table.specs.Layout.{Content}
 use Rattle.spec_table.specs.View.{view, strings-extent}
@@ -32,27 +32,41 @@ part-in (Part at length) b = part (record { first = at; count = length }) b
 part-in NotTable b = []
 part-in NoInput b = []
 
--- "The look-up takes a letter's first input." No input of a table has a letter over 20.
+-- "The look-up takes a letter's first input": the one of the group that answers for g, and what it has
+module _ {G I A : Type 0} (name : G → List ℕ) (links : G → List I) (letter-of : I → ℕ) (what : I → A) where
+  pub record First-input (gs : List G) (g : List ℕ) (letter : ℕ) (a : A) : Type 0 where
+    pub group : G
+    pub searched : Answers name g gs (some group)
+    pub input : I
+    pub first : First-such (λ i. letter-of i ≡ letter) (links group) input
+    pub has : what input ≡ a
+
+-- by a file, its name
+abbrev pub Names-input : File → List ℕ → ℕ → List ℕ → Type 0
+Names-input f = First-input (λ a. a .name) (λ a. a .inputs) (λ l. l .letter) (λ l. l .name) (f .asgs)
+
+-- by a table, "the part of the table that holds the process variable's name"
+abbrev pub name-part : List ℕ → List ℕ → Found
+name-part b row = Part (strings-extent b .first + name-run inputs row .first) (name-run inputs row .count)
+
+abbrev pub links-in : Content → List ℕ → List (List ℕ)
+links-in c row = part (inputs-run row) (c .records inputs)
+
+abbrev pub Finds-input : List ℕ → List ℕ → ℕ → Found → Type 0
+Finds-input b = First-input (name (view b) access-groups) (links-in (view b)) letter-field (name-part b) (view b .records access-groups)
+
+-- ---- A machine that looks up. That it agrees with Finds-input is proved (laws/LookUp.antt), so nobody has to believe it.
+
 abbrev pub input-of : Content → ℕ → Option (List ℕ) → Option (List ℕ)
 input-of c letter none = none
-input-of c letter (some row) = first (λ i. eqb (letter-field i) letter) (part (inputs-run row) (c .records inputs))
+input-of c letter (some row) = first (λ i. eqb (letter-field i) letter) (links-in c row)
 
--- where the name of an input stands in the table
 abbrev pub named-part : List ℕ → Option (List ℕ) → Found
 named-part b none = NoInput
-named-part b (some row) = Part (strings-extent b .first + name-run inputs row .first) (name-run inputs row .count)
+named-part b (some row) = name-part b row
 
--- 01: "The look-up answers the part of the table that holds the process variable's name."
 unfoldable pub look-up : List ℕ → List ℕ → ℕ → Found
 look-up b g letter =
     cond (is-table b)
     (named-part b (input-of (view b) letter (answering (name (view b) access-groups) g (view b .records access-groups))))
     NotTable
-
--- the same by a file: n is the name of the letter's first input in the group that answers for g
-pub record Names-input (f : File) (g : List ℕ) (letter : ℕ) (n : List ℕ) : Type 0 where
-  pub group : Asg
-  pub searched : Answers (λ a. a .name) g (f .asgs) (some group)
-  pub link : Link
-  pub first : First-such (λ l. l .letter ≡ letter) (group .inputs) link
-  pub named : link .name ≡ n

@@ -1,2 +1,3 @@
+pub mod LookUp
 pub mod Privilege
 pub mod Refused

@@ -4,7 +4,7 @@ use mathlib.Core.Path.{_≡_}
 use mathlib.Core.Bool.{true, false}
 use mathlib.Core.List.{List, [], _++_, map, List·Memᴰ}
 use mathlib.Core.Logic.{_↔_, _⊎_}
-use mathlib.Core.Option.{some}
+use mathlib.Core.Option.{none, some}
 use Prim.Native.Nat.{ℕ, _≤_, _<_}
 use lib.ListN.{length, replicate}
 use Rattle.spec_rule.specs.declared.Access.the-variants as access
@@ -12,12 +12,13 @@ use Rattle.spec_rule.specs.declared.Decision.{Decision}
 use Rattle.spec_load.specs.declared.Loaded.the-variants as loaded
 use Rattle.spec_load.specs.declared.Listed.the-variants as listed
 use Rattle.spec_decision.specs.declared.Answer.the-variants.{Answered, NotTable, BadLevel}
-use Rattle.spec_decision.specs.declared.Found.the-variants.{NoInput}
+use Rattle.spec_decision.specs.declared.Found.{Found}
+use Rattle.spec_decision.specs.declared.Found.the-variants as found
 use Rattle.spec_demand.specs.Vocabulary.{Every, Token, Spelled, Ascending, Stands-in, greatest-letter, Tagged, Reading, Tree, Parses, tree-of, Gone-bad}
 use Rattle.spec_demand.specs.Vocabulary.{Question, reading-instead, rank, greatest-level, Refusal, refusal-number, place, file-of, Context, contexts, Applies}
 use Rattle.spec_demand.specs.Vocabulary.{Text-reads, Caused, Acceptable, Refusable, Warned, warnings, Given, Table, is-table, total-of, view, table-of}
 use Rattle.spec_demand.specs.Vocabulary.{greatest-table, written, without-room, load, warnings-written, listing, look-up, look-up-number, part-in}
-use Rattle.spec_demand.specs.Vocabulary.{number, access-in, trap-in, decide, By-table, By-file, Edition, access-later, Says-no, Names-input, name-found}
+use Rattle.spec_demand.specs.Vocabulary.{number, access-in, trap-in, decide, By-table, By-file, Edition, access-later, Says-no, Names-input, Finds-input}
 use Rattle.spec_demand.specs.Vocabulary.{Call, after-call, is-accepted, No-accepted-load, Told, refusal-of, Proved-cases}
 use Rattle.spec_demand.specs.Vocabulary.{Memory, Storage, bytes-in, Step, calls-of, Made, Nobody-else-writes}
 use Rattle.spec_demand.specs.laws.Cited as proved
@@ -97,11 +98,15 @@ pub record Exact : Type 0 where
   pub by-file :
       (s : List ℕ) (xs : List Tagged) → Acceptable s xs → (rest : List ℕ) (q : Question) (d : Decision)
       → (decide (table-of (file-of xs) ++ rest) q ≡ Answered d) ↔ ((q .level ≤ greatest-level) × By-file (file-of xs) q d)
-  -- the look-up finds the name that the file gives an input; no letter over 20 has one
+  -- The look-up: 20, then the part that holds the name of the letter's first input, or 22. Of a loaded table it is the name that the file gives.
+  pub no-table-found : (b g : List ℕ) (letter : ℕ) → (look-up b g letter ≡ found.NotTable) ↔ (Table b → ⊥)
+  pub part-found : (b g : List ℕ) (letter at n : ℕ) → (look-up b g letter ≡ found.Part at n) ↔ (Table b × Finds-input b g letter (found.Part at n))
+  pub no-input-found : (b g : List ℕ) (letter : ℕ) → (look-up b g letter ≡ found.NoInput) ↔ (Table b × ((p : Found) → Finds-input b g letter p → ⊥))
   pub inputs :
       (s : List ℕ) (xs : List Tagged) → Acceptable s xs → (rest g : List ℕ) (letter : ℕ) (n : List ℕ)
-      → (name-found (look-up (table-of (file-of xs) ++ rest) g letter) (table-of (file-of xs) ++ rest) ≡ some n) ↔ Names-input (file-of xs) g letter n
-  pub letter-over : (b : List ℕ) → Table b → (g : List ℕ) (letter : ℕ) → greatest-letter < letter → look-up b g letter ≡ NoInput
+      → let b = table-of (file-of xs) ++ rest in
+      ((look-up-number (look-up b g letter) ≡ none) × (part-in (look-up b g letter) b ≡ n)) ↔ Names-input (file-of xs) g letter n
+  pub letter-over : (b : List ℕ) → Table b → (g : List ℕ) (letter : ℕ) → greatest-letter < letter → look-up b g letter ≡ found.NoInput
 
 pub demand-2 : Exact
 demand-2 =
@@ -129,6 +134,9 @@ demand-2 =
       bad-level = proved.bad-level-is;
       by-table = proved.by-table-is;
       by-file = proved.by-file-is;
+      no-table-found = proved.no-table-found-is;
+      part-found = proved.part-found-is;
+      no-input-found = proved.no-input-found-is;
       inputs = proved.input-is;
       letter-over = proved.letter-over;
     }

@@ -1,13 +1,14 @@
 -- The premises of demand 3 can be met: by any calls of which none is an accepted load, in a memory that holds the table and nothing else.
 use mathlib.Core.Path.{_≡_, refl, sym, ap₂, subst, _∙_}
+use mathlib.Core.Bool.{true, false}
 use mathlib.Core.List.{List, [], _∷_, map}
 use mathlib.Core.Option.{Option, none, some}
 use Prim.Native.Nat.{ℕ, suc, _+_}
 use native.Mathlib.Omega.{arith}
 use lib.ListN.{length, getD}
 use Rattle.spec_lists.specs.Every.{Every, nil, cons}
-use Rattle.spec_demand.specs.Calls.{Call, text-loaded, no-new-table, No-accepted-load}
-use Rattle.spec_demand.specs.Memory.{Memory, Storage, bytes-from, bytes-in, Step, leaves, Made, Nobody-else-writes}
+use Rattle.spec_demand.specs.Calls.{Call, load-text, text-loaded, no-new-table, No-accepted-load}
+use Rattle.spec_demand.specs.Memory.{Memory, Storage, Apart, bytes-from, bytes-in, Step, calls-of, Writes-only, leaves, Made, Nobody-else-writes}
 use Rattle.spec_demand.specs.laws.Loaded.{refused-leaves, load-leaves}
 
 abbrev pub memory-of : List ℕ → Memory
@@ -16,9 +17,9 @@ memory-of b = λ a. getD b a 0
 abbrev pub whole : List ℕ → Storage
 whole b = record { from = 0; size = length b }
 
--- a call that changes nothing and is lent nothing
+-- a call on the table that changes nothing and is lent nothing
 abbrev pub still : Memory → Call → Step
-still m c = record { call = c; lent = []; before = m; after = m }
+still m c = record { call = c; on-table = true; lent = []; before = m; after = m }
 
 held-from : (b : List ℕ) (m : Memory) (a : ℕ) → ((i : ℕ) → m (a + i) ≡ getD b i 0) → bytes-from m a (length b) ≡ b
 held-from [] m a h = refl
@@ -44,3 +45,14 @@ stills-made b (c ∷ cs) n =
 pub stills-alone : (table : Storage) (m : Memory) (cs : List Call) → Nobody-else-writes table m (map (still m) cs) m
 stills-alone table m [] = refl
 stills-alone table m (c ∷ cs) = (refl, (nil, stills-alone table m cs))
+
+-- ---- a load into other storage
+
+abbrev pub elsewhere : Storage → List ℕ → Memory → Memory → Step
+elsewhere other s m m′ = record { call = load-text s; on-table = false; lent = other ∷ []; before = m; after = m′ }
+
+-- accepted or not, it may come between: it writes only its own storage, which is apart from the table
+pub elsewhere-fits :
+    (table other : Storage) (b s : List ℕ) (m m′ : Memory) → Apart table other → Writes-only (other ∷ []) m m′
+    → let xs = elsewhere other s m m′ ∷ [] in Every (Made table) xs × No-accepted-load b (calls-of xs) × Nobody-else-writes table m xs m′
+elsewhere-fits table other b s m m′ a w = (cons w nil, tt, (refl, (cons a nil, refl)))

@@ -1,10 +1,11 @@
 -- If nobody else writes the table, its bytes are what the calls leave.
 use mathlib.Core.Path.{_≡_, refl, ap, ap₂, _∙_}
-use mathlib.Core.Bool.{true}
-use mathlib.Core.List.{List, [], _∷_}
+use mathlib.Core.Bool.{Bool, true, false, cond}
+use mathlib.Core.List.{List, [], _∷_, map}
 use mathlib.Core.Option.{Option, none, some}
 use Prim.Native.Nat.{ℕ, zero, suc, _+_, _≤_, _<_}
 use native.Mathlib.Omega.{arith}
+use Rattle.spec_lists.specs.Select.{select, prepend-if}
 use Rattle.spec_lists.specs.Every.{Every, nil, cons}
 use Rattle.spec_lists.specs.laws.Every.{every-implies}
 use Rattle.spec_grammar.specs.Sentence.{Tagged}
@@ -33,22 +34,28 @@ apart-stays table lent before after h w =
     same-bytes before after (table .from) (table .size)
     (λ i l u. w i (every-implies (λ s apart. λ within. apart i (record { from = l; before = u }) within) h))
 
+-- what a call leaves in the table: a load into it what it loads, any other what stood there
 step-leaves :
-    (table : Storage) (x : Step) → Every (Apart table) (x .lent) → Made table x
-    → bytes-in (x .after) table ≡ after-call (bytes-in (x .before) table) (x .call)
-step-leaves table x h m = by (text-loaded (x .call)) m
-  where
-    by : (o : Option (List ℕ)) → leaves table x o → bytes-in (x .after) table ≡ after-load (bytes-in (x .before) table) o
-    by none w = apart-stays table (x .lent) (x .before) (x .after) h w
-    by (some s) e = e
+    (table : Storage) (x : Step) → Every (Apart table) (x .lent) → (o : Option (List ℕ)) → leaves table x o
+    → bytes-in (x .after) table ≡ after-load (bytes-in (x .before) table) o
+step-leaves table x h none w = apart-stays table (x .lent) (x .before) (x .after) h w
+step-leaves table x h (some s) e = e
+
+-- a call elsewhere is left out of the calls on the table
+counted :
+    (b b′ : List ℕ) (x : Step) (xs : List Step) (t : Bool) → b′ ≡ after-load b (cond t (text-loaded (x .call)) none)
+    → after-calls b′ (calls-of xs) ≡ after-calls b (map (λ y. y .call) (prepend-if t x (select (λ y. y .on-table) xs)))
+counted b b′ x xs true e = ap (λ (c : List ℕ). after-calls c (calls-of xs)) e
+counted b b′ x xs false e = ap (λ (c : List ℕ). after-calls c (calls-of xs)) e
 
 pub table-after :
     (table : Storage) (first : Memory) (xs : List Step) (last : Memory) → Every (Made table) xs → Nobody-else-writes table first xs last
     → bytes-in last table ≡ after-calls (bytes-in first table) (calls-of xs)
 table-after table first [] last ms h = h
 table-after table first (x ∷ xs) last (cons m ms) h =
-    table-after table (x .after) xs last ms (h .1 .1)
-    ∙ ap (λ (b : List ℕ). after-calls b (calls-of xs)) (step-leaves table x (h .1 .0) m ∙ ap (λ (b : List ℕ). after-call b (x .call)) (h .0))
+    let o = cond (x .on-table) (text-loaded (x .call)) none in
+    let here = step-leaves table x (h .1 .0) o m ∙ ap (λ (b : List ℕ). after-load b o) (h .0) in
+    table-after table (x .after) xs last ms (h .1 .1) ∙ counted (bytes-in first table) (bytes-in (x .after) table) x xs (x .on-table) here
 
 -- ---- demand 3: the calls that come between in a program's memory
 
