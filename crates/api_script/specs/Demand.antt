@@ -6,12 +6,13 @@ use Prim.Native.Nat.{ℕ, _≤_}
 use Rattle.spec_grammar.specs.Sentence.{Tagged}
 use Rattle.spec_calc.specs.declared.Reading.{Reading}
 use Rattle.spec_calc.specs.Readings.{Gone-bad}
+use Rattle.spec_rule.specs.declared.Access.{Access}
 use Rattle.spec_rule.specs.Question.{Question, reading-instead}
 use Rattle.spec_rule.specs.Rule.{rank}
 use Rattle.spec_file.specs.Acceptance.{Text-reads}
 use Rattle.spec_load.specs.Load.{load}
 use Rattle.spec_decision.specs.Decision.{access-in, decide}
-use Rattle.spec_edition.specs.Edition.{Edition, access-later, Says-no}
+use Rattle.spec_edition.specs.Edition.{Edition, Later, Says-no}
 use Rattle.spec_demand.specs.Calls.{Call, load-text, is-accepted, No-accepted-load}
 use Rattle.api_script.specs.declared.Asked.{Asked}
 use Rattle.api_script.specs.Replies.{Lent, left-by, left-by-calls}
@@ -28,6 +29,6 @@ pub record Never-more (lent : Lent) (s : List ℕ) (between : List Call) (q : Qu
       is-accepted (r .loaded) ≡ true
       → (xs : List Tagged) → Text-reads s xs
       → No-accepted-load (load (lent .table) s .bytes) between
-      → (e : Edition)
-      → ((were : List Reading) → Gone-bad were (q .readings) → rank (access-in (r .answer)) ≤ rank (access-later e xs (reading-instead q were)))
-      × (Says-no e q xs → access-in (r .answer) ≡ access-later e xs q)
+      → (e : Edition) (later : Access)
+      → ((were : List Reading) → Gone-bad were (q .readings) → Later e xs (reading-instead q were) later → rank (access-in (r .answer)) ≤ rank later)
+      × (Says-no e q xs → Later e xs q later → access-in (r .answer) ≡ later)

@@ -15,7 +15,7 @@ use Rattle.spec_decision.specs.declared.Found.{Found}
 use Rattle.spec_decision.specs.declared.Found.the-variants.{Part, NotTable, NoInput}
 use Rattle.spec_decision.specs.Decision.{answered}
 use Rattle.spec_decision.specs.LookUp.{part-in}
-use Rattle.spec_edition.specs.Edition.{rules-later}
+use Rattle.spec_edition.specs.Machine.{rules-later}
 
 -- the rules of the file that answer for a group, as the file says them
 abbrev pub rules-by-file : File → List ℕ → List Rule-text

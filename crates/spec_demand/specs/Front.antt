@@ -7,6 +7,7 @@ use mathlib.Core.Logic.{_↔_, _⊎_}
 use mathlib.Core.Option.{none, some}
 use Prim.Native.Nat.{ℕ, _≤_, _<_}
 use lib.ListN.{length, replicate}
+use Rattle.spec_rule.specs.declared.Access.{Access}
 use Rattle.spec_rule.specs.declared.Access.the-variants as access
 use Rattle.spec_rule.specs.declared.Decision.{Decision}
 use Rattle.spec_load.specs.declared.Loaded.the-variants as loaded
@@ -18,7 +19,7 @@ use Rattle.spec_demand.specs.Vocabulary.{Every, Token, Spelled, Ascendin
 use Rattle.spec_demand.specs.Vocabulary.{Question, reading-instead, rank, greatest-level, Refusal, refusal-number, place, file-of, Context, contexts, Applies}
 use Rattle.spec_demand.specs.Vocabulary.{Text-reads, Caused, Acceptable, Refusable, Warned, warnings, Given, Table, is-table, total-of, view, table-of}
 use Rattle.spec_demand.specs.Vocabulary.{greatest-table, written, without-room, load, warnings-written, listing, look-up, look-up-number, part-in}
-use Rattle.spec_demand.specs.Vocabulary.{number, access-in, trap-in, decide, By-table, By-file, Edition, access-later, Says-no, Names-input, Finds-input}
+use Rattle.spec_demand.specs.Vocabulary.{number, access-in, trap-in, decide, By-table, By-file, Edition, Later, Says-no, Names-input, Finds-input}
 use Rattle.spec_demand.specs.Vocabulary.{Call, after-call, is-accepted, No-accepted-load, Told, refusal-of, Proved-cases}
 use Rattle.spec_demand.specs.Vocabulary.{Memory, Storage, bytes-in, Step, calls-of, Made, Nobody-else-writes}
 use Rattle.spec_demand.specs.laws.Cited as proved
@@ -154,14 +155,18 @@ Never-more-access =
     → (table : Storage) (loaded : Memory) → bytes-in loaded table ≡ load lent s .bytes
     → (between : List Step) → Every (Made table) between → No-accepted-load (load lent s .bytes) (calls-of between)
     → (now : Memory) → Nobody-else-writes table loaded between now
-    → (e : Edition) (q : Question)
+    → (e : Edition) (q : Question) (later : Access) → Later e xs q later
     →
     ((worse : List Reading) → Gone-bad (q .readings) worse
-    → rank (access-in (decide (bytes-in now table) (reading-instead q worse))) ≤ rank (access-later e xs q))
-    × (Says-no e q xs → access-in (decide (bytes-in now table) q) ≡ access-later e xs q)
+    → rank (access-in (decide (bytes-in now table) (reading-instead q worse))) ≤ rank later)
+    × (Says-no e q xs → access-in (decide (bytes-in now table) q) ≡ later)
 
 pub demand-3 : Never-more-access
 demand-3 = proved.never-more
+
+-- each edition gives each question an access, so that demand 3 speaks of all
+pub edition-gives : (e : Edition) (xs : List Tagged) (q : Question) → (later : Access) × Later e xs q later
+edition-gives = proved.edition-gives
 
 -- 01, "Proved and run cases", the list that is proved
 pub cases : Proved-cases

@@ -26,7 +26,7 @@ pub use Rattle.spec_load.specs.Listing.{warnings-written, listing}
 pub use Rattle.spec_decision.specs.LookUp.{look-up, part-in, Names-input, Finds-input, number as look-up-number}
 pub use Rattle.spec_decision.specs.Decision.{number, access-in, trap-in, decide}
 pub use Rattle.spec_decision.specs.Privilege.{By-table, By-file}
-pub use Rattle.spec_edition.specs.Edition.{Edition, access-later, Says-no}
+pub use Rattle.spec_edition.specs.Edition.{Edition, Later, Says-no}
 pub use Rattle.spec_demand.specs.Calls.{Call, after-call, is-accepted, No-accepted-load, Told, refusal-of}
 pub use Rattle.spec_demand.specs.Memory.{Memory, Storage, bytes-in, Step, calls-of, Made, Nobody-else-writes}
 pub use Rattle.spec_demand.specs.Cases.{Proved-cases}

@@ -1,2 +1,3 @@
 pub mod Edition
+pub mod Machine
 pub mod laws

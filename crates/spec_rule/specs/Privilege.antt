@@ -60,8 +60,8 @@ pub record Yields-true (rs : List Reading) (s : List ℕ) : Type 0 where
   pub above : lt lower-bound (value rs tree) ≡ true
   pub below : lt (value rs tree) upper-bound ≡ true
 
--- the rule r passes for the question q
-pub record Passes (q : Question) (r : Rule) : Type 0 where
+-- what the rule r asks of the question q
+pub record Asks (q : Question) (r : Rule) : Type 0 where
   -- "The field's level must be less than or equal to the level for this RULE."
   pub level : q .level ≤ r .level
   -- "If UAG is defined, the user must belong to one of the specified UAGs. If UAG is not defined all users are accepted."
@@ -71,6 +71,10 @@ pub record Passes (q : Question) (r : Rule) : Type 0 where
   pub host : Belongs (lowered (q .host)) (r .hags)
   -- "If CALC is specified, the calculation must yield the value 1, i.e. TRUE."
   pub calculation : (s : List ℕ) → r .calculation ≡ some s → Yields-true (q .readings) s
+
+-- the rule r passes for the question q
+pub record Passes (q : Question) (r : Rule) : Type 0 where
+  pub asked : Asks q r
   -- "If the rule contains predicates that are unknown to the parser [..], then the rule will NOT match"
   pub known : r .switched-off ≡ false
 
@@ -80,10 +84,14 @@ Gives q a r = Passes q r × (r .permission ≡ a)
 
 -- ---- "3. The maximum access allowed by step 2 is the access chosen."
 
+-- a is the greatest access that is given, NONE if neither WRITE nor READ is
+pub record Greatest (Given : Access → Type 0) (a : Access) : Type 0 where
+  pub write : (a ≡ access.Write) ↔ Given access.Write
+  pub read : (a ≡ access.Read) ↔ ((Given access.Write → ⊥) × Given access.Read)
+  pub neither : (a ≡ access.None) ↔ ((Given access.Write → ⊥) × (Given access.Read → ⊥))
+
 pub record Chosen (q : Question) (rs : List Rule) (d : Decision) : Type 0 where
-  pub write : (d .access ≡ access.Write) ↔ Some (Gives q access.Write) rs
-  pub read : (d .access ≡ access.Read) ↔ ((Some (Gives q access.Write) rs → ⊥) × Some (Gives q access.Read) rs)
-  pub neither : (d .access ≡ access.None) ↔ ((Some (Gives q access.Write) rs → ⊥) × (Some (Gives q access.Read) rs → ⊥))
+  pub maximum : Greatest (λ a. Some (Gives q a) rs) (d .access)
   -- "The TRAPWRITE setting used for a client is determined by the first WRITE rule that passes the rule checks."
   pub trap : (d .trap ≡ true) ↔ ((r : Rule) × First-such (Gives q access.Write) rs r × (r .trap ≡ true))
 

@@ -45,9 +45,9 @@ asked-is {table} {numbers} {places} {s} {left} {after} {cs} {q} {r} {a} l f d =
       loaded = answered;
       left = all;
       answer = d;
-      never-more = λ h xs t n e.
+      never-more = λ h xs t n e later.
           let accepted = sym (ap is-accepted answered) ∙ h in (
-            λ were g. rw asked (never-above table s accepted xs t cs n e (reading-instead q were) (q .readings) g),
-            λ no. ap access-in asked ∙ exactly-equal table s accepted xs t cs n e q no,
+            λ were g w. rw asked (never-above table s accepted xs t cs n e (reading-instead q were) later w (q .readings) g),
+            λ no w. ap access-in asked ∙ exactly-equal table s accepted xs t cs n e q later w no,
           );
     }

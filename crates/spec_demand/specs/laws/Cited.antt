@@ -10,6 +10,7 @@ pub use Rattle.spec_table.specs.laws.Size.{table-total}
 pub use Rattle.spec_decision.specs.laws.Refused.{refused-question-numbered, refused-look-up-empty, not-table-is, bad-level-is, letter-over}
 pub use Rattle.spec_decision.specs.laws.Privilege.{by-table-is}
 pub use Rattle.spec_decision.specs.laws.LookUp.{no-table-found-is, part-found-is, no-input-found-is}
+pub use Rattle.spec_edition.specs.laws.Agreement.{edition-gives}
 pub use Rattle.spec_demand.specs.laws.Answered.{refused-load, refused-listing, accepted-listing}
 pub use Rattle.spec_demand.specs.laws.Refusals.{refused-load-numbered, refused-listing-numbered}
 pub use Rattle.spec_demand.specs.laws.Loaded.{refused-call-leaves}

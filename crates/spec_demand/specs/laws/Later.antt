@@ -1,5 +1,5 @@
 -- From a file's text to the access at every question, against every later edition.
-use mathlib.Core.Path.{_≡_, refl, ap, subst, _∙_}
+use mathlib.Core.Path.{_≡_, refl, sym, ap, subst, _∙_}
 use mathlib.Core.Bool.{Bool, true, false, cond}
 use mathlib.Core.List.{List, [], _∷_, map}
 use mathlib.Core.Option.{Option, none, some}
@@ -17,6 +17,7 @@ use Rattle.spec_grammar.specs.Sentence.{Tagged, Reads}
 use Rattle.spec_grammar.specs.laws.Theorem.{one-parse}
 use Rattle.spec_calc.specs.declared.Reading.{Reading}
 use Rattle.spec_calc.specs.Readings.{Gone-bad}
+use Rattle.spec_rule.specs.declared.Access.{Access}
 use Rattle.spec_rule.specs.declared.Access.the-variants as access
 use Rattle.spec_rule.specs.Question.{Question, reading-instead}
 use Rattle.spec_rule.specs.Rule.{rank}
@@ -31,7 +32,9 @@ use Rattle.spec_table.specs.laws.Accepted.{fits}
 use Rattle.spec_load.specs.Load.{load}
 use Rattle.spec_decision.specs.declared.Answer.the-variants.{BadLevel}
 use Rattle.spec_decision.specs.Decision.{answered, access-in, decide}
-use Rattle.spec_edition.specs.Edition.{Says-no, Edition, rules-later, access-by-rules, access-later}
+use Rattle.spec_edition.specs.Edition.{Says-no, Edition, Later}
+use Rattle.spec_edition.specs.Machine.{rules-later, access-by-rules, access-later}
+use Rattle.spec_edition.specs.laws.Agreement.{later-is}
 use Rattle.spec_edition.specs.laws.Later.{access-never-above, access-alike}
 use Rattle.spec_demand.specs.Calls.{Call, ask-checked, after-calls, is-accepted, No-accepted-load}
 use Rattle.spec_demand.specs.ByFile.{rules-by-file, answer-by-file}
@@ -134,14 +137,16 @@ answered-by-text lent s h xs t between n q =
 
 module _
     (lent s : List ℕ) (h : is-accepted (load lent s .answer) ≡ true) (xs : List Tagged) (t : Text-reads s xs)
-    (between : List Call) (n : No-accepted-load (load lent s .bytes) between) (e : Edition) (q : Question) where
+    (between : List Call) (n : No-accepted-load (load lent s .bytes) between)
+    (e : Edition) (q : Question) (later : Access) (given : Later e xs q later) where
   pub never-above :
       (rs : List Reading) → Gone-bad (q .readings) rs
-      → rank (access-in (decide (after-calls (load lent s .bytes) between) (reading-instead q rs))) ≤ rank (access-later e xs q)
-  never-above rs g = rw (answered-by-text lent s h xs t between n (reading-instead q rs)) (never-above-by-file e xs q rs g)
+      → rank (access-in (decide (after-calls (load lent s .bytes) between) (reading-instead q rs))) ≤ rank later
+  never-above rs g =
+      rw (answered-by-text lent s h xs t between n (reading-instead q rs), sym (later-is e xs q later .1 given)) (never-above-by-file e xs q rs g)
 
-  pub exactly-equal : Says-no e q xs → access-in (decide (after-calls (load lent s .bytes) between) q) ≡ access-later e xs q
-  exactly-equal d = ap access-in (answered-by-text lent s h xs t between n q) ∙ alike-by-file e xs q d
+  pub exactly-equal : Says-no e q xs → access-in (decide (after-calls (load lent s .bytes) between) q) ≡ later
+  exactly-equal d = ap access-in (answered-by-text lent s h xs t between n q) ∙ alike-by-file e xs q d ∙ later-is e xs q later .1 given
 
 -- ---- a load, then questions only
 
@@ -152,9 +157,10 @@ questions-leave b (q ∷ qs) = questions-leave b qs
 -- The asker: a load, then question after question on what it left. Each answer is never more than any edition's, whatever was asked before; and exactly
 -- that of an edition that says no to every unknown predicate.
 module _
-    (lent s : List ℕ) (h : is-accepted (load lent s .answer) ≡ true) (xs : List Tagged) (t : Text-reads s xs) (e : Edition) (q : Question) where
+    (lent s : List ℕ) (h : is-accepted (load lent s .answer) ≡ true) (xs : List Tagged) (t : Text-reads s xs)
+    (e : Edition) (q : Question) (later : Access) (given : Later e xs q later) where
   pub asked-never-more :
       ((worse : List Reading) → Gone-bad (q .readings) worse
-      → rank (access-in (decide (load lent s .bytes) (reading-instead q worse))) ≤ rank (access-later e xs q))
-      × (Says-no e q xs → access-in (decide (load lent s .bytes) q) ≡ access-later e xs q)
-  asked-never-more = (never-above lent s h xs t [] tt e q, exactly-equal lent s h xs t [] tt e q)
+      → rank (access-in (decide (load lent s .bytes) (reading-instead q worse))) ≤ rank later)
+      × (Says-no e q xs → access-in (decide (load lent s .bytes) q) ≡ later)
+  asked-never-more = (never-above lent s h xs t [] tt e q later given, exactly-equal lent s h xs t [] tt e q later given)

@@ -25,7 +25,7 @@ use Rattle.spec_load.specs.declared.Loaded.{Loaded}
 use Rattle.spec_load.specs.declared.Loaded.the-variants.{Accepted, Refused}
 use Rattle.spec_load.specs.Load.{written, without-room, by-verdict, load}
 use Rattle.spec_decision.specs.Decision.{rules-in, rules-for, decide}
-use Rattle.spec_edition.specs.Edition.{rules-later}
+use Rattle.spec_edition.specs.Machine.{rules-later}
 use Rattle.spec_demand.specs.ByFile.{rules-by-file, answer-by-file}
 use Rattle.spec_demand.specs.Calls.{Call, load-text, list-warnings, check-table, ask, ask-checked, find-input, find-input-checked, look-up-name}
 use Rattle.spec_demand.specs.Calls.{allow, calculate, hold, Told, load-told, refusal-of}

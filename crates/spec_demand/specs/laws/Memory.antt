@@ -11,12 +11,13 @@ use Rattle.spec_lists.specs.laws.Every.{every-implies}
 use Rattle.spec_grammar.specs.Sentence.{Tagged}
 use Rattle.spec_calc.specs.declared.Reading.{Reading}
 use Rattle.spec_calc.specs.Readings.{Gone-bad}
+use Rattle.spec_rule.specs.declared.Access.{Access}
 use Rattle.spec_rule.specs.Question.{Question, reading-instead}
 use Rattle.spec_rule.specs.Rule.{rank}
 use Rattle.spec_file.specs.Acceptance.{Text-reads}
 use Rattle.spec_load.specs.Load.{load}
 use Rattle.spec_decision.specs.Decision.{access-in, decide}
-use Rattle.spec_edition.specs.Edition.{Edition, access-later, Says-no}
+use Rattle.spec_edition.specs.Edition.{Edition, Later, Says-no}
 use Rattle.spec_demand.specs.Calls.{text-loaded, after-load, after-call, after-calls, is-accepted, No-accepted-load}
 use Rattle.spec_demand.specs.Memory.{Memory, Storage, Within, Apart, bytes-from, bytes-in, Step, calls-of, Writes-only, leaves, Made, Nobody-else-writes}
 use Rattle.spec_demand.specs.laws.Later.{never-above, exactly-equal}
@@ -63,12 +64,14 @@ module _
     (lent s : List ℕ) (h : is-accepted (load lent s .answer) ≡ true) (xs : List Tagged) (t : Text-reads s xs)
     (table : Storage) (loaded : Memory) (left : bytes-in loaded table ≡ load lent s .bytes)
     (between : List Step) (made : Every (Made table) between) (n : No-accepted-load (load lent s .bytes) (calls-of between))
-    (now : Memory) (alone : Nobody-else-writes table loaded between now) (e : Edition) (q : Question) where
+    (now : Memory) (alone : Nobody-else-writes table loaded between now)
+    (e : Edition) (q : Question) (later : Access) (given : Later e xs q later) where
   stands : bytes-in now table ≡ after-calls (load lent s .bytes) (calls-of between)
   stands = table-after table loaded between now made alone ∙ ap (λ (b : List ℕ). after-calls b (calls-of between)) left
 
   pub never-more :
       ((worse : List Reading) → Gone-bad (q .readings) worse
-      → rank (access-in (decide (bytes-in now table) (reading-instead q worse))) ≤ rank (access-later e xs q))
-      × (Says-no e q xs → access-in (decide (bytes-in now table) q) ≡ access-later e xs q)
-  never-more = rw stands (never-above lent s h xs t (calls-of between) n e q, exactly-equal lent s h xs t (calls-of between) n e q)
+      → rank (access-in (decide (bytes-in now table) (reading-instead q worse))) ≤ rank later)
+      × (Says-no e q xs → access-in (decide (bytes-in now table) q) ≡ later)
+  never-more =
+      rw stands (never-above lent s h xs t (calls-of between) n e q later given, exactly-equal lent s h xs t (calls-of between) n e q later given)

@@ -25,7 +25,7 @@ use Rattle.spec_decision.specs.LookUp.{number, part-in, look-up, Names-input}
 use Rattle.spec_decision.specs.Privilege.{By-file}
 use Rattle.spec_decision.specs.laws.LookUp.{first-input-is}
 use Rattle.spec_decision.specs.laws.Privilege.{asked-is}
-use Rattle.spec_edition.specs.Edition.{rules-later}
+use Rattle.spec_edition.specs.Machine.{rules-later}
 use Rattle.spec_demand.specs.ByFile.{rules-by-file, answer-by-file, inputs-in, input-by-file, name-found}
 use Rattle.spec_demand.specs.laws.Exact.{answers-by-file, inputs-by-file}
 

@@ -23,7 +23,8 @@ use Rattle.spec_rule.specs.Question.{Question, reading-instead}
 use Rattle.spec_rule.specs.Rule.{Rule, rank, belongs, true-tree, calculation-holds, asks, passes, greater, greatest, access-by}
 use Rattle.spec_file.specs.Contents.{Rule-text, File}
 use Rattle.spec_file.specs.Meaning.{rule-in}
-use Rattle.spec_edition.specs.Edition.{Edition, passes-later, access-by-rules}
+use Rattle.spec_edition.specs.Edition.{Edition}
+use Rattle.spec_edition.specs.Machine.{passes-later, access-by-rules}
 
 -- ---- readings that have gone bad make no calculation true
 

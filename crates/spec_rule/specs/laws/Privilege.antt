@@ -22,11 +22,11 @@ use Rattle.spec_rule.specs.declared.Access.{Access}
 use Rattle.spec_rule.specs.declared.Access.the-variants as access
 use Rattle.spec_rule.specs.declared.Decision.{Decision}
 use Rattle.spec_rule.specs.Question.{Question}
-use Rattle.spec_rule.specs.Rule.{Rule, rank, belongs, true-tree, calculation-holds, asks, passes, greater, greatest, access-by, gives-write, trap-of, trap-by}
+use Rattle.spec_rule.specs.Rule.{Rule, rank, belongs, true-tree, calculation-holds, asks, passes, greater, greatest, gives-write, trap-of, trap-by}
 use Rattle.spec_rule.specs.Decision.{with-trap, decision-by}
 use Rattle.spec_rule.specs.Answering.{default-name, named, or-default, answering}
-use Rattle.spec_rule.specs.Privilege.{Some, here, further, First-such, None-named, Answers, by-name, by-default, by-none, Belongs, Yields-true, Passes}
-use Rattle.spec_rule.specs.Privilege.{Gives, Chosen, Determined, by-group, by-no-group}
+use Rattle.spec_rule.specs.Privilege.{Some, here, further, First-such, None-named, Answers, by-name, by-default, by-none, Belongs, Yields-true, Asks, Passes}
+use Rattle.spec_rule.specs.Privilege.{Gives, Greatest, Chosen, Determined, by-group, by-no-group}
 use Rattle.spec_rule.specs.laws.Such.{all-every, any-some, some-any, first-such, such-first, no-first, none-such}
 
 -- ---- texts
@@ -87,13 +87,12 @@ module _ (rs : List Reading) where
       rw (parses-complete s (y .tree) (y .says), every-all (λ i. good (reading rs i)) (y .inputs), y .above, y .below)
 
 module _ (q : Question) (r : Rule) where
-  passes-sound : passes q r ≡ true → Passes q r
-  passes-sound e =
+  asks-sound : asks r q ≡ true → Asks q r
+  asks-sound e =
       let u = belongs (same (q .user)) (r .uags) in
       let h = belongs (same (lowered (q .host))) (r .hags) in
       let c = calculation-holds (q .readings) (r .calculation) in
-      let x = both (not (r .switched-off)) (asks r q) e in
-      let y = both (leb (q .level) (r .level)) (u && (h && c)) (x .1) in
+      let y = both (leb (q .level) (r .level)) (u && (h && c)) e in
       let z = both u (h && c) (y .1) in
       let w = both h c (z .1) in
       record {
@@ -101,18 +100,27 @@ module _ (q : Question) (r : Rule) where
         user = belongs-sound (q .user) (r .uags) (z .0);
         host = belongs-sound (lowered (q .host)) (r .hags) (w .0);
         calculation = calculation-sound (q .readings) (r .calculation) (w .1);
-        known = not-true (r .switched-off) (x .0);
       }
 
-  passes-complete : Passes q r → passes q r ≡ true
-  passes-complete p =
+  asks-complete : Asks q r → asks r q ≡ true
+  asks-complete p =
       rw (
-        p .known,
         le-leb (q .level) (r .level) (p .level),
         belongs-complete (q .user) (r .uags) (p .user),
         belongs-complete (lowered (q .host)) (r .hags) (p .host),
         calculation-complete (q .readings) (r .calculation) (p .calculation),
       )
+
+  pub asks-is : (asks r q ≡ true) ↔ Asks q r
+  asks-is = (asks-sound, asks-complete)
+
+  passes-sound : passes q r ≡ true → Passes q r
+  passes-sound e =
+      let x = both (not (r .switched-off)) (asks r q) e in
+      record { asked = asks-sound (x .1); known = not-true (r .switched-off) (x .0) }
+
+  passes-complete : Passes q r → passes q r ≡ true
+  passes-complete p = rw (p .known) (asks-complete (p .asked))
 
   pub passes-is : (passes q r ≡ true) ↔ Passes q r
   passes-is = (passes-sound, passes-complete)
@@ -135,42 +143,77 @@ among-later : {A : Type 0} {P : A → Type 0} {x : A} {xs : List A} → (P x →
 among-later n (here h) = absurd (n h)
 among-later n (further s) = s
 
--- the access that the best of the passing rules gives
-data Highest (q : Question) (rs : List Rule) : Access → Type 0 where
-  a-write : Some (Gives q access.Write) rs → Highest q rs access.Write
-  a-read : (Some (Gives q access.Write) rs → ⊥) → Some (Gives q access.Read) rs → Highest q rs access.Read
-  nothing : (Some (Gives q access.Write) rs → ⊥) → (Some (Gives q access.Read) rs → ⊥) → Highest q rs access.None
+module _ {A : Type 0} (P : A → Type 0) (permission : A → Access) where
+  abbrev Given : List A → Access → Type 0
+  Given xs a = Some (λ x. P x × (permission x ≡ a)) xs
 
-module _ (q : Question) (r : Rule) {rs : List Rule} where
-  skipped : (Passes q r → ⊥) → {a : Access} → Highest q rs a → Highest q (r ∷ rs) a
-  skipped n (a-write w) = a-write (further w)
-  skipped n (a-read w s) = a-read (λ t. w (among-later (λ g. n (g .0)) t)) (further s)
-  skipped n (nothing w v) = nothing (λ t. w (among-later (λ g. n (g .0)) t)) (λ t. v (among-later (λ g. n (g .0)) t))
+  -- the access that the best of those gives that have P
+  data Best (xs : List A) : Access → Type 0 where
+    a-write : Given xs access.Write → Best xs access.Write
+    a-read : (Given xs access.Write → ⊥) → Given xs access.Read → Best xs access.Read
+    nothing : (Given xs access.Write → ⊥) → (Given xs access.Read → ⊥) → Best xs access.None
 
-  -- r gives p, and so no other access
-  other : {p a : Access} → r .permission ≡ p → (p ≡ a → ⊥) → (Some (Gives q a) rs → ⊥) → Some (Gives q a) (r ∷ rs) → ⊥
-  other e n w t = w (among-later (λ g. n (sym e ∙ g .1)) t)
+  module _ (r : A) {rs : List A} where
+    skipped : (P r → ⊥) → {a : Access} → Best rs a → Best (r ∷ rs) a
+    skipped n (a-write w) = a-write (further w)
+    skipped n (a-read w s) = a-read (λ t. w (among-later (λ g. n (g .0)) t)) (further s)
+    skipped n (nothing w v) = nothing (λ t. w (among-later (λ g. n (g .0)) t)) (λ t. v (among-later (λ g. n (g .0)) t))
 
-  counted : (p : Access) → r .permission ≡ p → Passes q r → {a : Access} → Highest q rs a → Highest q (r ∷ rs) (greater p a)
-  counted access.Write e h (a-write w) = a-write (further w)
-  counted access.Write e h (a-read w s) = a-write (here (h, e))
-  counted access.Write e h (nothing w v) = a-write (here (h, e))
-  counted access.Read e h (a-write w) = a-write (further w)
-  counted access.Read e h (a-read w s) = a-read (other e (λ z. write-read (sym z)) w) (further s)
-  counted access.Read e h (nothing w v) = a-read (other e (λ z. write-read (sym z)) w) (here (h, e))
-  counted access.None e h (a-write w) = a-write (further w)
-  counted access.None e h (a-read w s) = a-read (other e none-write w) (further s)
-  counted access.None e h (nothing w v) = nothing (other e none-write w) (other e none-read v)
+    -- r gives p, and so no other access
+    other : {p a : Access} → permission r ≡ p → (p ≡ a → ⊥) → (Given rs a → ⊥) → Given (r ∷ rs) a → ⊥
+    other e n w t = w (among-later (λ g. n (sym e ∙ g .1)) t)
 
-highest : (q : Question) (rs : List Rule) → Highest q rs (access-by q rs)
-highest q [] = nothing not-nil not-nil
-highest q (r ∷ rs) = go (passes q r) refl (highest q rs)
+    counted : (p : Access) → permission r ≡ p → P r → {a : Access} → Best rs a → Best (r ∷ rs) (greater p a)
+    counted access.Write e h (a-write w) = a-write (further w)
+    counted access.Write e h (a-read w s) = a-write (here (h, e))
+    counted access.Write e h (nothing w v) = a-write (here (h, e))
+    counted access.Read e h (a-write w) = a-write (further w)
+    counted access.Read e h (a-read w s) = a-read (other e (λ z. write-read (sym z)) w) (further s)
+    counted access.Read e h (nothing w v) = a-read (other e (λ z. write-read (sym z)) w) (here (h, e))
+    counted access.None e h (a-write w) = a-write (further w)
+    counted access.None e h (a-read w s) = a-read (other e none-write w) (further s)
+    counted access.None e h (nothing w v) = nothing (other e none-write w) (other e none-read v)
+
+  -- a test that decides P finds the greatest
+  module _ (p : A → Bool) (decides : (x : A) → (p x ≡ true) ↔ P x) where
+    best : (xs : List A) → Best xs (greatest (map permission (select p xs)))
+    best [] = nothing not-nil not-nil
+    best (r ∷ rs) = go (p r) refl (best rs)
+      where
+        go : (b : Bool) → p r ≡ b → Best rs (greatest (map permission (select p rs))) → Best (r ∷ rs) (greatest (map permission (prepend-if b r (select p rs))))
+        go true e h = counted r (permission r) refl (decides r .0 e) h
+        go false e h = skipped r (λ y. false≢true (sym e ∙ decides r .1 y)) h
+
+    pub greatest-is : (xs : List A) → Greatest (Given xs) (greatest (map permission (select p xs)))
+    greatest-is xs = go (best xs)
+      where
+        go : {a : Access} → Best xs a → Greatest (Given xs) a
+        go (a-write w) =
+            record {
+              write = (λ e. w, λ s. refl);
+              read = (λ e. absurd (write-read e), λ s. absurd (s .0 w));
+              neither = (λ e. absurd (none-write (sym e)), λ s. absurd (s .0 w));
+            }
+        go (a-read w s) =
+            record {
+              write = (λ e. absurd (write-read (sym e)), λ t. absurd (w t));
+              read = (λ e. (w, s), λ t. refl);
+              neither = (λ e. absurd (none-read (sym e)), λ t. absurd (t .1 s));
+            }
+        go (nothing w v) =
+            record {
+              write = (λ e. absurd (none-write e), λ t. absurd (w t));
+              read = (λ e. absurd (none-read e), λ t. absurd (v (t .1)));
+              neither = (λ e. (w, v), λ t. refl);
+            }
+
+pub one-greatest : {G : Access → Type 0} {a b : Access} → Greatest G a → Greatest G b → a ≡ b
+one-greatest {a = a} {b = b} c k = by a refl
   where
-    go :
-        (b : Bool) → passes q r ≡ b → Highest q rs (access-by q rs)
-        → Highest q (r ∷ rs) (greatest (map (λ x. x .permission) (prepend-if b r (select (passes q) rs))))
-    go true e h = counted q r (r .permission) refl (passes-sound q r e) h
-    go false e h = skipped q r (λ p. false≢true (sym e ∙ passes-complete q r p)) h
+    by : (x : Access) → a ≡ x → a ≡ b
+    by access.Write h = h ∙ sym (k .write .1 (c .write .0 h))
+    by access.Read h = h ∙ sym (k .read .1 (c .read .0 h))
+    by access.None h = h ∙ sym (k .neither .1 (c .neither .0 h))
 
 -- ---- the trap
 
@@ -222,39 +265,12 @@ module _ (q : Question) where
   -- ---- the decision
 
   pub decision-chosen : (rs : List Rule) → Chosen q rs (decision-by q rs)
-  decision-chosen rs = go (highest q rs)
-    where
-      go : {a : Access} → Highest q rs a → Chosen q rs (with-trap a (trap-by q rs))
-      go (a-write w) =
-          record {
-            write = (λ e. w, λ s. refl);
-            read = (λ e. absurd (write-read e), λ s. absurd (s .0 w));
-            neither = (λ e. absurd (none-write (sym e)), λ s. absurd (s .0 w));
-            trap = (trap-sound rs, trap-complete rs);
-          }
-      go (a-read w s) =
-          record {
-            write = (λ e. absurd (write-read (sym e)), λ t. absurd (w t));
-            read = (λ e. (w, s), λ t. refl);
-            neither = (λ e. absurd (none-read (sym e)), λ t. absurd (t .1 s));
-            trap = (trap-sound rs, trap-complete rs);
-          }
-      go (nothing w v) =
-          record {
-            write = (λ e. absurd (none-write e), λ t. absurd (w t));
-            read = (λ e. absurd (none-read e), λ t. absurd (v (t .1)));
-            neither = (λ e. (w, v), λ t. refl);
-            trap = (trap-sound rs, trap-complete rs);
-          }
+  decision-chosen rs =
+      record { maximum = greatest-is (Passes q) (λ r. r .permission) (passes q) (passes-is q) rs; trap = (trap-sound rs, trap-complete rs) }
 
   pub one-chosen : {rs : List Rule} {d e : Decision} → Chosen q rs d → Chosen q rs e → d ≡ e
-  one-chosen {rs = rs} {d = d} {e = e} c k = ap₂ with-trap (by-access (d .access) refl) (by-trap (d .trap) (e .trap) refl refl)
+  one-chosen {rs = rs} {d = d} {e = e} c k = ap₂ with-trap (one-greatest (c .maximum) (k .maximum)) (by-trap (d .trap) (e .trap) refl refl)
     where
-      by-access : (a : Access) → d .access ≡ a → d .access ≡ e .access
-      by-access access.Write h = h ∙ sym (k .write .1 (c .write .0 h))
-      by-access access.Read h = h ∙ sym (k .read .1 (c .read .0 h))
-      by-access access.None h = h ∙ sym (k .neither .1 (c .neither .0 h))
-
       by-trap : (t u : Bool) → d .trap ≡ t → e .trap ≡ u → d .trap ≡ e .trap
       by-trap true u f g = f ∙ sym (k .trap .1 (c .trap .0 f))
       by-trap false true f g = c .trap .1 (k .trap .0 g) ∙ sym g
