@@ -31,6 +31,8 @@ rank access.None = 0
 rank access.Read = 1
 rank access.Write = 2
 
+-- ---- Functions that decide what Privilege.antt states. Nobody has to believe them: laws/Privilege.antt proves that they agree with it.
+
 -- 01: "the user is a member of one of its UAGs (or it names none)"; "Several UAG lists in one rule count as one."
 -- A predicate says which members match, one for users and one for hosts.
 abbrev pub belongs : (List ℕ → Bool) → List (List (List ℕ)) → Bool
