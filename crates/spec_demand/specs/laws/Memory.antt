@@ -18,7 +18,7 @@ use Rattle.spec_file.specs.Acceptance.{Text-reads}
 use Rattle.spec_load.specs.Load.{load}
 use Rattle.spec_decision.specs.Decision.{access-in, decide}
 use Rattle.spec_edition.specs.Edition.{Edition, Later, Says-no}
-use Rattle.spec_demand.specs.Calls.{text-loaded, after-load, after-call, after-calls, is-accepted, No-accepted-load}
+use Rattle.spec_demand.specs.Calls.{text-loaded, after-load, after-calls, is-accepted, No-accepted-load}
 use Rattle.spec_demand.specs.Memory.{Memory, Storage, Within, Apart, bytes-from, bytes-in, Step, calls-of, Writes-only, leaves, Made, Nobody-else-writes}
 use Rattle.spec_demand.specs.laws.Later.{never-above, exactly-equal}
 
