@@ -59,7 +59,8 @@ static const char *warning_words(enum hrazvanut_warning_kind kind)
 static void say_warnings(const char *from, struct hrazvanut_text file)
 {
     struct hrazvanut_warning first[8];
-    struct hrazvanut_listed listed = hrazvanut_list_warnings(file, 0, first, 8);
+    struct hrazvanut_warnings room = {.start = first, .length = sizeof first / sizeof *first};
+    struct hrazvanut_listed listed = hrazvanut_list_warnings(file, 0, room);
     for (size_t i = 0; i < listed.written; i++)
         say("%s: warning %u at %zu, line %zu: %s\n", from, (unsigned)first[i].kind, first[i].place, line_of(first[i].place),
             warning_words(first[i].kind));
