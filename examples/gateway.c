@@ -10,9 +10,10 @@ static const char *const access_word[] = {"NONE", "READ", "WRITE"};
 static void print_warnings(struct hrazvanut_text text)
 {
     struct hrazvanut_warning warnings[8];
+    struct hrazvanut_warnings room = {.start = warnings, .length = 8};
     size_t skip = 0;
     for (;;) {
-        struct hrazvanut_listed listed = hrazvanut_list_warnings(text, skip, warnings, 8);
+        struct hrazvanut_listed listed = hrazvanut_list_warnings(text, skip, room);
         if (listed.written == 0)
             return;
         for (size_t i = 0; i < listed.written; i++)

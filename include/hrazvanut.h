@@ -4,7 +4,8 @@
  * hrazvanut_find_input and hrazvanut_allowed. They stand at the end of this file, each with its contract in words, and are inline:
  * they pass the parts of their structs on to the proved functions, hrazvanut_abi_*, and take the answers apart.
  *
- * Of every call but hrazvanut_decide_checked: any bytes, any lengths, any numbers get an answer, in bounds and in bounded time.
+ * Of every call but hrazvanut_decide_checked: any bytes, any lengths, any numbers get an answer, in bounds and in bounded time. A question
+ * is not NULL.
  *
  * - A pointer is good for the length beside it. With a length of 0 it may be any pointer, NULL too.
  * - What is lent to be written (the room of a load, the array of warnings) overlaps nothing else that is lent to the same call. What is
@@ -34,7 +35,7 @@
  *
  * Header and library are of one revision of the repository. A library knows no struct of this header; a function hrazvanut_abi_* whose
  * parameters or answer change gets another name, so that a header does not link with a library that means something else. */
-#define HRAZVANUT_VERSION_MAJOR 2
+#define HRAZVANUT_VERSION_MAJOR 3
 #define HRAZVANUT_VERSION_MINOR 0
 #define HRAZVANUT_VERSION (HRAZVANUT_VERSION_MAJOR * 1000 + HRAZVANUT_VERSION_MINOR)
 
@@ -42,6 +43,13 @@
 #define HRAZVANUT_FILE 16384
 #define HRAZVANUT_TABLE 35108
 #define HRAZVANUT_READINGS 21
+
+/* In C++ an enum can hold a number that is not among its own only if its type is given. */
+#ifdef __cplusplus
+#define HRAZVANUT_ENUM_TYPE : int
+#else
+#define HRAZVANUT_ENUM_TYPE
+#endif
 
 /* ---- what is given */
 
@@ -64,7 +72,7 @@ struct hrazvanut_room {
 };
 
 /* What a sensor last answered. Any other number counts as HRAZVANUT_INVALID. */
-enum hrazvanut_state {
+enum hrazvanut_state HRAZVANUT_ENUM_TYPE {
     HRAZVANUT_NEVER_HEARD = 0,
     HRAZVANUT_INVALID = 1,
     HRAZVANUT_VALUE = 2
@@ -88,7 +96,7 @@ struct hrazvanut_question {
 /* ---- what is answered */
 
 /* 01's numbers. A refused call writes nothing, grants nothing and finds nothing. */
-enum hrazvanut_refusal {
+enum hrazvanut_refusal HRAZVANUT_ENUM_TYPE {
     HRAZVANUT_NOT_REFUSED = 0,
     /* of a load; 1 to 10 of a list of warnings too */
     HRAZVANUT_REFUSED_FILE_TOO_LONG = 1,
@@ -108,14 +116,14 @@ enum hrazvanut_refusal {
     HRAZVANUT_REFUSED_NO_INPUT = 22
 };
 
-enum hrazvanut_access {
+enum hrazvanut_access HRAZVANUT_ENUM_TYPE {
     HRAZVANUT_NONE = 0,
     HRAZVANUT_READ = 1,
     HRAZVANUT_WRITE = 2
 };
 
 /* 01's numbers. */
-enum hrazvanut_warning_kind {
+enum hrazvanut_warning_kind HRAZVANUT_ENUM_TYPE {
     HRAZVANUT_UNKNOWN_ITEM = 1,
     HRAZVANUT_UNKNOWN_PREDICATE = 2,
     HRAZVANUT_UNDEFINED_GROUP = 3
@@ -124,6 +132,12 @@ enum hrazvanut_warning_kind {
 struct hrazvanut_warning {
     enum hrazvanut_warning_kind kind;
     size_t place; /* in bytes from the start of the text */
+};
+
+/* A lent array for warnings to be written into. */
+struct hrazvanut_warnings {
+    struct hrazvanut_warning *start;
+    size_t length;
 };
 
 /* Of a load. */
@@ -285,8 +299,7 @@ static inline struct hrazvanut_loaded hrazvanut_load(struct hrazvanut_text text,
 
 /* The warnings of a text, by place. Those behind the first `skip` are written, as many as there is room for. A text that a load refuses with
  * 1 to 10 is refused here too, and nothing is written. The text is read anew for each 64 that are written. */
-static inline struct hrazvanut_listed hrazvanut_list_warnings(struct hrazvanut_text text, size_t skip, struct hrazvanut_warning *warnings,
-                                                              size_t room)
+static inline struct hrazvanut_listed hrazvanut_list_warnings(struct hrazvanut_text text, size_t skip, struct hrazvanut_warnings room)
 {
     uint8_t numbers[64];
     uint16_t places[64];
@@ -294,7 +307,7 @@ static inline struct hrazvanut_listed hrazvanut_list_warnings(struct hrazvanut_t
     size_t i;
     listed.written = 0;
     do {
-        size_t batch = room - listed.written < 64 ? room - listed.written : 64;
+        size_t batch = room.length - listed.written < 64 ? room.length - listed.written : 64;
         uint64_t answer = hrazvanut_abi_list_warnings(hrazvanut_abi_bytes(text.start, text.length), text.length, skip + listed.written,
                                                       numbers, batch, places, batch);
         bool accepted;
@@ -303,11 +316,11 @@ static inline struct hrazvanut_listed hrazvanut_list_warnings(struct hrazvanut_t
         listed.place = accepted ? 0 : hrazvanut_abi_first(answer);
         listed.count = accepted ? hrazvanut_abi_first(answer) : 0;
         for (i = 0; i < batch && skip + listed.written < listed.count; i++) {
-            warnings[listed.written].kind = (enum hrazvanut_warning_kind)numbers[i];
-            warnings[listed.written].place = places[i];
+            room.start[listed.written].kind = (enum hrazvanut_warning_kind)numbers[i];
+            room.start[listed.written].place = places[i];
             listed.written++;
         }
-    } while (i == 64 && listed.written < room);
+    } while (i == 64 && listed.written < room.length);
     return listed;
 }
 
@@ -331,7 +344,7 @@ static inline struct hrazvanut_answer hrazvanut_decide(struct hrazvanut_table ta
 }
 
 /* The same, for bytes of which hrazvanut_is_table has said true and that were not written since: the one precondition of this library. It
- * spares the check, which takes most of the time of a question. Of other bytes nothing is promised, not even that it stays in bounds. */
+ * spares the check, which for a large table takes most of the time. Of other bytes nothing is promised, not even that it stays in bounds. */
 static inline struct hrazvanut_answer hrazvanut_decide_checked(struct hrazvanut_table table, const struct hrazvanut_question *question)
 {
     return hrazvanut_abi_ask(hrazvanut_abi_decide_checked, table, question);
@@ -359,5 +372,7 @@ static inline bool hrazvanut_allowed(struct hrazvanut_text text)
 {
     return hrazvanut_abi_allowed(hrazvanut_abi_bytes(text.start, text.length), text.length) == 1;
 }
+
+#undef HRAZVANUT_ENUM_TYPE
 
 #endif

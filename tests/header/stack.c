@@ -36,7 +36,8 @@ static void call_load(const struct input *in)
 static void call_list_warnings(const struct input *in)
 {
     struct hrazvanut_warning warnings[8];
-    hrazvanut_list_warnings(in->text, 0, warnings, 8);
+    struct hrazvanut_warnings room = {.start = warnings, .length = 8};
+    hrazvanut_list_warnings(in->text, 0, room);
 }
 
 static void call_is_table(const struct input *in) { hrazvanut_is_table(in->table); }

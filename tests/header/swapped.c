@@ -5,12 +5,14 @@ static struct hrazvanut_text text;
 static struct hrazvanut_table table;
 static struct hrazvanut_room room;
 static struct hrazvanut_question question;
+static struct hrazvanut_warnings warnings;
 
 int main(void)
 {
 #if WRONG == 0
     return (int)hrazvanut_load(text, room).refusal + (int)hrazvanut_find_input(table, text, 0).refusal +
-           (int)hrazvanut_decide(table, &question).refusal + hrazvanut_allowed(text) + hrazvanut_is_table(table);
+           (int)hrazvanut_decide(table, &question).refusal + hrazvanut_allowed(text) + hrazvanut_is_table(table) +
+           (int)hrazvanut_list_warnings(text, 0, warnings).refusal;
 #elif WRONG == 1
     return (int)hrazvanut_load(room, text).refusal;
 #elif WRONG == 2
@@ -28,5 +30,7 @@ int main(void)
 #elif WRONG == 8
     question.level = text;
     return 0;
+#elif WRONG == 9
+    return (int)hrazvanut_list_warnings(text, warnings, 0).refusal;
 #endif
 }

@@ -4,6 +4,7 @@
 #include <pthread.h>
 #include <stdlib.h>
 #include <string.h>
+#include <unistd.h>
 
 #include "plan.h"
 #include "preload.h"
@@ -58,7 +59,8 @@ static const char *warning_words(enum hrazvanut_warning_kind kind)
 static void say_warnings(const char *from, struct hrazvanut_text file)
 {
     struct hrazvanut_warning first[8];
-    struct hrazvanut_listed listed = hrazvanut_list_warnings(file, 0, first, 8);
+    struct hrazvanut_warnings room = {.start = first, .length = sizeof first / sizeof *first};
+    struct hrazvanut_listed listed = hrazvanut_list_warnings(file, 0, room);
     for (size_t i = 0; i < listed.written; i++)
         say("%s: warning %u at %zu, line %zu: %s\n", from, (unsigned)first[i].kind, first[i].place, line_of(first[i].place),
             warning_words(first[i].kind));
@@ -139,15 +141,27 @@ static void put_in_force(void)
     by_address = &asCheckClientIP && asCheckClientIP;
 }
 
-/* There are no clients yet, and no lock. The rules stand before EPICS lets a client in. */
+/* What EPICS has for the sensors counts from here on. */
+static long first_done(struct job *job)
+{
+    unhear();
+    deaf = job->level;
+    judge_all();
+    return 0;
+}
+
+/* There are no clients yet, and no lock. The rules stand before EPICS lets a client in; and a client that comes before the inputs are bad
+ * is judged without them. */
 static long first_time(void)
 {
+    struct job job = {.run = first_done, .level = deaf};
     put_in_force();
+    deaf = 1;
     long status = give_plan();
-    if (status)
-        memset(in_force, 0, sizeof in_force);
-    else
-        unhear();
+    if (!status)
+        return locked(&job);
+    memset(in_force, 0, sizeof in_force);
+    deaf = job.level;
     return status;
 }
 
@@ -172,14 +186,30 @@ static long again(struct job *job)
 
 /* ---- a load */
 
-/* Whether libCom is there, and the one that this was built for. */
+/* Whether libCom can be reached, and in which file it is. */
+static int reach_libcom(Dl_info *where)
+{
+    return &asActive && &pasbase && asRegisterClientCallback && REAL(asInitialize) && dladdr((void *)REAL(asInitialize), where);
+}
+
+/* A libCom that was opened after the start (dlopen) is out of reach, so access security cannot be put on; and EPICS grants everything
+ * while it is not on. */
+static void need_libcom(const char *from)
+{
+    Dl_info where;
+    if (reach_libcom(&where))
+        return;
+    fprintf(stderr, "hrazvanut: %s: libCom is out of reach (opened with dlopen?). This process ends. Put " HRAZVANUT_LIBCOM
+                    " behind hrazvanut.so in LD_PRELOAD.\n", from);
+    _exit(EXIT_FAILURE);
+}
+
+/* Whether libCom is the one that this was built for. */
 static int right_libcom(void)
 {
-    Dl_info where = {0};
-    if (!&asActive || !&pasbase || !asRegisterClientCallback || !REAL(asInitialize) || !dladdr((void *)REAL(asInitialize), &where)) {
-        say("no libCom in reach\n");
+    Dl_info where;
+    if (!reach_libcom(&where))
         return 0;
-    }
     const char *slash = strrchr(where.dli_fname, '/'), *name = slash ? slash + 1 : where.dli_fname;
     foreign = strcmp(name, HRAZVANUT_LIBCOM) != 0;
     if (foreign)
@@ -191,7 +221,7 @@ static int right_libcom(void)
 static void shut(void)
 {
     strcpy(plan, "ASG(DEFAULT)\n");
-    if (!active() && REAL(asInitialize))
+    if (!active())
         give_plan();
 }
 
@@ -200,7 +230,7 @@ static long prepare(const char *from, struct hrazvanut_text file, const char *su
 {
     if (substitutions && memchr(text, '$', file.length))
         return refuse(from, "macros are not replaced here; replace them before (msi)");
-    struct hrazvanut_room room = {next, sizeof next};
+    struct hrazvanut_room room = {.start = next, .length = sizeof next};
     struct hrazvanut_loaded loaded = hrazvanut_load(file, room);
     if (loaded.refusal) {
         say("%s: refusal %u at %zu, line %zu: %s. %s\n", from, (unsigned)loaded.refusal, loaded.place, line_of(loaded.place),
@@ -219,7 +249,7 @@ static long prepare(const char *from, struct hrazvanut_text file, const char *su
 static long load(const char *from, size_t length, const char *substitutions)
 {
     struct job job = {.run = again};
-    struct hrazvanut_text file = {text, length};
+    struct hrazvanut_text file = {.start = text, .length = length};
     long status = right_libcom() ? prepare(from, file, substitutions) : S_asLib_badConfig;
     if (status)
         return status;
@@ -237,6 +267,7 @@ static long load(const char *from, size_t length, const char *substitutions)
 
 static int begin(const char *from)
 {
+    need_libcom(from);
     int free = pthread_mutex_trylock(&loading) == 0;
     if (!free)
         say("%s: refused: another load is at work\n", from);

@@ -10,9 +10,7 @@
 uint8_t in_force[HRAZVANUT_TABLE];
 int by_address;
 int foreign;
-
-/* Set while EPICS has its links to the sensors down. */
-static int deaf;
+int deaf;
 
 /* ---- EPICS's lock */
 
@@ -37,9 +35,19 @@ long locked(struct job *job)
 
 static int is_bad(const ASG *group, int letter) { return (group->inpBad >> letter & 1) != 0; }
 
-/* What EPICS has heard for a group. A letter without input is left as it is: never heard. */
-static void hear(const ASG *group, struct hrazvanut_reading *readings)
+/* EPICS calls an input good before it stores the value; so what is stored for a bad one is made no number. One that is none
+ * already is left alone: EPICS may be about to store the good one. */
+static void spoil_bad(ASG *group)
 {
+    for EACH (ASGINP, input, &group->inpList)
+        if (input->inpIndex < LETTERS && is_bad(group, input->inpIndex) && !isnan(group->pavalue[input->inpIndex]))
+            group->pavalue[input->inpIndex] = NAN;
+}
+
+/* What EPICS has heard for a group. A letter without input is left as it is: never heard. */
+static void hear(ASG *group, struct hrazvanut_reading *readings)
+{
+    spoil_bad(group);
     for EACH (ASGINP, input, &group->inpList)
         if (!deaf && input->inpIndex < LETTERS) {
             readings[input->inpIndex].state = is_bad(group, input->inpIndex) ? HRAZVANUT_INVALID : HRAZVANUT_VALUE;
@@ -60,8 +68,8 @@ static const char *believed(const char *host)
  * put the record into, not by the record's ASG field: the readings are that group's, whatever is being written to the field. */
 static void judge(ASGCLIENT *client, asAccessRights before)
 {
-    const ASG *group = client->pasgMember->pasg;
-    struct hrazvanut_table table = {in_force, sizeof in_force};
+    ASG *group = client->pasgMember->pasg;
+    struct hrazvanut_table table = {.start = in_force, .length = sizeof in_force};
     struct hrazvanut_question question = {0};
     question.group = hrazvanut_string(group->name);
     question.user = hrazvanut_string(client->user);
@@ -81,8 +89,11 @@ static void judge_member(const ASGMEMBER *member)
         judge(client, client->access);
 }
 
-static void judge_group(const ASG *group)
+/* Spoils without clients too: while EPICS sets its links up it says nothing of an input that turned bad, but works out all groups at the
+ * end. */
+static void judge_group(ASG *group)
 {
+    spoil_bad(group);
     for EACH (ASGMEMBER, member, &group->memberList)
         judge_member(member);
 }
@@ -95,15 +106,6 @@ void judge_all(void)
 
 /* ---- sensors */
 
-/* EPICS calls an input good before it stores the value; so what is stored for a bad one is made no number. One that is none
- * already is left alone: EPICS may be about to store the good one. */
-static void spoil_bad(ASG *group)
-{
-    for EACH (ASGINP, input, &group->inpList)
-        if (input->inpIndex < LETTERS && is_bad(group, input->inpIndex) && !isnan(group->pavalue[input->inpIndex]))
-            group->pavalue[input->inpIndex] = NAN;
-}
-
 void unhear(void)
 {
     for EACH (ASG, group, groups()) {
@@ -115,10 +117,8 @@ void unhear(void)
 
 static long compute_group(struct job *job)
 {
-    if (foreign)
-        return 0;
-    spoil_bad(job->group);
-    judge_group(job->group);
+    if (!foreign)
+        judge_group(job->group);
     return 0;
 }
 

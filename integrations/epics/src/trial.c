@@ -92,6 +92,29 @@ static void refused_first(void)
     check(asInitMem(rules, NULL) == 0 && visitor("low", 0, "ann", host) == asWRITE, "then a load");
 }
 
+/* Comes as soon as EPICS lets it in. */
+static void *early(void *nothing)
+{
+    (void)nothing;
+    while (asAddMember(&member, ""))
+        ;
+    while (asAddClient(&client, member, 1, "ann", host))
+        ;
+    return NULL;
+}
+
+/* With slow.c behind the preload, so that the client is in before the load is done. */
+static void slow_first(void)
+{
+    pthread_t other;
+    pthread_create(&other, NULL, early, NULL);
+    long status = asInitMem("ASG(DEFAULT) {INPA(s) RULE(1,READ) RULE(1,WRITE) {CALC(\"A<1\")}}", NULL);
+    pthread_join(other, NULL);
+    check(status == 0 && client->access == asREAD, "a client that comes during the first load: the sensor was never heard");
+    event(1, 0.02);
+    check(client->access == asWRITE, "and then it is");
+}
+
 /* With a preload for another libCom. */
 static void other_libcom(void)
 {
@@ -132,6 +155,15 @@ static void sensors(void)
     half_an_event(0);
     asCompute(client);
     check(is(asREAD, 1), "bad, before EPICS says so: read");
+    half_an_event(1);
+    asCompute(client);
+    check(is(asREAD, 0), "good again, half done: still read");
+    event(1, 0.02);
+    half_an_event(0);
+    asComputeAllAsg();
+    half_an_event(1);
+    asCompute(client);
+    check(is(asREAD, 2), "bad while EPICS sets its links up, then good, half done: read");
     event(1, 0.02);
     told = 0;
 }
@@ -271,6 +303,8 @@ int main(int count_of_words, char **words)
         other_libcom();
     } else if (!strcmp(mode, "refused")) {
         refused_first();
+    } else if (!strcmp(mode, "slow")) {
+        slow_first();
     } else {
         start();
         sensors();

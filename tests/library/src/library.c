@@ -40,7 +40,8 @@ void library_list_warnings(const uint8_t *text, size_t text_length, size_t skip,
     struct hrazvanut_warning *warnings = malloc((room + 1) * sizeof *warnings);
     if (!warnings)
         abort();
-    struct hrazvanut_listed listed = hrazvanut_list_warnings(text_of(text, text_length), skip, warnings, room);
+    struct hrazvanut_warnings lent = {.start = warnings, .length = room};
+    struct hrazvanut_listed listed = hrazvanut_list_warnings(text_of(text, text_length), skip, lent);
     size_t behind = skip < listed.count ? listed.count - skip : 0;
     int same = listed.written == (behind < room ? behind : room);
     same &= answer == ((listed.refusal ? listed.place : listed.count) | (uint64_t)listed.refusal << 48);
