@@ -65,7 +65,7 @@ int active(void);
 extern uint8_t in_force[HRAZVANUT_TABLE];
 extern int by_address;
 
-/* Set while nothing that EPICS has for a sensor counts: its links are down, or a first load is not yet done. */
+/* Set while nothing that EPICS has for a sensor counts: its links are down or being set up, or a first load is not yet done. */
 extern int deaf;
 
 /* No sensor has been heard. After a load EPICS has all inputs good, at 0. */

@@ -35,19 +35,9 @@ long locked(struct job *job)
 
 static int is_bad(const ASG *group, int letter) { return (group->inpBad >> letter & 1) != 0; }
 
-/* EPICS calls an input good before it stores the value; so what is stored for a bad one is made no number. One that is none
- * already is left alone: EPICS may be about to store the good one. */
-static void spoil_bad(ASG *group)
-{
-    for EACH (ASGINP, input, &group->inpList)
-        if (input->inpIndex < LETTERS && is_bad(group, input->inpIndex) && !isnan(group->pavalue[input->inpIndex]))
-            group->pavalue[input->inpIndex] = NAN;
-}
-
 /* What EPICS has heard for a group. A letter without input is left as it is: never heard. */
-static void hear(ASG *group, struct hrazvanut_reading *readings)
+static void hear(const ASG *group, struct hrazvanut_reading *readings)
 {
-    spoil_bad(group);
     for EACH (ASGINP, input, &group->inpList)
         if (!deaf && input->inpIndex < LETTERS) {
             readings[input->inpIndex].state = is_bad(group, input->inpIndex) ? HRAZVANUT_INVALID : HRAZVANUT_VALUE;
@@ -68,7 +58,7 @@ static const char *believed(const char *host)
  * put the record into, not by the record's ASG field: the readings are that group's, whatever is being written to the field. */
 static void judge(ASGCLIENT *client, asAccessRights before)
 {
-    ASG *group = client->pasgMember->pasg;
+    const ASG *group = client->pasgMember->pasg;
     struct hrazvanut_table table = {.start = in_force, .length = sizeof in_force};
     struct hrazvanut_question question = {0};
     question.group = hrazvanut_string(group->name);
@@ -89,8 +79,19 @@ static void judge_member(const ASGMEMBER *member)
         judge(client, client->access);
 }
 
-/* Spoils without clients too: while EPICS sets its links up it says nothing of an input that turned bad, but works out all groups at the
- * end. */
+/* EPICS calls an input good before it stores the value; so what is stored for a bad one is made no number. One that is none
+ * already is left alone, and the value is read first: EPICS may be storing a good one. */
+static void spoil_bad(ASG *group)
+{
+    for EACH (ASGINP, input, &group->inpList)
+        if (input->inpIndex < LETTERS) {
+            double stored;
+            __atomic_load(&group->pavalue[input->inpIndex], &stored, __ATOMIC_ACQUIRE);
+            if (!isnan(stored) && is_bad(group, input->inpIndex))
+                group->pavalue[input->inpIndex] = NAN;
+        }
+}
+
 static void judge_group(ASG *group)
 {
     spoil_bad(group);
@@ -135,12 +136,16 @@ static long go_deaf(struct job *job)
     return compute_all(job);
 }
 
+static long forget(struct job *job)
+{
+    unhear();
+    return go_deaf(job);
+}
+
 static long hear_again(struct job *job)
 {
-    (void)job;
-    unhear();
     deaf = 0;
-    return 0;
+    return compute_all(job);
 }
 
 EXPORT long asComputeAsg(ASG *group)
@@ -166,13 +171,15 @@ EXPORT void asCaStop(void)
         stop();
 }
 
+/* EPICS comes back when its links are set up. Until then it says nothing of an input that turned bad. */
 EXPORT void asCaStart(void)
 {
-    struct job job = {.run = hear_again};
+    struct job before = {.run = forget}, after = {.run = hear_again};
     void (*start)(void) = REAL(asCaStart);
-    locked(&job);
+    locked(&before);
     if (start)
         start();
+    locked(&after);
 }
 
 /* ---- clients: EPICS makes them, and gives them NONE */

@@ -1,7 +1,9 @@
-/* Stands between the preload and libCom: a load goes on when clients have had time to come. */
+/* Stands between the preload and EPICS: clients have time to come during a load, and while the links to the sensors are set up. */
 #include <dlfcn.h>
+#include <stdio.h>
 #include <unistd.h>
 
+#include <asCa.h>
 #include <asLib.h>
 
 long asInitialize(ASINPUTFUNCPTR input)
@@ -11,3 +13,5 @@ long asInitialize(ASINPUTFUNCPTR input)
     usleep(100000);
     return status;
 }
+
+void asCaStart(void) { sleep(1); }
