@@ -61,7 +61,7 @@ pub fn level(levels: &[u32], i: usize) -> u32
     if i < levels.len() { levels[i] } else { 0 }
 }
 
-// The text that the j-th word of the i-th call and the next give.
+// The text that the j-th word of the i-th call and the next give. The caller, sequence, asks for calls that stand whole, and for words that a call has.
 pub fn text_at<'a>(script: &[usize], pool: &'a [u8], i: usize, j: usize) -> &'a [u8]
     requires { ⌜ (i * 16 + 16 ≤ length (now script)) × (j + 1 < 16) ⌝ }
     ensures { λ r. ⌜ now r ≡ text-at (now (script .entry)) (now (pool .entry)) i j ⌝ }

@@ -28,6 +28,7 @@ fn put_word(lent: &mut [u8], at: usize, v: usize) -> usize
     put_byte(lent, next, (v / 256 % 256) as u8)
 }
 
+// Two words. Inner: load_records calls it, at a place in a table, far below the greatest usize.
 pub fn put_two(lent: &mut [u8], at: usize, a: usize, b: usize) -> usize
     requires { ⌜ at + 4 < usize-limit ⌝ }
     ensures { λ r. ⌜ Put (now (lent .entry)) (now (lent .exit)) at (spelled-out (a ∷ b ∷ [])) r ⌝ }
@@ -36,6 +37,7 @@ pub fn put_two(lent: &mut [u8], at: usize, a: usize, b: usize) -> usize
     put_word(lent, next, b)
 }
 
+// Three words. Inner: as put_two.
 pub fn put_three(lent: &mut [u8], at: usize, a: usize, b: usize, c: usize) -> usize
     requires { ⌜ at + 6 < usize-limit ⌝ }
     ensures { λ r. ⌜ Put (now (lent .entry)) (now (lent .exit)) at (spelled-out (a ∷ b ∷ c ∷ [])) r ⌝ }
@@ -44,7 +46,7 @@ pub fn put_three(lent: &mut [u8], at: usize, a: usize, b: usize, c: usize) -> us
     put_two(lent, next, b, c)
 }
 
-// As many words as there are.
+// As many words as there are. Inner: load_write calls it, with the words of a header.
 pub fn put_words(lent: &mut [u8], at: usize, words: &[usize]) -> usize
     requires { ⌜ at + 2 * length (now words) < usize-limit ⌝ }
     ensures { λ r. ⌜ Put (now (lent .entry)) (now (lent .exit)) at (spelled-out (now (words .entry))) r ⌝ }
@@ -64,7 +66,7 @@ fn in_case(b: u8, low: bool) -> u8
     if low { byte_compare::lower(b) } else { b }
 }
 
-// The bytes of a text, in lower case if asked.
+// The bytes of a text, in lower case if asked. Inner: load_records calls it, with a text of the file at a place in a table.
 pub fn put_text(lent: &mut [u8], at: usize, t: &[u8], low: bool) -> usize
     requires { ⌜ at + length (now t) < usize-limit ⌝ }
     ensures { λ r. ⌜ Put (now (lent .entry)) (now (lent .exit)) at (map (cased low) (now (t .entry))) r ⌝ }

@@ -248,7 +248,7 @@ fn joint_sign(x: Sign, p: usize, l: usize) -> Joint
     }
 }
 
-// What continues behind an operand, for a reader at level l.
+// What continues behind an operand, for a reader at level l. calc_value calls it behind what it has read.
 pub fn joint_at(s: &[u8], at: usize, l: usize) -> Joint
     requires { ⌜ at ≤ length (now s) ⌝ }
     ensures { λ r. ⌜ Joins (now (s .entry)) at l r ⌝ }

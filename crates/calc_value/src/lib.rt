@@ -105,7 +105,7 @@ fn operand(s: &[u8], vs: &[f64; 21], at: usize) -> Parsed
     }
 }
 
-// The value of a whole text, the letters having the values vs. calc calls it with an array of 21.
+// The value of a whole text, the letters having the values vs. calc and calc_truth call it with an array of 21.
 pub fn compute(s: &[u8], vs: &[f64; 21]) -> Computed
     requires { ⌜ length (now vs) ≡ 21 ⌝ }
     ensures { λ r. ⌜ r ≡ computed (map Reading.Value (now (vs .entry))) (tree-of (now (s .entry))) ⌝ }

@@ -120,7 +120,7 @@ fn nested(kinds: &[u8], roles: &mut [u8], o: Opened) -> Cursor
     }
 }
 
-// [ generic_block ]
+// [ generic_block ]. Callers hand on both slices, which load_parse::read cuts to one length.
 pub fn block(kinds: &[u8], roles: &mut [u8], s: Cursor) -> Cursor
     requires { ⌜ length (now roles) ≡ length (now kinds) ⌝ }
     ensures { λ r. ⌜ Reads 0 (perhaps (block inner) ∷ []) (now (kinds .entry)) (now (roles .entry)) s (now (roles .exit)) r ⌝ }
@@ -129,7 +129,7 @@ pub fn block(kinds: &[u8], roles: &mut [u8], s: Cursor) -> Cursor
     nested(kinds, roles, opened)
 }
 
-// [ generic_block ] or generic_list_block, behind an unknown item.
+// [ generic_block ] or generic_list_block, behind an unknown item. Callers hand on both slices, which load_parse::read cuts to one length.
 pub fn top_block(kinds: &[u8], roles: &mut [u8], s: Cursor) -> Cursor
     requires { ⌜ length (now roles) ≡ length (now kinds) ⌝ }
     ensures { λ r. ⌜ Reads 0 (perhaps (block top) ∷ []) (now (kinds .entry)) (now (roles .entry)) s (now (roles .exit)) r ⌝ }

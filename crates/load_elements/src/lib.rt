@@ -40,7 +40,7 @@ pub fn kind_at(kinds: &[u8], s: Cursor) -> u8
     }
 }
 
-// A token of this kind, which gets this role.
+// A token of this kind, which gets this role. Callers hand on both slices, which load_parse::read cuts to one length.
 pub fn expect(kinds: &[u8], roles: &mut [u8], s: Cursor, kind: u8, role: u8) -> Cursor
     requires { ⌜ (length (now roles) ≡ length (now kinds)) × (kind < 14) ⌝ }
     ensures { λ r. ⌜ Reads 1 (expected kind role ∷ []) (now (kinds .entry)) (now (roles .entry)) s (now (roles .exit)) r ⌝ }
@@ -82,7 +82,7 @@ fn list_rest(kinds: &[u8], roles: &mut [u8], s: Cursor, close: u8) -> Cursor
     expect(kinds, roles, at, close, NO_ROLE)
 }
 
-// What follows "(" in a generic_head.
+// What follows "(" in a generic_head. Callers hand on both slices, which load_parse::read cuts to one length.
 pub fn arguments(kinds: &[u8], roles: &mut [u8], s: Cursor) -> Cursor
     requires { ⌜ length (now roles) ≡ length (now kinds) ⌝ }
     ensures { λ r. ⌜ Reads 1 (once arguments ∷ []) (now (kinds .entry)) (now (roles .entry)) s (now (roles .exit)) r ⌝ }
@@ -94,7 +94,7 @@ pub fn arguments(kinds: &[u8], roles: &mut [u8], s: Cursor) -> Cursor
     list_rest(kinds, roles, at, CLOSE_PAREN)
 }
 
-// generic_head
+// generic_head. Callers hand on both slices, which load_parse::read cuts to one length.
 pub fn head(kinds: &[u8], roles: &mut [u8], s: Cursor) -> Cursor
     requires { ⌜ length (now roles) ≡ length (now kinds) ⌝ }
     ensures { λ r. ⌜ Reads 1 (headed []) (now (kinds .entry)) (now (roles .entry)) s (now (roles .exit)) r ⌝ }
@@ -103,7 +103,7 @@ pub fn head(kinds: &[u8], roles: &mut [u8], s: Cursor) -> Cursor
     arguments(kinds, roles, at)
 }
 
-// generic_list and "}".
+// generic_list and "}". Callers hand on both slices, which load_parse::read cuts to one length.
 pub fn list(kinds: &[u8], roles: &mut [u8], s: Cursor) -> Cursor
     requires { ⌜ length (now roles) ≡ length (now kinds) ⌝ }
     ensures { λ r. ⌜ Reads 1 (once element ∷ more-until kind.CloseBrace) (now (kinds .entry)) (now (roles .entry)) s (now (roles .exit)) r ⌝ }
@@ -112,7 +112,7 @@ pub fn list(kinds: &[u8], roles: &mut [u8], s: Cursor) -> Cursor
     list_rest(kinds, roles, at, CLOSE_BRACE)
 }
 
-// The second half of a generic_list_block, which need not come.
+// The second half of a generic_list_block, which need not come. Callers hand on both slices, which load_parse::read cuts to one length.
 pub fn second_block(kinds: &[u8], roles: &mut [u8], s: Cursor) -> Cursor
     requires { ⌜ length (now roles) ≡ length (now kinds) ⌝ }
     ensures { λ r. ⌜ Reads 0 (perhaps second-block ∷ []) (now (kinds .entry)) (now (roles .entry)) s (now (roles .exit)) r ⌝ }

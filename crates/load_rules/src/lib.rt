@@ -142,7 +142,7 @@ fn rule_block(kinds: &[u8], roles: &mut [u8], s: Cursor) -> Cursor
     expect(kinds, roles, at, CLOSE_BRACE, NO_ROLE)
 }
 
-// A rule.
+// A rule. Callers hand on both slices, which load_parse::read cuts to one length.
 pub fn rule(kinds: &[u8], roles: &mut [u8], s: Cursor) -> Cursor
     requires { ⌜ length (now roles) ≡ length (now kinds) ⌝ }
     ensures { λ r. ⌜ Reads 1 (rule-head ++ (perhaps rule-block ∷ [])) (now (kinds .entry)) (now (roles .entry)) s (now (roles .exit)) r ⌝ }

@@ -19,6 +19,7 @@ pub fn text<'a>(s: &'a [u8], starts: &[u16], ends: &[u16], i: usize) -> &'a [u8]
     &s[a..e]
 }
 
+// How long it is. Callers know, as of text, that it stands in the file.
 pub fn long(s: &[u8], starts: &[u16], ends: &[u16], i: usize) -> usize
     requires { ⌜ Span-fits (now s) (now starts) (now ends) i ⌝ }
     ensures { λ r. ⌜ r ≡ length (text-at (now (s .entry)) (now (starts .entry)) (now (ends .entry)) i) ⌝ }
@@ -29,7 +30,7 @@ pub fn long(s: &[u8], starts: &[u16], ends: &[u16], i: usize) -> usize
 
 const LETTER_A: usize = 65; // b'A'
 
-// The letter of an INP word, A being 0.
+// The letter of an INP word, A being 0. Callers know, as of text, that the word stands in the file.
 pub fn letter(s: &[u8], starts: &[u16], ends: &[u16], i: usize) -> usize
     requires { ⌜ Span-fits (now s) (now starts) (now ends) i ⌝ }
     ensures { λ r. ⌜ r ≡ link-letter (text-at (now (s .entry)) (now (starts .entry)) (now (ends .entry)) i) ⌝ }
@@ -55,7 +56,7 @@ fn same_text(s: &[u8], starts: &[u16], ends: &[u16], i: usize, j: usize) -> bool
     byte_compare::equal(text(s, starts, ends, i), text(s, starts, ends, j))
 }
 
-// How many of some tokens stand before the first that has a token's text.
+// How many of some tokens stand before the first that has a token's text. Callers have these tokens from collect, and know the rest as of text.
 pub fn position(s: &[u8], starts: &[u16], ends: &[u16], names: &[u16], i: usize) -> usize
     requires { ⌜ Span-fits (now s) (now starts) (now ends) i × Listed-spans-fit (now s) (now starts) (now ends) (now names) ⌝ }
     ensures { λ r. ⌜
@@ -83,7 +84,8 @@ fn keep(names: &mut [u16], k: usize, i: usize)
     }
 }
 
-// The tokens of a role, as many as there is room for, and how many they are.
+// The tokens of a role, as many as there is room for, and how many they are. The callers, load_store and load_warnings, have n tokens from load_judge, whose
+// text is not too long.
 pub fn collect(roles: &[u8], n: usize, q: u8, names: &mut [u16]) -> usize
     requires { ⌜ (n ≤ length (now roles)) × (n ≤ 16384) ⌝ }
     ensures { λ r. ⌜ Listed (now (names .entry)) (now (names .exit)) q (now (roles .entry)) n r ⌝ }

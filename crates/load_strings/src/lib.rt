@@ -18,7 +18,7 @@ ghost use Rattle.load_tokens.specs.Arrays.{role-of-number};
 ghost use Rattle.load_elements.specs.Reads.{expected, Reads};
 ghost use Rattle.load_strings.specs.Enclosed.{enclosed};
 
-// A word that says this, and "(" STRING ")".
+// A word that says this, and "(" STRING ")". Callers hand on both slices, which load_parse::read cuts to one length. The kind is a constant.
 pub fn named(kinds: &[u8], roles: &mut [u8], s: Cursor, word: u8, says: u8, role: u8) -> Cursor
     requires { ⌜ (length (now roles) ≡ length (now kinds)) × (word < 14) ⌝ }
     ensures { λ r. ⌜ Reads 1 (expected word says ∷ named (role-of-number role) []) (now (kinds .entry)) (now (roles .entry)) s (now (roles .exit)) r ⌝ }
@@ -42,7 +42,7 @@ fn strings(kinds: &[u8], roles: &mut [u8], s: Cursor, role: u8) -> Cursor
     at
 }
 
-// The same between two tokens.
+// The same between two tokens. Callers hand on both slices, which load_parse::read cuts to one length. The kinds are constants.
 pub fn strings_in(
     kinds: &[u8],
     roles: &mut [u8],

@@ -15,6 +15,7 @@ use spec_rule::Access;
 
 // ---- bytes and numbers
 
+// A text. Callers begin at 0 or behind another text, which ends within.
 pub fn put(text: &[u8], out: &mut [u8], at: usize) -> usize
     requires { ⌜ at ≤ length (now out) ⌝ }
     ensures { λ r. ⌜ Put (now (text .entry)) (now (out .entry)) at (now (out .exit)) r ⌝ }
@@ -65,7 +66,7 @@ fn put_trap(trap: bool, out: &mut [u8], at: usize) -> usize
     put(b" NOTRAPWRITE", out, at)
 }
 
-// What is printed for an answer.
+// What is printed for an answer. Callers begin at 0 or behind another text, which ends within.
 pub fn answer_text(a: Answer, out: &mut [u8], at: usize) -> usize
     requires { ⌜ at ≤ length (now out) ⌝ }
     ensures { λ r. ⌜ Put (answer-text a) (now (out .entry)) at (now (out .exit)) r ⌝ }
@@ -81,7 +82,7 @@ pub fn answer_text(a: Answer, out: &mut [u8], at: usize) -> usize
     }
 }
 
-// For a line that is refused.
+// For a line that is refused. Callers begin at 0 or behind another text, which ends within.
 pub fn refused_text(out: &mut [u8], at: usize) -> usize
     requires { ⌜ at ≤ length (now out) ⌝ }
     ensures { λ r. ⌜ Put refused-line (now (out .entry)) at (now (out .exit)) r ⌝ }
@@ -128,6 +129,7 @@ pub fn refusal_line(k: Refusal, p: usize, out: &mut [u8]) -> usize
     put(b"\n", out, end)
 }
 
+// For a warning. Callers begin at 0 or behind another text, which ends within.
 pub fn warning_line(n: usize, p: usize, out: &mut [u8], at: usize) -> usize
     requires { ⌜ at ≤ length (now out) ⌝ }
     ensures { λ r. ⌜ Put (warning-line n p) (now (out .entry)) at (now (out .exit)) r ⌝ }

@@ -77,7 +77,7 @@ fn count(table: &[u8], s: Section) -> usize
     table_fields::count(table, order_of(s))
 }
 
-// The j-th word of the i-th record of a section. Inner: ask and ask_rule call it, with a record that a search or a run gave them.
+// The j-th word of the i-th record of a section. Inner: ask, ask_checked and ask_rule call it, with a record that a search or a run gave them.
 pub fn field(table: &[u8], s: Section, i: usize, j: usize) -> usize
     requires { ⌜ Stored (now table) (section s) i × (j < width (section s)) ⌝ }
     ensures { λ r. ⌜ Word (word-of (now (table .entry)) (section s) i j) r ⌝ }
@@ -85,7 +85,7 @@ pub fn field(table: &[u8], s: Section, i: usize, j: usize) -> usize
     table_fields::field(table, order_of(s), i, j)
 }
 
-// The part of a table that a record's name is. Inner: ask and ask_rule call it, with a record that a search or a run gave them.
+// The part of a table that a record's name is. Inner: ask, ask_checked and ask_rule call it, with a record that a search or a run gave them.
 pub fn name_of(table: &[u8], s: Section, i: usize) -> &[u8]
     requires { ⌜ Stored (now table) (section s) i ⌝ }
     ensures { λ r. ⌜ now r ≡ name (view (now (table .entry))) (section s) (row (view (now (table .entry))) (section s) i) ⌝ }
@@ -113,7 +113,7 @@ fn first_named(table: &[u8], group: &[u8]) -> Index
     Index::Missing
 }
 
-// The access group that answers for a name. Inner: ask calls it, of a checked table.
+// The access group that answers for a name. Inner: ask_checked calls it, of a checked table.
 pub fn answering_group(table: &[u8], group: &[u8]) -> Index
     requires { ⌜ is-table (now table) ≡ true ⌝ }
     ensures { λ r. ⌜ Finds-answering (now (table .entry)) (now (group .entry)) r ⌝ }
@@ -127,7 +127,7 @@ pub fn answering_group(table: &[u8], group: &[u8]) -> Index
     }
 }
 
-// The first input of an access group that has the letter. Inner: ask calls it, with the answering group.
+// The first input of an access group that has the letter. Inner: ask_checked calls it, with the answering group.
 pub fn first_input(table: &[u8], group: usize, letter: usize) -> Index
     requires { ⌜ Stored (now table) access-groups group ⌝ }
     ensures { λ r. ⌜ Finds-input (now (table .entry)) group letter r ⌝ }
