@@ -21,11 +21,15 @@ use Rattle.spec_decision.specs.declared.Answer.the-variants.{Answered, N
 abbrev pub not-table-number : ℕ
 not-table-number = 20
 
+-- 01: 21 "level neither 0 nor 1"
+abbrev pub bad-level-number : ℕ
+bad-level-number = 21
+
 -- 01's number of a refusal
 abbrev pub number : Answer → Option ℕ
 number (Answered d) = none
 number NotTable = some not-table-number
-number BadLevel = some 21
+number BadLevel = some bad-level-number
 
 -- the access of an answer. 20, 21: "NONE, no trap"
 abbrev pub access-in : Answer → Access

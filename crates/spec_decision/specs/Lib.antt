@@ -1,4 +1,5 @@
 pub mod Decision
 pub mod LookUp
+pub mod Groups
 pub mod Privilege
 pub mod laws

@@ -20,11 +20,15 @@ use Rattle.spec_decision.specs.Decision.{not-table-number}
 use Rattle.spec_decision.specs.declared.Found.{Found}
 use Rattle.spec_decision.specs.declared.Found.the-variants.{Part, NotTable, NoInput}
 
+-- 01: 22 "no such input in the group"
+abbrev pub no-input-number : ℕ
+no-input-number = 22
+
 -- 01's number of a refusal
 abbrev pub number : Found → Option ℕ
 number (Part at length) = none
 number NotTable = some not-table-number
-number NoInput = some 22
+number NoInput = some no-input-number
 
 -- the part of the table that it is. 20, 22: "the empty part"
 abbrev pub part-in : Found → List ℕ → List ℕ

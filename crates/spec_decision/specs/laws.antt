@@ -1,3 +1,4 @@
+pub mod Groups
 pub mod LookUp
 pub mod Privilege
 pub mod Refused

@@ -9,3 +9,4 @@ pub mod Sums
 pub mod Words
 pub mod Range
 pub mod Front
+pub mod Sets

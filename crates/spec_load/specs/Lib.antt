@@ -1,2 +1,3 @@
 pub mod Load
 pub mod Listing
+pub mod laws

@@ -1,5 +1,5 @@
 -- A load: what it answers and what it leaves in the lent bytes. 01, "Load refusals, in their order".
-use mathlib.Core.Bool.{cond}
+use mathlib.Core.Bool.{Bool, true, false, cond}
 use mathlib.Core.List.{List, _++_}
 use Prim.Native.Nat.{ℕ}
 use lib.Dec.{leb}
@@ -12,6 +12,10 @@ use Rattle.spec_file.specs.Load.{Verdict, refuse, accept, verdict}
 use Rattle.spec_table.specs.Written.{table-of}
 use Rattle.spec_load.specs.declared.Loaded.{Loaded}
 use Rattle.spec_load.specs.declared.Loaded.the-variants.{Accepted, Refused}
+
+abbrev pub is-accepted : Loaded → Bool
+is-accepted (Accepted n w) = true
+is-accepted (Refused r p) = false
 
 -- the answer, and the lent bytes afterwards
 pub record Result : Type 0 where

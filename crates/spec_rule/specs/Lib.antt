@@ -2,5 +2,6 @@ pub mod Question
 pub mod Rule
 pub mod Answering
 pub mod Decision
+pub mod Kept
 pub mod Privilege
 pub mod laws

@@ -59,6 +59,13 @@ asks r q =
 abbrev pub passes : Question → Rule → Bool
 passes q r = not (r .switched-off) && asks r q
 
+-- what a rule asks that does not depend on readings: "it isn't switched off, the field's level is at most the rule's, the user is a member of one of its
+-- UAGs (or it names none), the host likewise". It passes exactly if it stands and its calculation is true (laws/Passing.antt: passes-stands).
+abbrev pub stands : Question → Rule → Bool
+stands q r =
+    not (r .switched-off)
+    && (leb (q .level) (r .level) && (belongs (same (q .user)) (r .uags) && belongs (same (lowered (q .host))) (r .hags)))
+
 abbrev pub greater : Access → Access → Access
 greater a b = cond (leb (rank a) (rank b)) b a
 

@@ -4,13 +4,12 @@ use mathlib.Core.Bool.{Bool, true, false, cond}
 use mathlib.Core.List.{List, []}
 use mathlib.Core.Logic.{_↔_, _⊎_, inl, inr}
 use mathlib.Core.Option.{Option, none, some}
-use Prim.Native.Nat.{ℕ, zero, suc, _<_}
+use Prim.Native.Nat.{ℕ, _<_}
 use native.Mathlib.Omega.{arith}
 use lib.Dec.{eqb, leb}
-use lib.ListN.{drop}
 use borrow.Author.Tests.{leb-true, leb-false, lt-leb, ne-eqb}
-use Rattle.spec_lists.specs.Every.{Every, nil, cons}
-use Rattle.spec_lists.specs.laws.Every.{every-implies, every-take, none-first}
+use Rattle.spec_lists.specs.Every.{Every}
+use Rattle.spec_lists.specs.laws.Every.{every-implies, every-take, every-drop, none-first}
 use Rattle.spec_token.specs.Word.{greatest-letter}
 use Rattle.spec_rule.specs.declared.Decision.{Decision}
 use Rattle.spec_rule.specs.Question.{Question}
@@ -89,11 +88,6 @@ bad-level-is b q = (λ e. sound (is-table b) refl e, λ h. rw (table-is b .1 (h 
     sound false t e = let z : _≡_ {A = ℕ} 0 1 = cc in absurd (omega arith)
 
 -- ---- the look-up of a letter
-
-every-drop : {A : Type 0} {P : A → Type 0} (n : ℕ) {xs : List A} → Every P xs → Every P (drop n xs)
-every-drop zero e = e
-every-drop (suc n) nil = nil
-every-drop (suc n) (cons h e) = every-drop n e
 
 -- 22: "letter over 20"
 pub letter-over : (b : List ℕ) → Table b → (g : List ℕ) (letter : ℕ) → greatest-letter < letter → look-up b g letter ≡ found.NoInput

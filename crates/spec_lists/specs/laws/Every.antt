@@ -4,7 +4,7 @@ use mathlib.Core.Bool.{Bool, true, false, false≢true}
 use mathlib.Core.List.{List, [], _∷_, _++_, map}
 use mathlib.Core.Option.{none, some}
 use Prim.Native.Nat.{ℕ, zero, suc}
-use lib.ListN.{take, getD}
+use lib.ListN.{take, drop, getD}
 use Rattle.spec_lists.specs.Select.{all, select, prepend-if, first, first-if, run, keep-if, joined}
 use Rattle.spec_lists.specs.Every.{Every, nil, cons, First}
 
@@ -25,6 +25,11 @@ module _ {A : Type 0} where
   every-take zero e = nil
   every-take (suc n) nil = nil
   every-take (suc n) (cons p c) = cons p (every-take n c)
+
+  pub every-drop : {P : A → Type 0} (n : ℕ) {xs : List A} → Every P xs → Every P (drop n xs)
+  every-drop zero e = e
+  every-drop (suc n) nil = nil
+  every-drop (suc n) (cons p c) = every-drop n c
 
   pub every-select : {P : A → Type 0} (p : A → Bool) {xs : List A} → Every P xs → Every P (select p xs)
   every-select p nil = nil

@@ -51,10 +51,44 @@ then-associative u v w = go (u .access) (v .access) (w .access)
 pub no-access-then : (v : Decision) → then no-access v ≡ v
 no-access-then v = three (λ a. then no-access (with-trap a (v .trap)) ≡ with-trap a (v .trap)) refl refl refl (v .access)
 
+-- ---- a decision, then what a rule gives that passes
+
+pub granted-alone : (r : Rule) → then (granted r) no-access ≡ granted r
+granted-alone r = three (λ a. then (grant a (r .trap)) no-access ≡ grant a (r .trap)) refl refl refl (r .permission)
+
+module _ (v : Decision) (r : Rule) where
+  pub then-no-greater : leb (rank (r .permission)) (rank (v .access)) ≡ true → then v (granted r) ≡ then v no-access
+  then-no-greater = go (v .access) (r .permission)
+    where
+      adds : Access → Access → Type 0
+      adds a p = leb (rank p) (rank a) ≡ true → then (with-trap a (v .trap)) (grant p (r .trap)) ≡ then (with-trap a (v .trap)) no-access
+
+      go : (a p : Access) → adds a p
+      go =
+          three
+          (λ a. (p : Access) → adds a p)
+          (three (adds access.None) (λ h. refl) (λ h. absurd (false≢true h)) (λ h. absurd (false≢true h)))
+          (three (adds access.Read) (λ h. refl) (λ h. refl) (λ h. absurd (false≢true h)))
+          (three (adds access.Write) (λ h. refl) (λ h. refl) (λ h. refl))
+
+  pub then-greater : leb (rank (r .permission)) (rank (v .access)) ≡ false → then v (granted r) ≡ granted r
+  then-greater = go (v .access) (r .permission)
+    where
+      takes : Access → Access → Type 0
+      takes a p = leb (rank p) (rank a) ≡ false → then (with-trap a (v .trap)) (grant p (r .trap)) ≡ grant p (r .trap)
+
+      go : (a p : Access) → takes a p
+      go =
+          three
+          (λ a. (p : Access) → takes a p)
+          (three (takes access.None) (λ h. refl) (λ h. refl) (λ h. refl))
+          (three (takes access.Read) (λ h. absurd (false≢true (sym h))) (λ h. absurd (false≢true (sym h))) (λ h. refl))
+          (three (takes access.Write) (λ h. absurd (false≢true (sym h))) (λ h. absurd (false≢true (sym h))) (λ h. absurd (false≢true (sym h))))
+
 -- ---- what lists of rules give
 
 module _ (q : Question) where
-  decision-first : (r : Rule) (rs : List Rule) → decision-by q (r ∷ rs) ≡ then (by-rule q r) (decision-by q rs)
+  pub decision-first : (r : Rule) (rs : List Rule) → decision-by q (r ∷ rs) ≡ then (by-rule q r) (decision-by q rs)
   decision-first r rs = go (passes q r)
     where
       trap : (w : Bool) (o : Option Rule) → trap-of (first-if w r o) ≡ cond w (cond w (r .trap) false) (trap-of o)
@@ -91,11 +125,8 @@ module _ (q : Question) where
   decision-one : (r : Rule) → decision-by q (r ∷ []) ≡ by-rule q r
   decision-one r = decision-first r [] ∙ go (passes q r)
     where
-      full : (t : Bool) (a : Access) → then (grant a t) no-access ≡ grant a t
-      full t = three (λ a. then (grant a t) no-access ≡ grant a t) refl refl refl
-
       go : (b : Bool) → then (cond b (granted r) no-access) no-access ≡ cond b (granted r) no-access
-      go true = full (r .trap) (r .permission)
+      go true = granted-alone r
       go false = refl
 
   pub decision-more : (xs : List Rule) (r : Rule) → decision-by q (xs ++ (r ∷ [])) ≡ then (decision-by q xs) (by-rule q r)
@@ -112,36 +143,12 @@ module _ (q : Question) where
     pub gives-no-more : leb (rank (r .permission)) (rank (v .access)) ≡ true → v ≡ decision-by q (xs ++ (r ∷ []))
     gives-no-more l = sym (more ∙ go (passes q r))
       where
-        adds : Access → Access → Type 0
-        adds a p =
-            leb (rank p) (rank a) ≡ true → then (with-trap a (v .trap)) (grant p (r .trap)) ≡ then (with-trap a (v .trap)) no-access
-
-        no-more : (a p : Access) → adds a p
-        no-more =
-            three
-            (λ a. (p : Access) → adds a p)
-            (three (adds access.None) (λ h. refl) (λ h. absurd (false≢true h)) (λ h. absurd (false≢true h)))
-            (three (adds access.Read) (λ h. refl) (λ h. refl) (λ h. absurd (false≢true h)))
-            (three (adds access.Write) (λ h. refl) (λ h. refl) (λ h. refl))
-
         go : (b : Bool) → then v (cond b (granted r) no-access) ≡ v
-        go true = no-more (v .access) (r .permission) l ∙ alone
+        go true = then-no-greater v r l ∙ alone
         go false = alone
 
     pub gives-more : leb (rank (r .permission)) (rank (v .access)) ≡ false → passes q r ≡ true → granted r ≡ decision-by q (xs ++ (r ∷ []))
-    gives-more l p = sym (more ∙ ap (λ (b : Bool). then v (cond b (granted r) no-access)) p ∙ replaced (v .access) (r .permission) l)
-      where
-        takes : Access → Access → Type 0
-        takes a p =
-            leb (rank p) (rank a) ≡ false → then (with-trap a (v .trap)) (grant p (r .trap)) ≡ grant p (r .trap)
-
-        replaced : (a p : Access) → takes a p
-        replaced =
-            three
-            (λ a. (p : Access) → takes a p)
-            (three (takes access.None) (λ h. refl) (λ h. refl) (λ h. refl))
-            (three (takes access.Read) (λ h. absurd (false≢true (sym h))) (λ h. absurd (false≢true (sym h))) (λ h. refl))
-            (three (takes access.Write) (λ h. absurd (false≢true (sym h))) (λ h. absurd (false≢true (sym h))) (λ h. absurd (false≢true (sym h))))
+    gives-more l p = sym (more ∙ ap (λ (b : Bool). then v (cond b (granted r) no-access)) p ∙ then-greater v r l)
 
     pub gives-nothing : passes q r ≡ false → v ≡ decision-by q (xs ++ (r ∷ []))
     gives-nothing p = sym (more ∙ ap (λ (b : Bool). then v (cond b (granted r) no-access)) p ∙ alone)

@@ -1,17 +1,22 @@
--- When a rule passes, test by test.
-use mathlib.Core.Path.{_≡_, refl, ap, _∙_}
+-- When a rule stands, test by test; it passes exactly if it stands and its calculation is true.
+use mathlib.Core.Path.{_≡_, refl}
 use mathlib.Core.Bool.{Bool, true, false, not, _&&_}
-use mathlib.Core.List.{List}
-use Prim.Native.Nat.{ℕ, _≤_, _<_}
+use Prim.Native.Nat.{_≤_, _<_}
 use lib.Dec.{leb}
 use borrow.Author.Tests.{le-leb, lt-leb}
 use Rattle.spec_lists.specs.Text.{same, lowered}
 use Rattle.spec_rule.specs.Question.{Question}
-use Rattle.spec_rule.specs.Rule.{Rule, belongs, calculation-holds, asks, passes}
+use Rattle.spec_rule.specs.Rule.{Rule, belongs, calculation-holds, passes, stands}
 
 under : (a b : Bool) → b ≡ false → a && b ≡ false
 under true b e = e
 under false b e = refl
+
+regrouped : (a b c d e : Bool) → a && (b && (c && (d && e))) ≡ (a && (b && (c && d))) && e
+regrouped false b c d e = refl
+regrouped true false c d e = refl
+regrouped true true false d e = refl
+regrouped true true true d e = refl
 
 module _ (q : Question) (r : Rule) where
   abbrev level-test : Bool
@@ -23,21 +28,18 @@ module _ (q : Question) (r : Rule) where
   abbrev host-test : Bool
   host-test = belongs (same (lowered (q .host))) (r .hags)
 
-  abbrev last-test : Bool
-  last-test = calculation-holds (q .readings) (r .calculation)
-
-  pub fails-off : r .switched-off ≡ true → passes q r ≡ false
+  pub fails-off : r .switched-off ≡ true → stands q r ≡ false
   fails-off e = rw e
 
-  pub fails-level : r .level < q .level → passes q r ≡ false
-  fails-level l = under (not (r .switched-off)) (asks r q) (rw (lt-leb (q .level) (r .level) l))
+  pub fails-level : r .level < q .level → stands q r ≡ false
+  fails-level l = under (not (r .switched-off)) (level-test && (user-test && host-test)) (rw (lt-leb (q .level) (r .level) l))
 
-  pub fails-user : user-test ≡ false → passes q r ≡ false
-  fails-user e = under (not (r .switched-off)) (asks r q) (under level-test (user-test && (host-test && last-test)) (rw e))
+  pub fails-user : user-test ≡ false → stands q r ≡ false
+  fails-user e = under (not (r .switched-off)) (level-test && (user-test && host-test)) (under level-test (user-test && host-test) (rw e))
 
-  pub fails-host : host-test ≡ false → passes q r ≡ false
-  fails-host e =
-      under (not (r .switched-off)) (asks r q) (under level-test (user-test && (host-test && last-test)) (under user-test (host-test && last-test) (rw e)))
+  -- the last test decides once the others hold
+  pub stands-by : r .switched-off ≡ false → q .level ≤ r .level → user-test ≡ true → stands q r ≡ host-test
+  stands-by o l u = rw (o, le-leb (q .level) (r .level) l, u)
 
-  pub passes-by : r .switched-off ≡ false → q .level ≤ r .level → user-test ≡ true → host-test ≡ true → passes q r ≡ last-test
-  passes-by o l u h = rw (o, le-leb (q .level) (r .level) l, u, h)
+  pub passes-stands : passes q r ≡ stands q r && calculation-holds (q .readings) (r .calculation)
+  passes-stands = regrouped (not (r .switched-off)) level-test user-test host-test (calculation-holds (q .readings) (r .calculation))

@@ -279,7 +279,7 @@ module _ (q : Question) where
 -- ---- the group that answers
 
 module _ {G : Type 0} (name : G → List ℕ) where
-  named-is : (n : List ℕ) (g : G) → (same (name g) n ≡ true) ↔ (name g ≡ n)
+  pub named-is : (n : List ℕ) (g : G) → (same (name g) n ≡ true) ↔ (name g ≡ n)
   named-is n g = (λ e. sym (same-sound (name g) n e), λ e. rw e (same-self n))
 
   module _ (gs : List G) where

@@ -1,13 +1,13 @@
 -- Walking a list by index: what is left of it is what is to do.
 use mathlib.Core.Path.{_≡_, refl, sym, ap, _∙_}
 use mathlib.Core.Bool.{Bool, true, false, _||_}
-use mathlib.Core.List.{List, [], _∷_, _++_, map, append-nil}
+use mathlib.Core.List.{List, [], _∷_, _++_, map, append-nil, append-assoc}
 use mathlib.Core.Option.{Option, none, some}
-use Prim.Native.Nat.{ℕ, _+_, _≤_, _<_}
+use Prim.Native.Nat.{ℕ, suc, _+_, _≤_, _<_}
 use native.Mathlib.Omega.{arith}
 use native.Mathlib.Numerals.{add-one}
-use lib.ListN.{length, take, drop, getD, length-take, length-drop, drop-of-length-le, take-append-drop}
-use lib.Seq.{drop-cons, getD-take, getD-drop, take-add}
+use lib.ListN.{length, take, drop, set, getD, length-take, length-drop, drop-of-length-le, take-append-drop}
+use lib.Seq.{drop-cons, getD-take, getD-drop, take-add, take-at, drop-at, sets, sets-eq}
 use Rattle.spec_lists.specs.Select.{any, first}
 use Rattle.spec_lists.specs.Runs.{Run, part}
 use Rattle.spec_lists.specs.laws.Joined.{map-drop}
@@ -49,18 +49,33 @@ module _ {A : Type 0} where
   pub first-on : (p : A → Bool) {x : A} {xs ys : List A} → xs ≡ x ∷ ys → p x ≡ true → first p xs ≡ some x
   first-on p e f = ap (first p) e ∙ rw f
 
+  -- one more store of a run of stores
+  pub sets-on : {w : A} {ws vs : List A} (l : List A) (j : ℕ) {k : ℕ} → suc j ≡ k → vs ≡ w ∷ ws → sets l j vs ≡ sets (set l j w) k ws
+  sets-on {w} {ws} l j n e = ap (sets l j) e ∙ ap (λ (m : ℕ). sets (set l j w) m ws) n
+
+  -- a part that a run of stores has written
+  pub part-sets : (vs l : List A) (at : ℕ) → at + length vs ≤ length l → part (record { first = at; count = length vs }) (sets l at vs) ≡ vs
+  part-sets vs l at h =
+      let n : length (take at l) ≡ at = omega (arith, length-take at l) in
+      ap (λ (x : List A). take (length vs) (drop at x)) (sets-eq vs l at h ∙ append-assoc (take at l) vs (drop (at + length vs) l))
+      ∙ ap (take (length vs)) (drop-at (take at l) (vs ++ drop (at + length vs) l) at n)
+      ∙ take-at vs (drop (at + length vs) l) (length vs) refl
+
 module _ {A B : Type 0} (f : A → B) where
-  -- the same of what the elements of a run are read as
+  -- the same of what elements are read as, in a list and in a run
+  pub mapped-on : {x : A} (xs : List A) (k : ℕ) → drop k xs ≡ x ∷ drop (k + 1) xs → drop k (map f xs) ≡ f x ∷ drop (k + 1) (map f xs)
+  mapped-on {x} xs k e = sym (map-drop f k xs) ∙ ap (map f) e ∙ ap (λ (l : List B). f x ∷ l) (map-drop f (k + 1) xs)
+
+  pub mapped-end : (xs : List A) (k : ℕ) → drop k xs ≡ [] → drop k (map f xs) ≡ []
+  mapped-end xs k e = sym (map-drop f k xs) ∙ ap (map f) e
+
   pub read-on :
       (r : Run) (xs : List A) (d : A) (k : ℕ) → r .first + r .count ≤ length xs → k < r .count
       → drop k (map f (part r xs)) ≡ f (getD xs (r .first + k) d) ∷ drop (k + 1) (map f (part r xs))
-  read-on r xs d k h l =
-      sym (map-drop f k (part r xs))
-      ∙ ap (map f) (part-on r xs d k h l)
-      ∙ ap (λ (l : List B). f (getD xs (r .first + k) d) ∷ l) (map-drop f (k + 1) (part r xs))
+  read-on r xs d k h l = mapped-on (part r xs) k (part-on r xs d k h l)
 
   pub read-end : (r : Run) (xs : List A) (k : ℕ) → r .count ≤ k → drop k (map f (part r xs)) ≡ []
-  read-end r xs k l = sym (map-drop f k (part r xs)) ∙ ap (map f) (part-end r xs k l)
+  read-end r xs k l = mapped-end (part r xs) k (part-end r xs k l)
 
   -- what was read so far, and one more; all of it
   pub taken-on :

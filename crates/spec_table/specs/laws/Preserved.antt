@@ -82,7 +82,7 @@ set-flag : (b : Bool) → set-bit (flag b 1) ≡ b
 set-flag true = refl
 set-flag false = refl
 
-permission-rank : (a : Access) → permission (rank a) ≡ a
+pub permission-rank : (a : Access) → permission (rank a) ≡ a
 permission-rank access.None = refl
 permission-rank access.Read = refl
 permission-rank access.Write = refl

@@ -15,8 +15,9 @@ use Rattle.spec_lists.specs.laws.Runs.{Within}
 use Rattle.spec_lists.specs.laws.Both.{both}
 use Rattle.spec_calc.specs.Reader.{tree-of}
 use Rattle.spec_rule.specs.laws.Walk.{part-at, part-count}
-use Rattle.spec_file.specs.Limit.{Section, user-groups, host-groups, members, access-groups, inputs, rules, references, longest-name, longest-calculation}
-use Rattle.spec_table.specs.Layout.{Content}
+use Rattle.spec_file.specs.Limit.{Section, user-groups, host-groups, members, access-groups, inputs, rules, references, most, most-bytes, longest-name}
+use Rattle.spec_file.specs.Limit.{longest-calculation}
+use Rattle.spec_table.specs.Layout.{Content, sections}
 use Rattle.spec_table.specs.View.{view}
 use Rattle.spec_table.specs.Check.{in-turn, sections-stand, counts-fit, runs-stand, names-fit, letters-stand, rule-stands, well-formed, is-table}
 use Rattle.spec_table.specs.Check.{string-fits, named-sections, members-run, inputs-run, rules-run, users-run, hosts-run, calculation-run, name-run}
@@ -64,6 +65,32 @@ module _ (c : Content) (w : well-formed c ≡ true) where
       let y = both (runs-stand c) (names-fit c && (letters-stand c && all (rule-stands c) (c .records rules))) (x .1) in
       let z = both (names-fit c) (letters-stand c && all (rule-stands c) (c .records rules)) (y .1) in
       (y .0, z .0, both (letters-stand c) (all (rule-stands c) (c .records rules)) (z .1) .1)
+
+  -- ---- counts
+
+  abbrev Few : Section → Type 0
+  Few s = length (c .records s) ≤ most s
+
+  few : (n : ℕ) → n < 7 → Few (getD sections n user-groups)
+  few n l =
+      let s = getD sections n user-groups in
+      let p : Section → Bool = λ t. leb (length (c .records t)) (most t) in
+      let x = both (counts-fit c) (runs-stand c && (names-fit c && (letters-stand c && all (rule-stands c) (c .records rules)))) w in
+      let y = both (all p sections) (leb (length (c .strings)) most-bytes) (x .0) in
+      leb-true (length (c .records s)) (most s) (all-at p sections n user-groups (y .0) l)
+
+  pub records-few : (s : Section) → length (c .records s) ≤ most s
+  records-few =
+      each Few
+      (few 0 (omega arith))
+      (few 1 (omega arith))
+      (few 2 (omega arith))
+      (few 3 (omega arith))
+      (few 4 (omega arith))
+      (few 5 (omega arith))
+      (few 6 (omega arith))
+
+  -- ---- rules
 
   rule-at : (i : ℕ) → i < length (c .records rules) → rule-stands c (row c rules i) ≡ true
   rule-at i l = all-at (rule-stands c) (c .records rules) i [] (conditions .2) l

@@ -1,0 +1,4 @@
+pub mod Storage
+pub mod Writing
+pub mod Calls
+pub mod laws

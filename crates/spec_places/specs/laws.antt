@@ -1,0 +1,14 @@
+pub mod Behind
+pub mod Changed
+pub mod Each
+pub mod Fits
+pub mod Follows
+pub mod Frame
+pub mod Numbers
+pub mod Own
+pub mod Readings
+pub mod Records
+pub mod Settled
+pub mod Short
+pub mod Stays
+pub mod Steps

@@ -1,0 +1,1 @@
+// How a register stands in lent storage.

@@ -1,0 +1,9 @@
+pub mod Changed
+pub mod From
+pub mod Input
+pub mod Lowest
+pub mod Places
+pub mod Readings
+pub mod Refused
+pub mod Rights
+pub mod Sized
