@@ -1,6 +1,6 @@
 -- The library's calls, and what each does to the table. 01, "The work, and who decides" and "What the contracts owe".
 use mathlib.Core.Path.{_≡_}
-use mathlib.Core.Bool.{Bool, true, false}
+use mathlib.Core.Bool.{false}
 use mathlib.Core.List.{List, [], _∷_}
 use mathlib.Core.Option.{Option, none, some, Option·map}
 use Prim.Native.Nat.{ℕ}
@@ -13,11 +13,13 @@ use Rattle.spec_load.specs.declared.Loaded.the-variants as loaded
 use Rattle.spec_load.specs.declared.Listed.{Listed}
 use Rattle.spec_load.specs.declared.Listed.the-variants as listed
 use Rattle.spec_load.specs.Load.{load}
+pub use Rattle.spec_load.specs.Load.{is-accepted}
 use Rattle.spec_load.specs.Listing.{listing}
 use Rattle.spec_decision.specs.Decision as question
 use Rattle.spec_decision.specs.LookUp as look-up
 
--- Every call of the library; those of include/hrazvanut.h are among them. What the crate sequence offers are sequences of these.
+-- Every call of the library but a register's, which Register.antt adds; those of include/hrazvanut.h but a register's are among them. What the crate sequence
+-- offers are sequences of these.
 pub data Call : Type 0 where
   -- of a text; of a text and how many of its warnings are skipped
   load-text : List ℕ → Call
@@ -62,10 +64,6 @@ after-calls b [] = b
 after-calls b (c ∷ cs) = after-calls (after-call b c) cs
 
 -- ---- until the next accepted load
-
-abbrev pub is-accepted : Loaded → Bool
-is-accepted (loaded.Accepted n w) = true
-is-accepted (loaded.Refused r p) = false
 
 abbrev pub no-new-table : List ℕ → Option (List ℕ) → Type 0
 no-new-table b none = Unit {0}

@@ -1,27 +1,38 @@
 -- THE FRONT PAGE. Each demand in its words, and one statement for each. What these need to be understood are the definitions
 -- that they name; docs/REVIEW.md says which sentence of the papers each of those states.
-use mathlib.Core.Path.{_≡_}
+use mathlib.Core.Path.{_≡_, refl}
 use mathlib.Core.Bool.{true, false}
 use mathlib.Core.List.{List, [], _++_, map, List·Memᴰ}
 use mathlib.Core.Logic.{_↔_, _⊎_}
-use mathlib.Core.Option.{none, some}
+use mathlib.Core.Option.{Option, none, some}
 use Prim.Native.Nat.{ℕ, _≤_, _<_}
+use lib.Ieee.{Float}
 use lib.ListN.{length, replicate}
+use Rattle.spec_calc.specs.declared.Reading.the-variants.{NeverHeard}
 use Rattle.spec_rule.specs.declared.Access.{Access}
 use Rattle.spec_rule.specs.declared.Access.the-variants as access
 use Rattle.spec_rule.specs.declared.Decision.{Decision}
 use Rattle.spec_load.specs.declared.Loaded.the-variants as loaded
+use Rattle.spec_register.specs.declared.Added.the-variants as added
 use Rattle.spec_load.specs.declared.Listed.the-variants as listed
 use Rattle.spec_decision.specs.declared.Answer.the-variants.{Answered, NotTable, BadLevel}
 use Rattle.spec_decision.specs.declared.Found.{Found}
 use Rattle.spec_decision.specs.declared.Found.the-variants as found
 use Rattle.spec_demand.specs.Vocabulary.{Every, Token, Spelled, Ascending, Stands-in, greatest-letter, Tagged, Reading, Tree, Parses, tree-of, Gone-bad}
-use Rattle.spec_demand.specs.Vocabulary.{Question, reading-instead, rank, greatest-level, Refusal, refusal-number, place, file-of, Context, contexts, Applies}
+use Rattle.spec_demand.specs.Vocabulary.{Question, reading-instead, rank, greatest-level, Refusal}
+use Rattle.spec_demand.specs.Vocabulary.{refusal-number, place, file-of, Context, contexts, Applies}
 use Rattle.spec_demand.specs.Vocabulary.{Text-reads, Caused, Acceptable, Refusable, Warned, warnings, Given, Table, is-table, total-of, view, table-of}
 use Rattle.spec_demand.specs.Vocabulary.{greatest-table, written, without-room, load, warnings-written, listing, look-up, look-up-number, part-in}
 use Rattle.spec_demand.specs.Vocabulary.{number, access-in, trap-in, decide, By-table, By-file, Edition, Later, Says-no, Names-input, Finds-input}
 use Rattle.spec_demand.specs.Vocabulary.{Call, after-call, is-accepted, No-accepted-load, Told, refusal-of, Proved-cases}
 use Rattle.spec_demand.specs.Vocabulary.{Memory, Storage, bytes-in, Step, calls-of, Made, Nobody-else-writes}
+use Rattle.spec_demand.specs.Vocabulary.{no-access, Answers, Numbered, groups-of, group-name, Client, most-clients, client-at, readings-at, Sized}
+use Rattle.spec_demand.specs.Vocabulary.{question-now, Gateway, Register-call, add, change, remove, set-reading, load-again, after}
+use Rattle.spec_demand.specs.Vocabulary.{after-calls, right-at, changed-in, answer, client-added, table-loaded, reloaded-as, refused-with, begun}
+use Rattle.spec_demand.specs.Vocabulary.{Not-refused, Each-done, Free, Lowest-free, Only-place, Spares-client, reading-at, Only-reading, Named, No-load}
+use Rattle.spec_demand.specs.Vocabulary.{Spares-reading, First-applies, add-causes, change-causes, remove-causes, set-causes, bit-of}
+use Rattle.spec_demand.specs.Vocabulary.{Lent, lent, places-bytes, all-readings, zeroed, right-in, left, left-by-calls, told, Agrees, Too-short, on-table}
+use Rattle.spec_demand.specs.Vocabulary.{Never-more-to-clients}
 use Rattle.spec_demand.specs.laws.Cited as proved
 
 -- DEMAND 1. Total: no file, table, name, level or reading makes it index outside, trap or run on. A refusal carries a number, a load's
@@ -40,7 +51,7 @@ pub record Total : Type 0 where
   pub question-refusals : (b : List ℕ) (q : Question) (n : ℕ) → number (decide b q) ≡ some n → (n ≡ 20) ⊎ (n ≡ 21)
   pub look-up-refusals :
       (b g : List ℕ) (letter n : ℕ) → look-up-number (look-up b g letter) ≡ some n → ((n ≡ 20) ⊎ (n ≡ 22)) × (part-in (look-up b g letter) b ≡ [])
-  -- every call of the library, a load among them, if it is refused
+  -- every call of the library but a register's, a load among them, if it is refused; of a register's see register-refused
   pub refused-call : (b : List ℕ) (c : Call) (t : Told) → refusal-of b c ≡ some t → after-call b c ≡ b
   pub refused-question :
       (b : List ℕ) (q : Question) (n : ℕ) → number (decide b q) ≡ some n → (access-in (decide b q) ≡ access.None) × (trap-in (decide b q) ≡ false)
@@ -146,8 +157,8 @@ demand-2 =
 -- whichever readings went bad, through any sequence of calls between; and where the edition says no to every unknown predicate, with the
 -- same readings, access is exactly equal.
 --
--- The load leaves its table in the memory of a program; then come calls, each any of the library's, and none an accepted load. Nobody else writes the
--- table: what a call is lent for writing is apart from it. The question is asked on what stands there now.
+-- The load leaves its table in the memory of a program; then come calls, each any of the library's but a register's (of which see register-on-table), and
+-- none an accepted load. Nobody else writes the table: what a call is lent for writing is apart from it. The question is asked on what stands there now.
 abbrev pub Never-more-access : Type 0
 Never-more-access =
     (lent s : List ℕ) → is-accepted (load lent s .answer) ≡ true
@@ -171,3 +182,139 @@ edition-gives = proved.edition-gives
 -- 01, "Proved and run cases", the list that is proved
 pub cases : Proved-cases
 cases = proved.proved-cases
+
+-- REQUEST 1. A register for the gateway: "add, change and remove a client (group, level, user, host), set one reading of an access group given by name [..],
+-- load again". 02, ticket 1, sentence by sentence:
+-- what holds of a gateway after any calls, and of every further call
+pub record Registered (g : Gateway) : Type 0 where
+  -- "Our gateway holds up to 64 connected clients."
+  pub sizes : Sized (g .register)
+  -- "Adding takes the lowest free place, and a removed place is free."
+  pub added-lowest :
+      (c : Client) → Not-refused g (add c)
+      → (p : ℕ)
+      × (answer g (add c) ≡ client-added (added.At p (changed-in (answer g (add c)))))
+      × Lowest-free (g .register) p
+      × Only-place p (some c) (g .register) (after g (add c) .register)
+  pub removed-only : (p : ℕ) → Not-refused g (remove p) → Only-place p none (g .register) (after g (remove p) .register)
+  -- "changed": given anew, at its place
+  pub changed-only : (p : ℕ) (c : Client) → Not-refused g (change p c) → Only-place p (some c) (g .register) (after g (change p c) .register)
+  -- "each standing client's right and trap flag equal what a question with the answering group's readings would answer now"
+  pub right-answers :
+      (p : ℕ) (c : Client) → client-at (g .register) p ≡ some c → Table (g .table)
+      → decide (g .table) (question-now (g .table) (g .register) c) ≡ Answered (right-at g p)
+  pub answering-readings :
+      (c : Client) (h : Numbered) → Answers (group-name (g .table)) (c .group) (groups-of (g .table)) (some h)
+      → question-now (g .table) (g .register) c .readings ≡ readings-at (g .register) (h .number)
+  -- "Setting one reading changes that one place among its group's 21."
+  pub set-only :
+      (n : List ℕ) (letter : ℕ) (x : Reading) (h : Numbered) → Named (g .table) n h → Not-refused g (set-reading n letter x)
+      → Only-reading (h .number) letter x (g .register) (after g (set-reading n letter x) .register)
+  -- "load again": the table and the answer are those of a load, with the bits
+  pub loads :
+      (s : List ℕ)
+      → (after g (load-again s) .table ≡ load (g .table) s .bytes)
+      × (answer g (load-again s) ≡ table-loaded (reloaded-as (load (g .table) s .answer) (changed-in (answer g (load-again s)))))
+  -- only a load writes the table, and only one that is accepted
+  pub table-stays : (cs : List Register-call) → Each-done No-load g cs → after-calls g cs .table ≡ g .table
+  -- "A good load makes every reading never heard; until then each stays as last set,"
+  pub loaded-unheard :
+      (s : List ℕ) → Not-refused g (load-again s)
+      → ((i letter : ℕ) → reading-at (after g (load-again s) .register) i letter ≡ NeverHeard)
+      × (after g (load-again s) .register .clients ≡ g .register .clients)
+  pub reading-stays :
+      (i letter : ℕ) (x : Reading) → reading-at (g .register) i letter ≡ x
+      → (cs : List Register-call) → Each-done (Spares-reading i letter) g cs → reading-at (after-calls g cs .register) i letter ≡ x
+  -- "and a client stays as last given until changed or removed, whatever other calls are made."
+  pub client-stays :
+      (p : ℕ) (c : Client) → client-at (g .register) p ≡ some c
+      → (cs : List Register-call) → Each-done (Spares-client p) g cs → client-at (after-calls g cs .register) p ≡ some c
+  -- "While the lent bytes are no table, all rights are NONE without trap, as a free place's always is."
+  pub no-table-right : (p : ℕ) → (Table (g .table) → ⊥) → right-at g p ≡ no-access
+  pub free-right : (p : ℕ) → Free (g .register) p → right-at g p ≡ no-access
+  pub beyond-right : (p : ℕ) → most-clients ≤ p → right-at g p ≡ no-access
+  -- "Refusals: 23 a client's name over 60 bytes, then 21, then 24 all 64 places taken; change and remove give 25 for a place with no client, before the
+  -- others; a reading for an undefined access group or a letter without input is 22, after 20."
+  pub add-refused : (o : Option ℕ) (c : Client) → (refused-with (answer g (add c)) ≡ o) ↔ First-applies (add-causes (g .register) c) o
+  pub change-refused : (o : Option ℕ) (p : ℕ) (c : Client) → (refused-with (answer g (change p c)) ≡ o) ↔ First-applies (change-causes (g .register) p c) o
+  pub remove-refused : (o : Option ℕ) (p : ℕ) → (refused-with (answer g (remove p)) ≡ o) ↔ First-applies (remove-causes (g .register) p) o
+  pub set-refused :
+      (o : Option ℕ) (n : List ℕ) (letter : ℕ) (x : Reading)
+      → (refused-with (answer g (set-reading n letter x)) ≡ o) ↔ First-applies (set-causes (g .table) n letter) o
+  pub set-letter-over :
+      Table (g .table) → (n : List ℕ) (letter : ℕ) (x : Reading) → greatest-letter < letter → refused-with (answer g (set-reading n letter x)) ≡ some 22
+  -- 01: "A refused call changes no lent byte and no state"
+  pub refused-leaves : (c : Register-call) (n : ℕ) → refused-with (answer g c) ≡ some n → after g c ≡ g
+  -- each answer's 64 bits: those places whose right changed
+  pub changed-bits :
+      (c : Register-call) (p : ℕ) → p < most-clients → (bit-of p (changed-in (answer g c)) ≡ true) ↔ (right-at g p ≡ right-at (after g c) p → ⊥)
+
+-- "After each call of any sequence from an empty register with every reading never heard, nobody else writing it or the table"
+pub register : (t : List ℕ) (cs : List Register-call) → Registered (after-calls (begun t) cs)
+register t cs =
+    let g = after-calls (begun t) cs in
+    let s = proved.sized t cs in
+    record {
+      sizes = s;
+      added-lowest = λ c. proved.added-lowest g c s;
+      removed-only = proved.removed-only g;
+      changed-only = proved.changed-only g;
+      right-answers = proved.right-answers t cs;
+      answering-readings = proved.answering-readings (g .table) (g .register);
+      set-only = λ n letter x h. proved.set-only g n letter x h s;
+      loads = λ s. (refl, proved.load-answers g s);
+      table-stays = proved.table-stays g;
+      loaded-unheard = proved.loaded-unheard g;
+      reading-stays = proved.reading-stays g;
+      client-stays = proved.client-stays g;
+      no-table-right = proved.no-table-right g;
+      free-right = proved.free-right g;
+      beyond-right = λ p. proved.beyond-right g p s;
+      add-refused = λ o c. proved.add-refused g o s c;
+      change-refused = proved.change-refused g;
+      remove-refused = proved.remove-refused g;
+      set-refused = proved.set-refused g;
+      set-letter-over = proved.set-letter-over g;
+      refused-leaves = proved.refused-leaves-gateway g;
+      changed-bits = proved.answered-is g;
+    }
+
+-- The same of lent storage. What the calls leave there and tell is what their contracts say (left, told), and what the look at a place answers (right-in).
+-- From zeros on, each call made on what the one before it left, so that nobody else writes register or table, the storage is that gateway: its table,
+-- clients and readings, each right, each next answer.
+pub register-stored :
+    (t : List ℕ) (n m : ℕ) (v : List Float) → places-bytes ≤ n → all-readings ≤ m → all-readings ≤ length v
+    → (cs : List Register-call) → Agrees (left-by-calls (zeroed t n m v) cs) (after-calls (begun t) cs)
+register-stored = proved.follows
+
+-- and of any bytes lent for a register and a table: a refused call leaves each of them
+pub register-refused : (s : Lent) (c : Register-call) (n : ℕ) → refused-with (told s c) ≡ some n → left s c ≡ s
+register-refused = proved.refused-leaves
+
+-- of bytes too short for a register: no right, and 34 for each call that needs the slice
+pub register-short-right : (s : Lent) (p : ℕ) → length (s .places) < places-bytes → right-in (s .places) p ≡ no-access
+register-short-right s = proved.short-right (s .places)
+
+pub register-too-short : (s : Lent) (c : Register-call) → (refused-with (told s c) ≡ some 34) ↔ Too-short s c
+register-too-short = proved.too-short
+
+-- A call that is no load goes by the table and not by what stands behind it. So it may be lent the table's own bytes, as the C interface lends them, where the
+-- load was lent more room.
+pub register-behind :
+    (s : List ℕ) (xs : List Tagged) → Acceptable s xs → (rest rest′ places states : List ℕ) (values : List Float)
+    → let one = lent (table-of (file-of xs) ++ rest) places states values in
+    let other = lent (table-of (file-of xs) ++ rest′) places states values in
+    (c : Register-call) → ((text : List ℕ) → c ≡ load-again text → ⊥)
+    → (told one c ≡ told other c)
+    × (left one c .places ≡ left other c .places)
+    × (left one c .states ≡ left other c .states)
+    × (left one c .values ≡ left other c .values)
+register-behind = proved.register-behind
+
+-- A register's calls may come between in demand 3: each leaves of the table what a call of the library does, its load what a load does.
+pub register-on-table : (s : Lent) (c : Register-call) → left s c .table ≡ after-call (s .table) (on-table s c)
+register-on-table = proved.register-on-table
+
+-- "Demand 3 is read for each standing client": from the text to the right that is read from the storage.
+pub demand-3-of-clients : Never-more-to-clients
+demand-3-of-clients = proved.never-more-to-clients

@@ -30,3 +30,16 @@ pub use Rattle.spec_edition.specs.Edition.{Edition, Later, Says-no}
 pub use Rattle.spec_demand.specs.Calls.{Call, after-call, is-accepted, No-accepted-load, Told, refusal-of}
 pub use Rattle.spec_demand.specs.Memory.{Memory, Storage, bytes-in, Step, calls-of, Made, Nobody-else-writes}
 pub use Rattle.spec_demand.specs.Cases.{Proved-cases}
+pub use Rattle.spec_rule.specs.Decision.{no-access}
+pub use Rattle.spec_rule.specs.Privilege.{Answers}
+pub use Rattle.spec_decision.specs.Groups.{Numbered, groups-of, group-name}
+pub use Rattle.spec_register.specs.Register.{Client, most-clients, client-at, readings-at}
+pub use Rattle.spec_register.specs.Right.{question-now}
+pub use Rattle.spec_register.specs.Calls.{Gateway, Call as Register-call, add, change, remove, set-reading, load-again, after, after-calls, right-at}
+pub use Rattle.spec_register.specs.Calls.{answer, client-added, table-loaded, reloaded-as, refusal-of as refused-with}
+pub use Rattle.spec_register.specs.Sentences.{begun, Sized, Not-refused, Each-done, Free}
+pub use Rattle.spec_register.specs.Sentences.{Lowest-free, Only-place, Spares-client, reading-at, Only-reading, Named, No-load}
+pub use Rattle.spec_register.specs.Sentences.{Spares-reading, First-applies, add-causes, change-causes, remove-causes, set-causes, changed-in, bit-of}
+pub use Rattle.spec_places.specs.Storage.{Lent, lent, places-bytes, all-readings, zeroed, right-in}
+pub use Rattle.spec_places.specs.Calls.{left, left-by-calls, told, Agrees, Too-short}
+pub use Rattle.spec_demand.specs.Register.{on-table, Never-more-to-clients}

@@ -9,3 +9,4 @@ pub mod Cited
 pub mod Privilege
 pub mod Refusals
 pub mod Answered
+pub mod Register

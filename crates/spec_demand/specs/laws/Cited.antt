@@ -18,3 +18,12 @@ pub use Rattle.spec_demand.specs.laws.Privilege.{by-file-is, input-is}
 pub use Rattle.spec_demand.specs.laws.Exact.{refused-grants-nothing, zeros-grant-nothing, laid-down, not-laid-down, stands}
 pub use Rattle.spec_demand.specs.laws.Memory.{never-more}
 pub use Rattle.spec_demand.specs.laws.Cases.{proved-cases}
+pub use Rattle.spec_register.specs.laws.Sized.{sized}
+pub use Rattle.spec_register.specs.laws.Rights.{right-answers, answering-readings, free-right, beyond-right, no-table-right}
+pub use Rattle.spec_register.specs.laws.Places.{added-lowest, changed-only, removed-only, client-stays}
+pub use Rattle.spec_register.specs.laws.Readings.{set-only, set-letter-over, loaded-unheard, reading-stays, table-stays}
+pub use Rattle.spec_register.specs.laws.Refused.{add-refused, change-refused, remove-refused, set-refused, refused-call-leaves as refused-leaves-gateway}
+pub use Rattle.spec_register.specs.laws.Changed.{answered-is, load-answers}
+pub use Rattle.spec_places.specs.laws.Follows.{follows, refused-leaves}
+pub use Rattle.spec_places.specs.laws.Short.{short-right, too-short}
+pub use Rattle.spec_demand.specs.laws.Register.{register-on-table, register-behind, never-more-to-clients}

@@ -7,9 +7,10 @@ use Prim.Native.Nat.{ℕ, suc, _+_}
 use native.Mathlib.Omega.{arith}
 use lib.ListN.{length, getD}
 use Rattle.spec_lists.specs.Every.{Every, nil, cons}
+use Rattle.spec_load.specs.laws.Load.{refused-leaves}
 use Rattle.spec_demand.specs.Calls.{Call, load-text, text-loaded, no-new-table, No-accepted-load}
 use Rattle.spec_demand.specs.Memory.{Memory, Storage, Apart, bytes-from, bytes-in, Step, calls-of, Writes-only, leaves, Made, Nobody-else-writes}
-use Rattle.spec_demand.specs.laws.Loaded.{refused-leaves, load-leaves}
+use Rattle.spec_demand.specs.laws.Loaded.{load-leaves}
 
 abbrev pub memory-of : List ℕ → Memory
 memory-of b = λ a. getD b a 0

@@ -24,6 +24,7 @@ use Rattle.spec_table.specs.laws.Theorem.{viewed, is-a-table}
 use Rattle.spec_load.specs.declared.Loaded.{Loaded}
 use Rattle.spec_load.specs.declared.Loaded.the-variants.{Accepted, Refused}
 use Rattle.spec_load.specs.Load.{written, without-room, by-verdict, load}
+use Rattle.spec_load.specs.laws.Load.{refused-leaves}
 use Rattle.spec_decision.specs.Decision.{rules-in, rules-for, decide}
 use Rattle.spec_edition.specs.Machine.{rules-later}
 use Rattle.spec_demand.specs.ByFile.{rules-by-file, answer-by-file}
@@ -52,21 +53,6 @@ stored lent s e = by (verdict s) refl e
     by : (v : Verdict) → verdict s ≡ v → is-accepted (by-verdict lent v .answer) ≡ true → Stored lent s
     by (refuse n p) v h = absurd (false≢true h)
     by (accept xs) v h = room xs (leb (length (table-of (file-of xs))) (length lent)) v refl h
-
--- 01: "A refused call changes no lent byte"
-pub refused-leaves : (lent s : List ℕ) → is-accepted (load lent s .answer) ≡ false → load lent s .bytes ≡ lent
-unfolding load
-refused-leaves lent s e = by (verdict s) e
-  where
-    room :
-        (xs : List Tagged) (b : Bool) → is-accepted (cond b (written lent xs) (without-room lent xs) .answer) ≡ false
-        → cond b (written lent xs) (without-room lent xs) .bytes ≡ lent
-    room xs true h = absurd (false≢true (sym h))
-    room xs false h = refl
-
-    by : (v : Verdict) → is-accepted (by-verdict lent v .answer) ≡ false → by-verdict lent v .bytes ≡ lent
-    by (refuse n p) h = refl
-    by (accept xs) h = room xs (leb (length (table-of (file-of xs))) (length lent)) h
 
 -- no call but an accepted load changes a byte
 pub load-leaves : (b : List ℕ) (o : Option (List ℕ)) → no-new-table b o → after-load b o ≡ b
