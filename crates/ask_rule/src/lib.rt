@@ -3,18 +3,19 @@ use spec_rule::Access;
 use spec_rule::Decision;
 use table_read::Section;
 ghost use mathlib.Core.Path.{_≡_};
+ghost use mathlib.Core.List.{[]};
 ghost use Prim.Native.Nat.{_<_};
 ghost use lib.ListN.{length};
 ghost use lib.Dec.{leb};
 ghost use Rattle.spec_lists.specs.Select.{any};
-ghost use Rattle.spec_rule.specs.Rule.{rank, belongs};
+ghost use Rattle.spec_rule.specs.Rule.{rank, belongs, stands};
 ghost use Rattle.spec_rule.specs.Decision.{with-trap};
 ghost use Rattle.spec_file.specs.Limit.{rules, references};
 ghost use Rattle.spec_table.specs.Policy.{permission, set-bit};
 ghost use Rattle.table_fields.specs.Field.{Word};
 ghost use Rattle.table_read.specs.Stored.{Stored, word-of};
 ghost use Rattle.ask_rule.specs.Members.{groups, matches, references-word, members-in, Refers, members-referred, groups-named};
-ghost use Rattle.ask_rule.specs.Rules.{flagged, Calculates, Passes, With-rule};
+ghost use Rattle.ask_rule.specs.Rules.{rule-at, question, flagged, Calculates, Passes, With-rule};
 
 // Users and user groups, or hosts and host groups.
 enum GroupKind {
@@ -145,7 +146,7 @@ fn decision(access: Access, trap: bool) -> Decision
 }
 
 // What a rule of these flags gives if it passes.
-fn granted_by(flags: usize) -> Decision
+pub fn granted_by(flags: usize) -> Decision
     ensures { λ r. ⌜ r ≡ flagged flags ⌝ }
 {
     let trap = is_set(flags / 8 % 2);
@@ -157,7 +158,7 @@ fn granted_by(flags: usize) -> Decision
 }
 
 // Whether the first gives as much as the second.
-fn is_at_least(a: Decision, b: Decision) -> bool
+pub fn is_at_least(a: Decision, b: Decision) -> bool
     ensures { λ r. ⌜ r ≡ leb (rank (b .access)) (rank (a .access)) ⌝ }
 {
     let x = a.access;
@@ -165,7 +166,8 @@ fn is_at_least(a: Decision, b: Decision) -> bool
     rank_of(y) <= rank_of(x)
 }
 
-fn calculation_true(table: &[u8], rule: usize, values: &[f64; 21], goods: &[bool; 21]) -> bool
+// Whether a rule's calculation is true, or it has none. Inner: the caller knows the rule from the run of its group, and has 21 values.
+pub fn calculation_true(table: &[u8], rule: usize, values: &[f64; 21], goods: &[bool; 21]) -> bool
     requires { ⌜ Stored (now table) rules rule × (length (now values) ≡ 21) ⌝ }
     ensures { λ r. ⌜ Calculates (now (table .entry)) rule (now (values .entry)) (now (goods .entry)) r ⌝ }
 {
@@ -181,6 +183,24 @@ fn calculation_true(table: &[u8], rule: usize, values: &[f64; 21], goods: &[bool
     )
 }
 
+// What a rule asks that does not depend on readings. Inner: the caller knows the rule from the run of its group.
+pub fn stands_rule(table: &[u8], rule: usize, user: &[u8], host: &[u8], level: usize) -> bool
+    requires { ⌜ Stored (now table) rules rule ⌝ }
+    ensures { λ r. ⌜ r ≡ stands (question (now (user .entry)) (now (host .entry)) level []) (rule-at (now (table .entry)) rule) ⌝ }
+{
+    let flags = table_read::field(table, Section::Rules, rule, 0);
+    if is_set(flags / 16) {
+        return false; // switched off
+    }
+    if flags % 2 < level {
+        return false;
+    }
+    if !belongs_to(table, GroupKind::Users, rule, user) {
+        return false;
+    }
+    belongs_to(table, GroupKind::Hosts, rule, host)
+}
+
 fn passes_rule(
     table: &[u8],
     rule: usize,
@@ -193,20 +213,11 @@ fn passes_rule(
     requires { ⌜ Stored (now table) rules rule × (length (now values) ≡ 21) ⌝ }
     ensures { λ r. ⌜ Passes (now (table .entry)) rule (now (user .entry)) (now (host .entry)) level (now (values .entry)) (now (goods .entry)) r ⌝ }
 {
-    let flags = table_read::field(table, Section::Rules, rule, 0);
-    if is_set(flags / 16) {
-        return false; // switched off
+    if stands_rule(table, rule, user, host, level) {
+        calculation_true(table, rule, values, goods)
+    } else {
+        false
     }
-    if flags % 2 < level {
-        return false;
-    }
-    if !belongs_to(table, GroupKind::Users, rule, user) {
-        return false;
-    }
-    if !belongs_to(table, GroupKind::Hosts, rule, host) {
-        return false;
-    }
-    calculation_true(table, rule, values, goods)
 }
 
 // What earlier rules and one more give: the greater access, of equals the first. A rule that can give no more is not tried.

@@ -18,7 +18,7 @@ pub struct Inputs {
 }
 
 // The value of a reading, and 0 for one that has none.
-fn value_of(r: Reading) -> f64
+pub fn value_of(r: Reading) -> f64
     ensures { λ v. ⌜ v ≡ heard r ⌝ }
 {
     match r {

@@ -16,9 +16,10 @@ ghost use Rattle.spec_table.specs.Layout.{width};
 ghost use Rattle.spec_table.specs.View.{view};
 ghost use Rattle.spec_table.specs.Check.{is-table};
 ghost use Rattle.spec_table.specs.Policy.{name, row};
+ghost use Rattle.spec_decision.specs.Groups.{answering-number};
 ghost use Rattle.table_fields.specs.Field.{Word};
 ghost use Rattle.table_read.specs.Stored.{section, Ordered, name-word, Stored, word-of};
-ghost use Rattle.table_read.specs.Search.{Finds-named, Finds-answering, Finds-input};
+ghost use Rattle.table_read.specs.Search.{index-of, number-named, number-full, Finds-input};
 
 // The records of a table that was checked: every function asks for that, or for a record of such a table (Stored). Callers have
 // asked is_table, or have the bytes of an accepted load; they know a record's number from a count, a run or a search.
@@ -97,10 +98,10 @@ pub fn name_of(table: &[u8], s: Section, i: usize) -> &[u8]
     &table[a..e]
 }
 
-// The first access group of a name.
-fn first_named(table: &[u8], group: &[u8]) -> Index
+// The first access group of a name; DEFAULT does not stand in for one that is missing. Inner: callers have a checked table.
+pub fn first_named(table: &[u8], group: &[u8]) -> Index
     requires { ⌜ is-table (now table) ≡ true ⌝ }
-    ensures { λ r. ⌜ Finds-named (now (table .entry)) (now (group .entry)) r ⌝ }
+    ensures { λ r. ⌜ r ≡ index-of (number-named (now (table .entry)) (now (group .entry))) ⌝ }
 {
     let n = count(table, Section::AccessGroups);
     let mut i = 0;
@@ -113,15 +114,23 @@ fn first_named(table: &[u8], group: &[u8]) -> Index
     Index::Missing
 }
 
-// The access group that answers for a name. Inner: ask_checked calls it, of a checked table.
-pub fn answering_group(table: &[u8], group: &[u8]) -> Index
+// The access group of a name; the empty name is DEFAULT's. Inner: of a checked table, to set a reading of that group.
+pub fn group_named(table: &[u8], group: &[u8]) -> Index
     requires { ⌜ is-table (now table) ≡ true ⌝ }
-    ensures { λ r. ⌜ Finds-answering (now (table .entry)) (now (group .entry)) r ⌝ }
+    ensures { λ r. ⌜ r ≡ index-of (number-full (now (table .entry)) (now (group .entry))) ⌝ }
 {
     if group.len() == 0 {
         return first_named(table, b"DEFAULT");
     }
-    match first_named(table, group) {
+    first_named(table, group)
+}
+
+// The access group that answers for a name. Inner: ask_checked calls it, of a checked table.
+pub fn answering_group(table: &[u8], group: &[u8]) -> Index
+    requires { ⌜ is-table (now table) ≡ true ⌝ }
+    ensures { λ r. ⌜ r ≡ index-of (answering-number (now (table .entry)) (now (group .entry))) ⌝ }
+{
+    match group_named(table, group) {
         Index::At(i) => Index::At(i),
         Index::Missing => first_named(table, b"DEFAULT"),
     }

@@ -20,19 +20,20 @@ use Rattle.spec_table.specs.laws.Standing.{stands, rules-within}
 use Rattle.spec_decision.specs.declared.Answer.{Answer}
 use Rattle.spec_decision.specs.declared.Answer.the-variants as answer
 use Rattle.spec_decision.specs.Decision.{rules-in, answered, decide}
+use Rattle.spec_decision.specs.Groups.{answering-number}
 use Rattle.table_fields.specs.Field.{Word}
 use Rattle.table_read.specs.declared.Index.{Index}
 use Rattle.table_read.specs.declared.Index.the-variants.{At, Missing}
 use Rattle.table_read.specs.Stored.{Stored, word-of}
-use Rattle.table_read.specs.Search.{group-for, Finds-answering}
-use Rattle.table_read.specs.laws.Search.{finds-at, finds-none}
+use Rattle.table_read.specs.Search.{index-of, group-for}
+use Rattle.table_read.specs.laws.Search.{finds-at, finds-none, finds-answering}
 use Rattle.ask_rule.specs.Rules.{rule-at, question}
 use Rattle.ask_checked.specs.Group.{group-rules}
 
 -- ---- rule by rule: what the first k rules of the i-th group give
 
 module _ (b : List ℕ) (i : ℕ) (h : Stored b access-groups i) where
-  run-inside : rules-run (row (view b) access-groups i) .first + rules-run (row (view b) access-groups i) .count ≤ length (view b .records rules)
+  pub run-inside : rules-run (row (view b) access-groups i) .first + rules-run (row (view b) access-groups i) .count ≤ length (view b .records rules)
   run-inside = rules-within (view b) (stands b (h .table) .1) i (h .inside)
 
   module _ {s n : ℕ} (k : ℕ) (f : Word (word-of b access-groups i 4) s) (c : Word (word-of b access-groups i 5) n) where
@@ -70,17 +71,17 @@ module _ (b : List ℕ) (q : Question) where
     unfolding decide
     decide-bad l = rw (h, lt-leb (q .level) 1 l)
 
-    pub decide-none : {r : Index} → q .level ≤ 1 → Finds-answering b (q .group) r → r ≡ Missing → decide b q ≡ answer.Answered no-access
+    pub decide-none : {r : Index} → q .level ≤ 1 → r ≡ index-of (answering-number b (q .group)) → r ≡ Missing → decide b q ≡ answer.Answered no-access
     unfolding decide
     decide-none l f e =
-        let z : group-for b (q .group) ≡ none = finds-none f e in
+        let z : group-for b (q .group) ≡ none = finds-none (finds-answering b (q .group) f) e in
         rw (h, le-leb (q .level) 1 l) (ap (λ (o : Option (List ℕ)). answered q (rules-in (view b) o)) z)
 
     pub decide-by :
-        {r : Index} {d : Decision} {l : ℕ} (i : ℕ) → l ≡ q .level → q .level ≤ 1 → Finds-answering b (q .group) r → r ≡ At i
+        {r : Index} {d : Decision} {l : ℕ} (i : ℕ) → l ≡ q .level → q .level ≤ 1 → r ≡ index-of (answering-number b (q .group)) → r ≡ At i
         → d ≡ decision-by (question (q .user) (q .host) l (q .readings)) (group-rules b i)
         → decide b q ≡ answer.Answered d
     unfolding decide
     decide-by i x l f e w =
-        let z : group-for b (q .group) ≡ some (row (view b) access-groups i) = finds-at i f e .0 in
+        let z : group-for b (q .group) ≡ some (row (view b) access-groups i) = finds-at i (finds-answering b (q .group) f) e .0 in
         rw (h, le-leb (q .level) 1 l) (ap (λ (o : Option (List ℕ)). answered q (rules-in (view b) o)) z ∙ ap answer-of (sym (rw x at w)))

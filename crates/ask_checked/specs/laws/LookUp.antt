@@ -13,12 +13,13 @@ use Rattle.spec_table.specs.laws.Standing.{stands, name-within}
 use Rattle.spec_decision.specs.declared.Found.{Found}
 use Rattle.spec_decision.specs.declared.Found.the-variants as found
 use Rattle.spec_decision.specs.LookUp.{part-in, input-of, named-part, look-up}
+use Rattle.spec_decision.specs.Groups.{answering-number}
 use Rattle.table_fields.specs.Field.{Word}
 use Rattle.table_read.specs.declared.Index.{Index}
 use Rattle.table_read.specs.declared.Index.the-variants.{At, Missing}
 use Rattle.table_read.specs.Stored.{word-of}
-use Rattle.table_read.specs.Search.{Finds, not-found, group-for, Finds-answering}
-use Rattle.table_read.specs.laws.Search.{finds-at, finds-none}
+use Rattle.table_read.specs.Search.{Finds, not-found, index-of, group-for}
+use Rattle.table_read.specs.laws.Search.{finds-at, finds-none, finds-answering}
 use Rattle.ask_checked.specs.Group.{Finds-letter}
 
 module _ (b g : List ℕ) (l : ℕ) where
@@ -26,17 +27,18 @@ module _ (b g : List ℕ) (l : ℕ) where
   unfolding look-up
   look-not h = rw h
 
-  pub input-missing : {r : Index} → Finds-answering b g r → r ≡ Missing → Finds-letter b g l Missing
-  input-missing f e = subst (λ (o : Option (List ℕ)). Finds (view b .records inputs) (input-of (view b) l o) Missing) (sym (finds-none f e)) not-found
+  pub input-missing : {r : Index} → r ≡ index-of (answering-number b g) → r ≡ Missing → Finds-letter b g l Missing
+  input-missing f e =
+      subst (λ (o : Option (List ℕ)). Finds (view b .records inputs) (input-of (view b) l o) Missing) (sym (finds-none (finds-answering b g f) e)) not-found
 
   pub input-found :
-      {r p : Index} {x : ℕ} (i : ℕ) → Finds-answering b g r → r ≡ At i → x ≡ l
+      {r p : Index} {x : ℕ} (i : ℕ) → r ≡ index-of (answering-number b g) → r ≡ At i → x ≡ l
       → Finds (view b .records inputs) (input-of (view b) x (some (row (view b) access-groups i))) p
       → Finds-letter b g l p
   input-found {r} {p} i f e y d =
       subst
       (λ (o : Option (List ℕ)). Finds (view b .records inputs) (input-of (view b) l o) p)
-      (sym (finds-at i f e .0))
+      (sym (finds-at i (finds-answering b g f) e .0))
       (rw y at d)
 
   module _ (h : is-table b ≡ true) where

@@ -3,12 +3,12 @@ use mathlib.Core.Path.{_≡_, refl, sym, ap, _∙_}
 use mathlib.Core.Bool.{Bool, true, false, cond}
 use mathlib.Core.List.{List, [], _∷_, _++_}
 use Prim.Native.Nat.{ℕ, suc, _+_, _≤_, _<_}
-use native.Mathlib.Numerals.{add-one}
 use native.Mathlib.Omega.{arith}
 use lib.Dec.{leb}
 use lib.ListN.{length, getD, set, take, drop, length-append}
-use lib.Seq.{sets, sets-eq, take-at, length-sets, set-out, drop-cons, drop-length}
+use lib.Seq.{sets, sets-eq, take-at, length-sets, set-out, drop-length}
 use borrow.Author.Tests.{leb-true, leb-false, le-leb}
+use Rattle.spec_rule.specs.laws.Walk.{list-on, sets-on}
 use Rattle.prog_words.specs.Put.{reached, Put}
 
 pub reached-fits : (room n : ℕ) → n ≤ room → reached room n ≡ n
@@ -101,11 +101,7 @@ put-as e p = rw e p
 pub sets-step :
     (text l : List ℕ) (at i : ℕ) → i < length text
     → sets l (at + i) (drop i text) ≡ sets (set l (at + i) (getD text i 0)) (at + (i + 1)) (drop (i + 1) text)
-sets-step text l at i h =
-    let z : suc (at + i) ≡ at + (i + 1) = omega arith in
-    ap (sets l (at + i)) (drop-cons text i 0 h)
-    ∙ ap (λ (k : ℕ). sets (set l (at + i) (getD text i 0)) k (drop (suc i) text)) z
-    ∙ ap (λ (k : ℕ). sets (set l (at + i) (getD text i 0)) (at + (i + 1)) (drop k text)) (sym (add-one i))
+sets-step text l at i h = sets-on l (at + i) (let z : suc (at + i) ≡ at + (i + 1) = omega arith in z) (list-on text 0 i h)
 
 module _ (text b c : List ℕ) (at i : ℕ) (n : length c ≡ length b) (e : sets b at text ≡ sets c (at + i) (drop i text)) where
   pub stops-full : i < length text → at + i ≡ length c → Put text b at c (at + i)

@@ -1,24 +1,14 @@
-use Rattle.table_read.specs.laws.Search.{section-turn, section-hit, section-done}
-use Rattle.spec_table.specs.Policy.{name}
-use Rattle.spec_table.specs.View.{view}
-use Rattle.spec_file.specs.Limit.{access-groups}
-use Rattle.spec_lists.specs.Select.{first}
+use Rattle.table_read.specs.laws.Search.{Named-left, named-turn, named-hit, named-done}
 use Rattle.spec_lists.specs.Text.{same}
-use lib.ListN.{drop}
 use native.Mathlib.Omega.{arith}
-use mathlib.Core.List.{List}
-use mathlib.Core.Bool.{Bool}
-use mathlib.Core.Path.{_≡_, refl, sym, ap, _∙_}
-use Prim.Native.Nat.{ℕ, _≤_, _-_}
+use mathlib.Core.Path.{refl, sym, ap, _∙_}
+use Prim.Native.Nat.{_≤_, _-_}
 use borrow.Author.Needs.{needs}
 use Rattle.table_read.proofs.first_named.Statement.{statement}
 use Rattle.table_read.proofs.first_named.Tie as tie
 
-abbrev is-named : List ℕ → List ℕ → List ℕ → Bool
-is-named b g w = same (name (view b) access-groups w) g
-
 abbrev Inv-loop : tie.InvT-loop
-Inv-loop table group n i₀ i = (i ≤ n) × (first (is-named table group) (view table .records access-groups) ≡ first (is-named table group) (drop i (view table .records access-groups)))
+Inv-loop table group n i₀ i = (i ≤ n) × Named-left table group i
 
 abbrev μ-loop : tie.MeasureT-loop
 μ-loop table group n i₀ i = n - i
@@ -36,7 +26,7 @@ equal-requires : tie.Need-equal-requires Inv-loop μ-loop
 equal-requires c κs = search needs
 
 returns : tie.Need-returns Inv-loop μ-loop
-returns c = section-hit (is-named (c .before .before .before .before .before .before .before .before .args .table .now) (c .before .before .before .before .before .before .before .before .args .group .now)) (view (c .before .before .before .before .before .before .before .before .args .table .now) .records access-groups) (c .before .before .before .before .loop .i) (omega (arith, c .before .before .before .before .before .count .ensures)) (ap (λ l. same l (c .before .before .before .before .before .before .before .before .args .group .now)) (sym (c .before .before .name-of .ensures)) ∙ sym (c .before .equal .ensures) ∙ c .if1 .taken) (c .before .before .before .before .loop .inv .1)
+returns c = let a = c .before .before .before .before .before .before .before .before in named-hit (a .args .table .now) (a .args .group .now) (c .before .before .before .before .loop .i) (omega (arith, c .before .before .before .before .before .count .ensures)) (ap (λ l. same l (a .args .group .now)) (sym (c .before .before .name-of .ensures)) ∙ sym (c .before .equal .ensures) ∙ c .if1 .taken) (c .before .before .before .before .loop .inv .1)
 
 add-i : tie.Need-add-i Inv-loop μ-loop
 add-i c = search needs
@@ -45,10 +35,10 @@ loop-less : tie.Need-loop-less Inv-loop μ-loop
 loop-less c = search needs
 
 loop-again : tie.Need-loop-again Inv-loop μ-loop
-loop-again c = (omega arith, section-turn (is-named (c .before .before .before .before .before .before .before .before .args .table .now) (c .before .before .before .before .before .before .before .before .args .group .now)) (view (c .before .before .before .before .before .before .before .before .args .table .now) .records access-groups) (c .before .before .before .before .loop .i) (omega (arith, c .before .before .before .before .before .count .ensures)) (ap (λ l. same l (c .before .before .before .before .before .before .before .before .args .group .now)) (sym (c .before .before .name-of .ensures)) ∙ sym (c .before .equal .ensures) ∙ c .if1 .left) (c .before .before .before .before .loop .inv .1))
+loop-again c = let a = c .before .before .before .before .before .before .before .before in (omega arith, named-turn (a .args .table .now) (a .args .group .now) (c .before .before .before .before .loop .i) (omega (arith, c .before .before .before .before .before .count .ensures)) (ap (λ l. same l (a .args .group .now)) (sym (c .before .before .name-of .ensures)) ∙ sym (c .before .equal .ensures) ∙ c .if1 .left) (c .before .before .before .before .loop .inv .1))
 
 returns-2 : tie.Need-returns-2 Inv-loop μ-loop
-returns-2 c = section-done (is-named (c .before .before .before .before .before .args .table .now) (c .before .before .before .before .before .args .group .now)) (view (c .before .before .before .before .before .args .table .now) .records access-groups) (c .before .loop .i) (omega (arith, c .before .before .count .ensures)) (c .before .loop .inv .1)
+returns-2 c = let a = c .before .before .before .before .before in named-done (a .args .table .now) (a .args .group .now) (c .before .loop .i) (omega (arith, c .before .before .count .ensures)) (c .before .loop .inv .1)
 
 pub first-named-spec : {M : Type 1} → statement M
 first-named-spec =

@@ -1,0 +1,106 @@
+// An access group's decision in two parts: which of its rules stand for a client, kept as bytes, and whose calculations are true.
+use spec_rule::Access;
+use spec_rule::Decision;
+use table_read::Section;
+ghost use mathlib.Core.Path.{_≡_};
+ghost use Prim.Native.Nat.{_+_, _≤_};
+ghost use lib.ListN.{length};
+ghost use lib.Seq.{sets};
+ghost use Rattle.spec_rule.specs.Kept.{bit};
+ghost use Rattle.spec_file.specs.Limit.{access-groups, rules, most};
+ghost use Rattle.table_read.specs.Stored.{Stored};
+ghost use Rattle.ask_kept.specs.Kept.{client-bits, Calculated, decision-kept, With-kept};
+
+fn bit_of(b: bool) -> u8
+    ensures { λ r. ⌜ r ≡ bit b ⌝ }
+{
+    if b { 1 } else { 0 }
+}
+
+// Keeps which rules of an access group stand for a client: a byte for each, in order. Inner: a caller knows the group from a search in a checked
+// table, and lends room for the 256 rules that a table has at most.
+pub fn keep(
+    table: &[u8],
+    group: usize,
+    user: &[u8],
+    host: &[u8],
+    level: usize,
+    kept: &mut [u8],
+    at: usize,
+)
+    requires { ⌜ Stored (now table) access-groups group × (at + most rules ≤ length (now kept)) ⌝ }
+    ensures { λ r. ⌜ now (kept .exit) ≡ sets (now (kept .entry)) at (client-bits (now (table .entry)) group (now (user .entry)) (now (host .entry)) level) ⌝ }
+{
+    let start = table_read::field(table, Section::AccessGroups, group, 4);
+    let n = table_read::field(table, Section::AccessGroups, group, 5);
+    let mut i = 0;
+    while i < n {
+        kept[at + i] = bit_of(ask_rule::stands_rule(table, start + i, user, host, level));
+        i += 1;
+    }
+}
+
+// Writes whose calculations are true: a truth for each rule of an access group, in order. Inner: a caller knows the group as for
+// keep, and has 21 values.
+pub fn calculate(
+    table: &[u8],
+    group: usize,
+    values: &[f64; 21],
+    goods: &[bool; 21],
+    truths: &mut [bool; 256],
+)
+    requires { ⌜ Stored (now table) access-groups group × (length (now values) ≡ 21) ⌝ }
+    ensures { λ r. ⌜ Calculated (now (table .entry)) group (now (values .entry)) (now (goods .entry)) (now (truths .entry)) (now (truths .exit)) ⌝ }
+{
+    let start = table_read::field(table, Section::AccessGroups, group, 4);
+    let n = table_read::field(table, Section::AccessGroups, group, 5);
+    let mut i = 0;
+    while i < n {
+        truths[i] = ask_rule::calculation_true(table, start + i, values, goods);
+        i += 1;
+    }
+}
+
+// What earlier rules and one more give, by its kept byte and its calculation's truth. These are tested first: most rules fail them.
+fn with_kept(table: &[u8], rule: usize, k: u8, t: bool, earlier: Decision) -> Decision
+    requires { ⌜ Stored (now table) rules rule ⌝ }
+    ensures { λ r. ⌜ With-kept (now (table .entry)) rule k t earlier r ⌝ }
+{
+    if k == 0 {
+        return earlier; // does not stand
+    }
+    if !t {
+        return earlier; // its calculation is false
+    }
+    let offered = ask_rule::granted_by(table_read::field(table, Section::Rules, rule, 0));
+    if ask_rule::is_at_least(earlier, offered) {
+        return earlier;
+    }
+    offered
+}
+
+// What the rules of an access group give, by the kept bytes and the truths: no member is compared, no calculation run.
+// Inner: a caller knows the group and has kept bytes as for keep, and has 256 truths, as calculate leaves them.
+pub fn kept_decision(
+    table: &[u8],
+    group: usize,
+    kept: &[u8],
+    at: usize,
+    truths: &[bool; 256],
+) -> Decision
+    requires { ⌜ Stored (now table) access-groups group × (at + most rules ≤ length (now kept)) × (most rules ≤ length (now truths)) ⌝ }
+    ensures { λ r. ⌜ r ≡ decision-kept (now (table .entry)) group (now (kept .entry)) at (now (truths .entry)) ⌝ }
+{
+    let start = table_read::field(table, Section::AccessGroups, group, 4);
+    let n = table_read::field(table, Section::AccessGroups, group, 5);
+    let mut so_far = Decision {
+        access: Access::None,
+        trap: false,
+    };
+    let mut i = 0;
+    while i < n {
+        so_far = with_kept(table, start + i, kept[at + i], truths[i], so_far);
+        i += 1;
+    }
+    so_far
+}
