@@ -1,0 +1,2 @@
+pub mod Renew
+pub mod laws
