@@ -1,19 +1,21 @@
 /* Verified access security for EPICS gateways: the proved library, for C (C99 or later) and C++ (C++11 or later).
  *
- * A gateway calls hrazvanut_load, hrazvanut_list_warnings, hrazvanut_is_table, hrazvanut_decide, hrazvanut_decide_checked,
- * hrazvanut_find_input and hrazvanut_allowed. They stand at the end of this file, each with its contract in words, and are inline:
- * they pass the parts of their structs on to the proved functions, hrazvanut_abi_*, and take the answers apart.
+ * A gateway calls hrazvanut_load, hrazvanut_list_warnings, hrazvanut_is_table, hrazvanut_decide, hrazvanut_find_input and
+ * hrazvanut_allowed; or it lends a register that holds its clients, and calls hrazvanut_reload, hrazvanut_add_client,
+ * hrazvanut_change_client, hrazvanut_remove_client, hrazvanut_set_reading and hrazvanut_right_of. Those that take a table that was checked
+ * before have names that end in _checked. All stand at the end of this file, each with its contract in words, and are inline: they pass
+ * the parts of their structs on to the proved functions, hrazvanut_abi_*, and take the answers apart.
  *
- * Of every call but hrazvanut_decide_checked: any bytes, any lengths, any numbers get an answer, in bounds and in bounded time. A question
- * is not NULL.
+ * Of every call whose name does not end in _checked: any bytes, any lengths, any numbers get an answer, in bounds and in bounded time. A
+ * question, a register and a client are not NULL.
  *
  * - A pointer is good for the length beside it. With a length of 0 it may be any pointer, NULL too.
- * - What is lent to be written (the room of a load, the array of warnings) overlaps nothing else that is lent to the same call. What is
- *   only read may overlap.
+ * - What is lent to be written (the room of a load, the array of warnings, a register) overlaps nothing else that is lent to the same call.
+ *   What is only read may overlap.
  * - Bytes need no alignment; structs and arrays of them have that of their type, as the compiler lays them.
- * - Nothing is kept between calls: no heap, no static storage, no pointer. Any thread may call, as long as nobody writes what another
- *   call reads.
- * - A load and a list of warnings need less than 180 KiB of stack. Every call runs in a thread of 256 KiB, whatever it is given.
+ * - Nothing is kept between calls but what stands in a register: no heap, no static storage, no pointer. Any thread may call, as long as
+ *   nobody writes what another call reads or writes.
+ * - A load, a reload and a list of warnings need less than 180 KiB of stack. Every call runs in a thread of 256 KiB, whatever it is given.
  *
  * Documents: 01 is the paper that says what is made; docs/USING.md tells each refusal and warning with its cure.
  */
@@ -36,13 +38,18 @@
  * Header and library are of one revision of the repository. A library knows no struct of this header; a function hrazvanut_abi_* whose
  * parameters or answer change gets another name, so that a header does not link with a library that means something else. */
 #define HRAZVANUT_VERSION_MAJOR 3
-#define HRAZVANUT_VERSION_MINOR 0
+#define HRAZVANUT_VERSION_MINOR 1
 #define HRAZVANUT_VERSION (HRAZVANUT_VERSION_MAJOR * 1000 + HRAZVANUT_VERSION_MINOR)
 
 /* No file is longer, no table is longer, so many readings has a question: those of the letters A to U. */
 #define HRAZVANUT_FILE 16384
 #define HRAZVANUT_TABLE 35108
 #define HRAZVANUT_READINGS 21
+
+/* So many clients has a register at most, so many access groups a table, and so many bytes are a register. */
+#define HRAZVANUT_PLACES 64
+#define HRAZVANUT_GROUPS 64
+#define HRAZVANUT_REGISTER sizeof(struct hrazvanut_register)
 
 /* In C++ an enum can hold a number that is not among its own only if its type is given. */
 #ifdef __cplusplus
@@ -93,9 +100,26 @@ struct hrazvanut_question {
     struct hrazvanut_reading readings[HRAZVANUT_READINGS]; /* by letter: A is 0 */
 };
 
+/* Who is connected, for a channel of which group, at which level. The names are copied into the register: 60 bytes each at most. */
+struct hrazvanut_client {
+    struct hrazvanut_text group; /* empty: DEFAULT */
+    struct hrazvanut_text user;
+    struct hrazvanut_text host;
+    uint32_t level;
+};
+
+/* The clients, the rights that they have now, and the readings of each access group. A zeroed register is the empty one: no client, every
+ * reading never heard. Its bytes are written by the functions below and by nobody else. It holds no pointer: it may be moved or stored,
+ * together with its table. */
+struct hrazvanut_register {
+    double values[HRAZVANUT_GROUPS * HRAZVANUT_READINGS]; /* by the group's number in the table, then by letter */
+    uint8_t states[HRAZVANUT_GROUPS * HRAZVANUT_READINGS];
+    uint8_t places[HRAZVANUT_PLACES * 448];
+};
+
 /* ---- what is answered */
 
-/* 01's numbers. A refused call writes nothing, grants nothing and finds nothing. */
+/* The numbers of 01 and 02. A refused call writes nothing, grants nothing and finds nothing. */
 enum hrazvanut_refusal HRAZVANUT_ENUM_TYPE {
     HRAZVANUT_NOT_REFUSED = 0,
     /* of a load; 1 to 10 of a list of warnings too */
@@ -110,10 +134,15 @@ enum hrazvanut_refusal HRAZVANUT_ENUM_TYPE {
     HRAZVANUT_REFUSED_UNKNOWN_WORD = 9,
     HRAZVANUT_REFUSED_CALCULATION = 10,
     HRAZVANUT_REFUSED_NO_ROOM = 11,
-    /* of a question and of a look-up */
+    /* of a question, of a look-up, and of a register's calls */
     HRAZVANUT_REFUSED_NOT_TABLE = 20,
     HRAZVANUT_REFUSED_LEVEL = 21,
-    HRAZVANUT_REFUSED_NO_INPUT = 22
+    HRAZVANUT_REFUSED_NO_INPUT = 22,
+    /* of a register's calls; 34 of the proved functions alone, for no struct is too short */
+    HRAZVANUT_REFUSED_LONG_NAME = 23,
+    HRAZVANUT_REFUSED_NO_PLACE = 24,
+    HRAZVANUT_REFUSED_NO_CLIENT = 25,
+    HRAZVANUT_REFUSED_NOT_REGISTER = 34
 };
 
 enum hrazvanut_access HRAZVANUT_ENUM_TYPE {
@@ -171,6 +200,32 @@ struct hrazvanut_found {
     size_t at;                  /* where it starts in the table, in bytes */
 };
 
+/* Of a client that is added, changed or removed. In each `changed` below, bit p is set exactly if the right of the place p, its access or
+ * its trap flag, is another after the call than before: those clients are to be told. No bit is set if refused. */
+struct hrazvanut_entered {
+    enum hrazvanut_refusal refusal;
+    size_t place; /* the client's; 0 if refused */
+    uint64_t changed;
+};
+
+/* Of a reading that is set. */
+struct hrazvanut_reading_set {
+    enum hrazvanut_refusal refusal;
+    uint64_t changed;
+};
+
+/* Of a reload. */
+struct hrazvanut_reloaded {
+    struct hrazvanut_loaded loaded; /* as of a load */
+    uint64_t changed;
+};
+
+/* Of a place in a register. */
+struct hrazvanut_right {
+    enum hrazvanut_access access;
+    bool trap;
+};
+
 /* ---- the proved functions, on numbers and slices. Gateways call those of the next part. */
 
 #ifdef __cplusplus
@@ -181,7 +236,12 @@ extern "C" {
  * second in bits 32 to 47, and the refusal above them: of a load the length and the number of warnings, or the place; of a list of warnings
  * their number, or the place; of a question the access in bits 0 and 1 and the trap flag in bit 2; of a look-up the place and the length.
  * An answer of 8 bits is 1 or 0. The letter i has states[i] and values[i]: past the end of states it was never heard, past the end of
- * values it is not a number. */
+ * values it is not a number.
+ *
+ * A register is lent as three slices, those of its struct: of a slice that is longer the start is used, a slice that is shorter makes the
+ * call refused with 34, before every other refusal, and each right NONE. The answer's first number is for a client that is added its place;
+ * a reload answers as a load does; else both numbers are 0. `changed` is one word, or none with a length of 0; it is aligned as uint64_t
+ * and written only if the call is not refused. A right has the access in bits 0 and 1 and the trap flag in bit 2. */
 uint64_t hrazvanut_abi_load(const uint8_t *text, size_t text_length, uint8_t *table, size_t table_length);
 uint64_t hrazvanut_abi_list_warnings(const uint8_t *text, size_t text_length, size_t skip, uint8_t *numbers, size_t numbers_length,
                                      uint16_t *places, size_t places_length);
@@ -194,6 +254,29 @@ hrazvanut_abi_question hrazvanut_abi_decide;
 hrazvanut_abi_question hrazvanut_abi_decide_checked;
 uint64_t hrazvanut_abi_find_input(const uint8_t *table, size_t table_length, const uint8_t *group, size_t group_length, uint32_t letter);
 uint8_t hrazvanut_abi_allowed(const uint8_t *text, size_t text_length);
+typedef uint64_t hrazvanut_abi_adding(uint8_t *places, size_t places_length, const uint8_t *states, size_t states_length,
+                                      const double *values, size_t values_length, const uint8_t *table, size_t table_length,
+                                      const uint8_t *group, size_t group_length, const uint8_t *user, size_t user_length,
+                                      const uint8_t *host, size_t host_length, uint32_t level, uint64_t *changed, size_t changed_length);
+hrazvanut_abi_adding hrazvanut_abi_add;
+hrazvanut_abi_adding hrazvanut_abi_add_checked;
+typedef uint64_t hrazvanut_abi_changing(uint8_t *places, size_t places_length, const uint8_t *states, size_t states_length,
+                                        const double *values, size_t values_length, const uint8_t *table, size_t table_length,
+                                        size_t place, const uint8_t *group, size_t group_length, const uint8_t *user, size_t user_length,
+                                        const uint8_t *host, size_t host_length, uint32_t level, uint64_t *changed,
+                                        size_t changed_length);
+hrazvanut_abi_changing hrazvanut_abi_change;
+hrazvanut_abi_changing hrazvanut_abi_change_checked;
+uint64_t hrazvanut_abi_remove(uint8_t *places, size_t places_length, size_t place, uint64_t *changed, size_t changed_length);
+typedef uint64_t hrazvanut_abi_setting(uint8_t *places, size_t places_length, uint8_t *states, size_t states_length, double *values,
+                                       size_t values_length, const uint8_t *table, size_t table_length, const uint8_t *group,
+                                       size_t group_length, uint32_t letter, uint8_t state, double value, uint64_t *changed,
+                                       size_t changed_length);
+hrazvanut_abi_setting hrazvanut_abi_set;
+hrazvanut_abi_setting hrazvanut_abi_set_checked;
+uint64_t hrazvanut_abi_reload(uint8_t *places, size_t places_length, uint8_t *states, size_t states_length, const uint8_t *text,
+                              size_t text_length, uint8_t *table, size_t table_length, uint64_t *changed, size_t changed_length);
+uint8_t hrazvanut_abi_right(const uint8_t *places, size_t places_length, size_t place);
 
 #ifdef __cplusplus
 }
@@ -210,15 +293,25 @@ static inline size_t hrazvanut_abi_first(uint64_t answer) { return (size_t)(answ
 static inline size_t hrazvanut_abi_second(uint64_t answer) { return (size_t)(answer >> 32 & 0xffffu); }
 static inline enum hrazvanut_refusal hrazvanut_abi_refusal(uint64_t answer) { return (enum hrazvanut_refusal)(answer >> 48); }
 
-/* The readings as bytes and values; a state is compared, not cut to a byte. */
+/* A reading as a byte and a value; its state is compared, not cut to a byte. */
+static inline uint8_t hrazvanut_abi_state(struct hrazvanut_reading reading)
+{
+    bool heard = reading.state != HRAZVANUT_NEVER_HEARD;
+    bool value = reading.state == HRAZVANUT_VALUE;
+    return (uint8_t)(!heard ? HRAZVANUT_NEVER_HEARD : value ? HRAZVANUT_VALUE : HRAZVANUT_INVALID);
+}
+static inline double hrazvanut_abi_value(struct hrazvanut_reading reading)
+{
+    return reading.state == HRAZVANUT_VALUE ? reading.value : 0;
+}
+
+/* The readings of a question. */
 static inline void hrazvanut_abi_readings(const struct hrazvanut_reading *readings, uint8_t *states, double *values)
 {
     int i;
     for (i = 0; i < HRAZVANUT_READINGS; i++) {
-        bool heard = readings[i].state != HRAZVANUT_NEVER_HEARD;
-        bool value = readings[i].state == HRAZVANUT_VALUE;
-        states[i] = (uint8_t)(!heard ? HRAZVANUT_NEVER_HEARD : value ? HRAZVANUT_VALUE : HRAZVANUT_INVALID);
-        values[i] = value ? readings[i].value : 0;
+        states[i] = hrazvanut_abi_state(readings[i]);
+        values[i] = hrazvanut_abi_value(readings[i]);
     }
 }
 
@@ -241,6 +334,68 @@ static inline struct hrazvanut_answer hrazvanut_abi_ask(hrazvanut_abi_question *
     return a;
 }
 
+/* What a load or a reload into the room answers. */
+static inline struct hrazvanut_loaded hrazvanut_abi_loaded(uint64_t answer, struct hrazvanut_room room)
+{
+    enum hrazvanut_refusal refusal = hrazvanut_abi_refusal(answer);
+    bool accepted = refusal == HRAZVANUT_NOT_REFUSED, full = refusal == HRAZVANUT_REFUSED_NO_ROOM;
+    struct hrazvanut_loaded loaded;
+    loaded.refusal = refusal;
+    loaded.place = accepted || full ? 0 : hrazvanut_abi_first(answer);
+    loaded.needed = full ? hrazvanut_abi_first(answer) : 0;
+    loaded.warnings = hrazvanut_abi_second(answer);
+    loaded.table.start = accepted ? room.start : NULL;
+    loaded.table.length = accepted ? hrazvanut_abi_first(answer) : 0;
+    return loaded;
+}
+
+/* What a call on the client at a place answers. */
+static inline struct hrazvanut_entered hrazvanut_abi_entered(uint64_t answer, size_t place, uint64_t changed)
+{
+    struct hrazvanut_entered entered;
+    entered.refusal = hrazvanut_abi_refusal(answer);
+    entered.place = entered.refusal == HRAZVANUT_NOT_REFUSED ? place : 0;
+    entered.changed = changed;
+    return entered;
+}
+
+/* The parts of a register and of a client, put to one of two functions each. */
+static inline struct hrazvanut_entered hrazvanut_abi_enter(hrazvanut_abi_adding *add, struct hrazvanut_register *reg,
+                                                           struct hrazvanut_table table, const struct hrazvanut_client *client)
+{
+    struct hrazvanut_text group = client->group, user = client->user, host = client->host;
+    uint64_t changed = 0;
+    uint64_t answer = add(reg->places, sizeof reg->places, reg->states, sizeof reg->states, reg->values,
+                          HRAZVANUT_GROUPS * HRAZVANUT_READINGS, hrazvanut_abi_bytes(table.start, table.length), table.length,
+                          hrazvanut_abi_bytes(group.start, group.length), group.length, hrazvanut_abi_bytes(user.start, user.length),
+                          user.length, hrazvanut_abi_bytes(host.start, host.length), host.length, client->level, &changed, 1);
+    return hrazvanut_abi_entered(answer, hrazvanut_abi_first(answer), changed);
+}
+static inline struct hrazvanut_entered hrazvanut_abi_reenter(hrazvanut_abi_changing *change, struct hrazvanut_register *reg,
+                                                             struct hrazvanut_table table, size_t place,
+                                                             const struct hrazvanut_client *client)
+{
+    struct hrazvanut_text group = client->group, user = client->user, host = client->host;
+    uint64_t changed = 0;
+    uint64_t answer = change(reg->places, sizeof reg->places, reg->states, sizeof reg->states, reg->values,
+                             HRAZVANUT_GROUPS * HRAZVANUT_READINGS, hrazvanut_abi_bytes(table.start, table.length), table.length, place,
+                             hrazvanut_abi_bytes(group.start, group.length), group.length, hrazvanut_abi_bytes(user.start, user.length),
+                             user.length, hrazvanut_abi_bytes(host.start, host.length), host.length, client->level, &changed, 1);
+    return hrazvanut_abi_entered(answer, place, changed);
+}
+static inline struct hrazvanut_reading_set hrazvanut_abi_hear(hrazvanut_abi_setting *set, struct hrazvanut_register *reg,
+                                                              struct hrazvanut_table table, struct hrazvanut_text group, uint32_t letter,
+                                                              struct hrazvanut_reading reading)
+{
+    struct hrazvanut_reading_set done;
+    done.changed = 0;
+    done.refusal = hrazvanut_abi_refusal(
+        set(reg->places, sizeof reg->places, reg->states, sizeof reg->states, reg->values, HRAZVANUT_GROUPS * HRAZVANUT_READINGS,
+            hrazvanut_abi_bytes(table.start, table.length), table.length, hrazvanut_abi_bytes(group.start, group.length), group.length,
+            letter, hrazvanut_abi_state(reading), hrazvanut_abi_value(reading), &done.changed, 1));
+    return done;
+}
+
 /* ---- texts and words */
 
 /* A text that a NUL ends; NULL is the empty one. */
@@ -252,7 +407,7 @@ static inline struct hrazvanut_text hrazvanut_string(const char *s)
     return text;
 }
 
-/* What a refusal says, in 01's words. */
+/* What a refusal says, in the words of 01 and 02. */
 static inline const char *hrazvanut_refusal_words(enum hrazvanut_refusal refusal)
 {
     switch (refusal) {
@@ -271,6 +426,10 @@ static inline const char *hrazvanut_refusal_words(enum hrazvanut_refusal refusal
     case HRAZVANUT_REFUSED_NOT_TABLE: return "not a table";
     case HRAZVANUT_REFUSED_LEVEL: return "level neither 0 nor 1";
     case HRAZVANUT_REFUSED_NO_INPUT: return "no such input in the group";
+    case HRAZVANUT_REFUSED_LONG_NAME: return "client's name over 60 bytes";
+    case HRAZVANUT_REFUSED_NO_PLACE: return "all 64 places taken";
+    case HRAZVANUT_REFUSED_NO_CLIENT: return "no client at the place";
+    case HRAZVANUT_REFUSED_NOT_REGISTER: return "not a register";
     }
     return "unknown refusal";
 }
@@ -285,16 +444,7 @@ static inline struct hrazvanut_loaded hrazvanut_load(struct hrazvanut_text text,
     uint8_t none = 0;
     uint64_t answer = hrazvanut_abi_load(hrazvanut_abi_bytes(text.start, text.length), text.length, room.length == 0 ? &none : room.start,
                                          room.length);
-    enum hrazvanut_refusal refusal = hrazvanut_abi_refusal(answer);
-    bool accepted = refusal == HRAZVANUT_NOT_REFUSED, full = refusal == HRAZVANUT_REFUSED_NO_ROOM;
-    struct hrazvanut_loaded loaded;
-    loaded.refusal = refusal;
-    loaded.place = accepted || full ? 0 : hrazvanut_abi_first(answer);
-    loaded.needed = full ? hrazvanut_abi_first(answer) : 0;
-    loaded.warnings = hrazvanut_abi_second(answer);
-    loaded.table.start = accepted ? room.start : NULL;
-    loaded.table.length = accepted ? hrazvanut_abi_first(answer) : 0;
-    return loaded;
+    return hrazvanut_abi_loaded(answer, room);
 }
 
 /* The warnings of a text, by place. Those behind the first `skip` are written, as many as there is room for. A text that a load refuses with
@@ -343,8 +493,9 @@ static inline struct hrazvanut_answer hrazvanut_decide(struct hrazvanut_table ta
     return hrazvanut_abi_ask(hrazvanut_abi_decide, table, question);
 }
 
-/* The same, for bytes of which hrazvanut_is_table has said true and that were not written since: the one precondition of this library. It
- * spares the check, which for a large table takes most of the time. Of other bytes nothing is promised, not even that it stays in bounds. */
+/* The same, for bytes of which hrazvanut_is_table has said true and that were not written since: the one precondition of this library,
+ * here and of the other functions whose names end in _checked. It spares the check, which for a large table takes most of the time. Bytes
+ * that an accepted load wrote need not be checked. Of other bytes nothing is promised, not even that it stays in bounds. */
 static inline struct hrazvanut_answer hrazvanut_decide_checked(struct hrazvanut_table table, const struct hrazvanut_question *question)
 {
     return hrazvanut_abi_ask(hrazvanut_abi_decide_checked, table, question);
@@ -371,6 +522,100 @@ static inline struct hrazvanut_found hrazvanut_find_input(struct hrazvanut_table
 static inline bool hrazvanut_allowed(struct hrazvanut_text text)
 {
     return hrazvanut_abi_allowed(hrazvanut_abi_bytes(text.start, text.length), text.length) == 1;
+}
+
+/* ---- a register: the clients of a gateway over one table
+ *
+ * Begin with a zeroed register, and with a table or with bytes that are none. Lend each call that register and that table: after a reload,
+ * the table that it answers, or the whole room, of which the bytes behind the table do not count. Load again into that same room. Then,
+ * whatever calls were made, as long as nobody else writes the register or the table:
+ *
+ * - each client's right is what hrazvanut_decide would answer now to a question with its names and level, and the readings of the group
+ *   that answers (for a group that is not defined those of DEFAULT); while the bytes are no table it is NONE without trap;
+ * - a client stays as last given until it is changed or removed, a reading as last set until the next accepted reload.
+ *
+ * A refused call changes no byte of the register or of the table. */
+
+/* Adds a client at the lowest free place; a place whose client was removed is free. It needs no table. Refused: 23 a name over 60 bytes,
+ * then 21 a level neither 0 nor 1, then 24 all places taken. */
+static inline struct hrazvanut_entered hrazvanut_add_client(struct hrazvanut_register *reg, struct hrazvanut_table table,
+                                                            const struct hrazvanut_client *client)
+{
+    return hrazvanut_abi_enter(hrazvanut_abi_add, reg, table, client);
+}
+
+/* The same without the check of the table: see hrazvanut_decide_checked. */
+static inline struct hrazvanut_entered hrazvanut_add_client_checked(struct hrazvanut_register *reg, struct hrazvanut_table table,
+                                                                    const struct hrazvanut_client *client)
+{
+    return hrazvanut_abi_enter(hrazvanut_abi_add_checked, reg, table, client);
+}
+
+/* Gives the client at a place all its parts anew. It needs no table. Refused: 25 no client there, as at every place over 63, then 23 and 21
+ * as above. */
+static inline struct hrazvanut_entered hrazvanut_change_client(struct hrazvanut_register *reg, struct hrazvanut_table table, size_t place,
+                                                               const struct hrazvanut_client *client)
+{
+    return hrazvanut_abi_reenter(hrazvanut_abi_change, reg, table, place, client);
+}
+
+/* The same without the check of the table: see hrazvanut_decide_checked. */
+static inline struct hrazvanut_entered hrazvanut_change_client_checked(struct hrazvanut_register *reg, struct hrazvanut_table table,
+                                                                       size_t place, const struct hrazvanut_client *client)
+{
+    return hrazvanut_abi_reenter(hrazvanut_abi_change_checked, reg, table, place, client);
+}
+
+/* Removes the client at a place; the place is free, and its right NONE without trap. Refused: 25 no client there. */
+static inline struct hrazvanut_entered hrazvanut_remove_client(struct hrazvanut_register *reg, size_t place)
+{
+    uint64_t changed = 0;
+    uint64_t answer = hrazvanut_abi_remove(reg->places, sizeof reg->places, place, &changed, 1);
+    return hrazvanut_abi_entered(answer, place, changed);
+}
+
+/* Sets the reading of a letter (A is 0) of the first access group so named; empty is DEFAULT. It is that group's alone: unlike a question,
+ * it does not go on to DEFAULT. Every reading can be set, never heard too. The rights of the clients that the group answers for follow.
+ * Refused: 20 not a table, then 22 no such group, or no such input in it. */
+static inline struct hrazvanut_reading_set hrazvanut_set_reading(struct hrazvanut_register *reg, struct hrazvanut_table table,
+                                                                 struct hrazvanut_text group, uint32_t letter,
+                                                                 struct hrazvanut_reading reading)
+{
+    return hrazvanut_abi_hear(hrazvanut_abi_set, reg, table, group, letter, reading);
+}
+
+/* The same without the check of the table: see hrazvanut_decide_checked. */
+static inline struct hrazvanut_reading_set hrazvanut_set_reading_checked(struct hrazvanut_register *reg, struct hrazvanut_table table,
+                                                                         struct hrazvanut_text group, uint32_t letter,
+                                                                         struct hrazvanut_reading reading)
+{
+    return hrazvanut_abi_hear(hrazvanut_abi_set_checked, reg, table, group, letter, reading);
+}
+
+/* Loads a text into the room as hrazvanut_load does. Accepted: every reading is never heard, and each client has its right by the new
+ * table. Refused: register, readings and room are as they were, and the table that you had goes on. */
+static inline struct hrazvanut_reloaded hrazvanut_reload(struct hrazvanut_register *reg, struct hrazvanut_text text,
+                                                         struct hrazvanut_room room)
+{
+    uint8_t none = 0;
+    struct hrazvanut_reloaded reloaded;
+    reloaded.changed = 0;
+    reloaded.loaded = hrazvanut_abi_loaded(
+        hrazvanut_abi_reload(reg->places, sizeof reg->places, reg->states, sizeof reg->states, hrazvanut_abi_bytes(text.start, text.length),
+                             text.length, room.length == 0 ? &none : room.start, room.length, &reloaded.changed, 1),
+        room);
+    return reloaded;
+}
+
+/* The right that the client at a place has now: a look at the register, not a decision. NONE without trap at a free place and at every
+ * place over 63. */
+static inline struct hrazvanut_right hrazvanut_right_of(const struct hrazvanut_register *reg, size_t place)
+{
+    uint8_t answer = hrazvanut_abi_right(reg->places, sizeof reg->places, place);
+    struct hrazvanut_right right;
+    right.access = (enum hrazvanut_access)(answer & 3);
+    right.trap = (answer & 4) != 0;
+    return right;
 }
 
 #undef HRAZVANUT_ENUM_TYPE

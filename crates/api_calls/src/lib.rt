@@ -96,7 +96,7 @@ fn call_on_text(
     Reply::Holds(calc::holds(a, rs))
 }
 
-// A call that only reads: it is given the table as &[u8]. Its caller, sequence, has made loads and lists of warnings itself.
+// A call that only reads: it is given the table as &[u8]. Its caller, api_call, has made loads and lists of warnings itself.
 pub fn call_reading(
     what: usize,
     a: &[u8],

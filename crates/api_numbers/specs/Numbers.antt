@@ -2,6 +2,8 @@
 use mathlib.Core.Bool.{Bool, cond}
 use mathlib.Core.Option.{Option, none, some}
 use Prim.Native.Nat.{ℕ, _+_, _*_, min}
+use Rattle.spec_rule.specs.declared.Access.{Access}
+use Rattle.spec_rule.specs.declared.Decision.{Decision}
 use Rattle.spec_rule.specs.Rule.{rank}
 use Rattle.spec_file.specs.Refusal as refusal
 use Rattle.spec_load.specs.declared.Loaded.{Loaded}
@@ -34,9 +36,16 @@ abbrev pub listed-number : Listed → ℕ
 listed-number (listed.Warnings n) = packed n 0 0
 listed-number (listed.Refused k p) = packed p 0 (refusal.number k)
 
--- a question: access in bits 0 and 1, trap in bit 2, and the refusal
+-- access in bits 0 and 1, trap in bit 2
+abbrev pub right-bits : Access → Bool → ℕ
+right-bits a trap = rank a + cond trap 4 0
+
+abbrev pub right-number : Decision → ℕ
+right-number d = right-bits (d .access) (d .trap)
+
+-- a question: these bits, and the refusal
 abbrev pub answer-number : Answer → ℕ
-answer-number a = packed (rank (decision.access-in a) + cond (decision.trap-in a) 4 0) 0 (or-zero (decision.number a))
+answer-number a = packed (right-bits (decision.access-in a) (decision.trap-in a)) 0 (or-zero (decision.number a))
 
 -- where a name stands, and its length
 abbrev pub at-in : Found → ℕ

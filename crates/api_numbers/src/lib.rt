@@ -5,11 +5,12 @@ use spec_file::Refusal;
 use spec_load::Listed;
 use spec_load::Loaded;
 use spec_rule::Access;
+use spec_rule::Decision;
 ghost use mathlib.Core.Path.{_≡_};
 ghost use Prim.Native.Nat.{_<_, min};
 ghost use Rattle.spec_file.specs.Refusal as refusal;
 ghost use Rattle.spec_rule.specs.Rule.{rank};
-ghost use Rattle.api_numbers.specs.Numbers.{packed, load-number, listed-number, answer-number, found-number};
+ghost use Rattle.api_numbers.specs.Numbers.{packed, load-number, listed-number, right-number, answer-number, found-number};
 
 fn at_most(n: usize, most: u32) -> u64
     ensures { λ r. ⌜ r ≡ min n most ⌝ }
@@ -18,8 +19,8 @@ fn at_most(n: usize, most: u32) -> u64
     if n < m { n as u64 } else { most as u64 }
 }
 
-// 32 bits, 16 bits, and a refusal's number.
-fn packed(first: usize, second: usize, number: u64) -> u64
+// 32 bits, 16 bits, and a refusal's number. Inner: api_register and the functions here call it, with numbers of refusals.
+pub fn packed(first: usize, second: usize, number: u64) -> u64
     requires { ⌜ number < 256 ⌝ }
     ensures { λ r. ⌜ r ≡ packed first second number ⌝ }
 {
@@ -45,6 +46,13 @@ fn refusal_number(k: Refusal) -> u64
     }
 }
 
+// A load's refusal with its place.
+pub fn refused_load(k: Refusal, place: usize) -> u64
+    ensures { λ r. ⌜ r ≡ packed place 0 (refusal.number k) ⌝ }
+{
+    packed(place, 0, refusal_number(k))
+}
+
 pub fn load_number(l: Loaded) -> u64
     ensures { λ r. ⌜ r ≡ load-number l ⌝ }
 {
@@ -63,7 +71,7 @@ pub fn listed_number(l: Listed) -> u64
     }
 }
 
-fn access_number(a: Access) -> usize
+fn access_number(a: Access) -> u8
     ensures { λ r. ⌜ r ≡ rank a ⌝ }
 {
     match a {
@@ -73,18 +81,21 @@ fn access_number(a: Access) -> usize
     }
 }
 
+pub fn right_number(d: Decision) -> u8
+    ensures { λ r. ⌜ r ≡ right-number d ⌝ }
+{
+    let access = d.access;
+    let low = access_number(access);
+    if d.trap { low + 4 } else { low }
+}
+
 pub fn answer_number(a: Answer) -> u64
     ensures { λ r. ⌜ r ≡ answer-number a ⌝ }
 {
     match a {
         Answer::Answered(d) => {
-            let access = d.access;
-            let low = access_number(access);
-            if d.trap {
-                packed(low + 4, 0, 0)
-            } else {
-                packed(low, 0, 0)
-            }
+            let right = right_number(d);
+            packed(right as usize, 0, 0)
         }
         Answer::NotTable => packed(0, 0, 20),
         Answer::BadLevel => packed(0, 0, 21),

@@ -4,7 +4,7 @@ ghost use mathlib.Core.Path.{_≡_};
 ghost use Prim.Native.Nat.{_+_};
 ghost use lib.ListN.{getD};
 ghost use lib.Ieee.{nan};
-ghost use Rattle.api_readings.specs.Readings.{reading, readings};
+ghost use Rattle.spec_calc.specs.States.{reading, readings};
 
 pub fn reading(state: u8, value: f64) -> Reading
     ensures { λ r. ⌜ r ≡ reading state value ⌝ }

@@ -5,7 +5,7 @@ use lib.ListN.{length, getD}
 use lib.Ieee.{Float}
 use Rattle.spec_rule.specs.Question.{question-of}
 use Rattle.spec_calc.specs.declared.Reading.{Reading}
-use Rattle.api_readings.specs.Readings.{readings}
+use Rattle.spec_calc.specs.States.{readings}
 use Rattle.load_tokens.specs.Arrays.{between}
 use Rattle.spec_demand.specs.Calls.{Call, load-text, list-warnings, check-table, ask, ask-checked, find-input, find-input-checked, look-up-name}
 use Rattle.spec_demand.specs.Calls.{allow, calculate, hold}

@@ -46,7 +46,7 @@ fn part<'a>(pool: &'a [u8], from: usize, to: usize) -> &'a [u8]
     &pool[from..to]
 }
 
-// The j-th word of the i-th call. The caller, sequence, asks for calls that stand in the script whole.
+// The j-th word of the i-th call. The caller, api_call, asks for calls that stand in the script whole.
 pub fn word(script: &[usize], i: usize, j: usize) -> usize
     requires { ⌜ (i * 16 + 16 ≤ length (now script)) × (j < 16) ⌝ }
     ensures { λ r. ⌜ r ≡ word (now (script .entry)) i j ⌝ }
@@ -61,7 +61,7 @@ pub fn level(levels: &[u32], i: usize) -> u32
     if i < levels.len() { levels[i] } else { 0 }
 }
 
-// The text that the j-th word of the i-th call and the next give. The caller, sequence, asks for calls that stand whole, and for words that a call has.
+// The text that the j-th word of the i-th call and the next give. The caller, api_call, asks for calls that stand whole, and for words that a call has.
 pub fn text_at<'a>(script: &[usize], pool: &'a [u8], i: usize, j: usize) -> &'a [u8]
     requires { ⌜ (i * 16 + 16 ≤ length (now script)) × (j + 1 < 16) ⌝ }
     ensures { λ r. ⌜ now r ≡ text-at (now (script .entry)) (now (pool .entry)) i j ⌝ }

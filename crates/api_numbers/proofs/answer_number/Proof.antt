@@ -1,8 +1,7 @@
-use native.Mathlib.Omega.{arith}
-use Prim.Native.Nat.{ℕ, _+_}
-use mathlib.Core.Path.{_∙_, ap, sym}
+use Rattle.api_numbers.specs.laws.Numbers.{answered-is}
 use Rattle.api_numbers.specs.Numbers.{packed, answer-number}
-use Rattle.api_numbers.specs.laws.Numbers.{rank-small, trap-is, no-trap-is}
+use mathlib.Core.Path.{_∙_, ap, sym}
+use Prim.Native.Nat.{ℕ}
 use borrow.Author.Needs.{needs}
 use Rattle.api_numbers.proofs.answer_number.Statement.{statement}
 use Rattle.api_numbers.proofs.answer_number.Tie as tie
@@ -10,66 +9,48 @@ use Rattle.api_numbers.proofs.answer_number.Tie as tie
 enum-known-a : tie.Need-enum-known-a
 enum-known-a c = search needs
 
-access-number-requires : tie.Need-access-number-requires
-access-number-requires c κs = search needs
+right-number-requires : tie.Need-right-number-requires
+right-number-requires c κs = search needs
 
-add-packed : tie.Need-add-packed
-add-packed c = omega (arith, c .before .access-number .ensures, rank-small (c .before .before .before .a .given .0 .0 .access))
+cast-packed : tie.Need-cast-packed
+cast-packed c = search needs
 
 packed-requires : tie.Need-packed-requires
 packed-requires c κs = search needs
 
-packed-requires-2 : tie.Need-packed-requires-2
-packed-requires-2 c κs = search needs
-
 enum-told : tie.Need-enum-told
 enum-told c = search needs
 
-packed-requires-3 : tie.Need-packed-requires-3
-packed-requires-3 c κs = search needs
+packed-requires-2 : tie.Need-packed-requires-2
+packed-requires-2 c κs = search needs
 
 enum-told-2 : tie.Need-enum-told-2
 enum-told-2 c = search needs
 
-packed-requires-4 : tie.Need-packed-requires-4
-packed-requires-4 c κs = search needs
+packed-requires-3 : tie.Need-packed-requires-3
+packed-requires-3 c κs = search needs
 
 returns : tie.Need-returns
-returns c =
-    let at-access-number = c .before .before in
-    let at-a = at-access-number .before .before in
-    c .packed .ensures
-    ∙ ap (λ (n : ℕ). packed (n + 4) 0 0) (at-access-number .access-number .ensures)
-    ∙ trap-is (c .before .if1 .taken) (at-a .a .given .1)
+returns c = c .packed .ensures ∙ ap (λ (n : ℕ). packed n 0 0) (c .before .right-number .ensures) ∙ answered-is (c .before .before .before .a .given .1)
 
 returns-2 : tie.Need-returns-2
-returns-2 c =
-    let at-access-number = c .before .before in
-    let at-a = at-access-number .before .before in
-    c .packed2 .ensures
-    ∙ ap (λ (n : ℕ). packed n 0 0) (at-access-number .access-number .ensures)
-    ∙ no-trap-is (c .before .if1 .left) (at-a .a .given .1)
+returns-2 c = c .packed2 .ensures ∙ sym (ap answer-number (c .before .enum-told .given .1))
 
 returns-3 : tie.Need-returns-3
-returns-3 c = c .packed3 .ensures ∙ sym (ap answer-number (c .before .enum-told .given .1))
-
-returns-4 : tie.Need-returns-4
-returns-4 c = c .packed4 .ensures ∙ sym (ap answer-number (c .before .enum-told2 .given .1))
+returns-3 c = c .packed3 .ensures ∙ sym (ap answer-number (c .before .enum-told2 .given .1))
 
 pub answer-number-spec : {M : Type 1} → statement M
 answer-number-spec =
     tie.close
     (tie.spec
     enum-known-a
-    access-number-requires
-    add-packed
+    right-number-requires
+    cast-packed
     packed-requires
-    packed-requires-2
     enum-told
-    packed-requires-3
+    packed-requires-2
     enum-told-2
-    packed-requires-4
+    packed-requires-3
     returns
     returns-2
-    returns-3
-    returns-4)
+    returns-3)

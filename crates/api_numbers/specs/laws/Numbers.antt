@@ -1,5 +1,5 @@
 -- Laws of the numbers of answers.
-use mathlib.Core.Path.{_≡_, sym, ap}
+use mathlib.Core.Path.{_≡_, refl, sym, ap}
 use mathlib.Core.Bool.{Bool, true, false}
 use Prim.Native.Nat.{ℕ, _+_, _≤_, _<_}
 use native.Mathlib.Omega.{arith}
@@ -18,7 +18,7 @@ use Rattle.spec_decision.specs.declared.Answer.{Answer}
 use Rattle.spec_decision.specs.declared.Answer.the-variants as answer
 use Rattle.spec_decision.specs.declared.Found.{Found}
 use Rattle.spec_decision.specs.declared.Found.the-variants as found
-use Rattle.api_numbers.specs.Numbers.{packed, load-number, listed-number, answer-number, found-number}
+use Rattle.api_numbers.specs.Numbers.{packed, load-number, listed-number, right-number, answer-number, found-number}
 
 pub refusal-small : (k : Refusal) → refusal.number k < 256
 refusal-small cause.FileTooLong = omega arith
@@ -50,12 +50,14 @@ listed-is e = sym (ap listed-number e)
 pub listed-refused : {l : Listed} {k : Refusal} {p : ℕ} → l ≡ listed.Refused k p → packed p 0 (refusal.number k) ≡ listed-number l
 listed-refused e = sym (ap listed-number e)
 
-module _ {x : Answer} {d : Decision} where
-  pub trap-is : d .trap ≡ true → x ≡ answer.Answered d → packed (rank (d .access) + 4) 0 0 ≡ answer-number x
-  trap-is b e = rw (e, b)
+pub trap-is : (d : Decision) → d .trap ≡ true → rank (d .access) + 4 ≡ right-number d
+trap-is d b = rw b refl
 
-  pub no-trap-is : d .trap ≡ false → x ≡ answer.Answered d → packed (rank (d .access)) 0 0 ≡ answer-number x
-  no-trap-is b e = rw (e, b) (ap (λ (n : ℕ). packed n 0 0) (omega arith))
+pub no-trap-is : (d : Decision) → d .trap ≡ false → rank (d .access) ≡ right-number d
+no-trap-is d b = rw b (omega arith)
+
+pub answered-is : {x : Answer} {d : Decision} → x ≡ answer.Answered d → packed (right-number d) 0 0 ≡ answer-number x
+answered-is e = sym (ap answer-number e)
 
 pub found-is : {x : Found} {at n : ℕ} → x ≡ found.Part at n → packed at n 0 ≡ found-number x
 found-is e = sym (ap found-number e)

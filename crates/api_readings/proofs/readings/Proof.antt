@@ -1,5 +1,5 @@
 use Rattle.api_readings.specs.laws.Readings.{Stand-to, stand-none, stand-more, stand-all}
-use Rattle.api_readings.specs.Readings.{reading}
+use Rattle.spec_calc.specs.States.{reading}
 use native.Mathlib.Omega.{arith}
 use Prim.Native.Nat.{_-_}
 use mathlib.Core.Path.{refl, ap₂, _∙_}

@@ -10,7 +10,7 @@ use lib.Ieee.{Float}
 use borrow.Author.Tests.{eq-eqb, ne-eqb}
 use Rattle.spec_calc.specs.declared.Reading.{Reading}
 use Rattle.spec_calc.specs.declared.Reading.the-variants.{NeverHeard, Invalid, Value}
-use Rattle.api_readings.specs.Readings.{reading, reading-at, readings-from, readings}
+use Rattle.spec_calc.specs.States.{reading, reading-at, readings-from, readings}
 
 -- what stands in a list does not depend on what would stand beyond it
 pub getD-within : {A : Type 0} (xs : List A) (i : ℕ) (d e : A) → i < length xs → getD xs i d ≡ getD xs i e

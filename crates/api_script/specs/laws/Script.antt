@@ -16,7 +16,7 @@ use Rattle.spec_load.specs.declared.Listed.{Listed}
 use Rattle.spec_load.specs.Load.{Result, load}
 use Rattle.spec_load.specs.Listing.{Listing, listed-by, listing}
 use Rattle.spec_demand.specs.Calls.{load-text, list-warnings, hold}
-use Rattle.api_readings.specs.Readings.{readings}
+use Rattle.spec_calc.specs.States.{readings}
 use Rattle.api_script.specs.declared.Reply.{Reply}
 use Rattle.api_script.specs.declared.Reply.the-variants as reply
 use Rattle.api_script.specs.Script.{Script, word, text-at, reading-calls, call-of, call-at, calls-from, calls}

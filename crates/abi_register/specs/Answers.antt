@@ -1,0 +1,17 @@
+-- What adding and changing a client in C answers, and the places that it leaves.
+use mathlib.Core.Path.{_≡_}
+use mathlib.Core.List.{List}
+use Prim.Native.Nat.{ℕ}
+use Rattle.spec_register.specs.Register.{Client}
+use Rattle.spec_places.specs.Storage.{Lent}
+use Rattle.spec_places.specs.Calls.{told-added, places-added, told-changed, places-changed}
+use Rattle.api_register.specs.Numbers.{Tells-added, Tells-changed}
+
+-- in each: the lent storage, and the call's words; then the places as they are left, the lent word before and after, and the number
+pub record Adds (s : Lent) (c : Client) (places word word′ : List ℕ) (r : ℕ) : Type 0 where
+  pub told : Tells-added (told-added s c) word word′ r
+  pub left : places ≡ places-added s c
+
+pub record Changes (s : Lent) (p : ℕ) (c : Client) (places word word′ : List ℕ) (r : ℕ) : Type 0 where
+  pub told : Tells-changed (told-changed s p c) word word′ r
+  pub left : places ≡ places-changed s p c
