@@ -16,7 +16,7 @@ fn answer(rules: &[u8], path: &[u8]) {
     libc::close(fd);
 }
 
-// A line of the index: four digits.
+// A line of the index: the four bytes of a name. A missing file of rules is an empty one, as it is to the asker.
 fn judge(line: &[u8]) {
     if line.len() < 4 {
         return;
@@ -27,7 +27,7 @@ fn judge(line: &[u8]) {
     put(&name);
     put(b"\n");
     let mut text = [0u8; 16385];
-    let n = prog_input::read(&rules, &mut text);
+    let n = prog_input::read_or_empty(&rules, &mut text);
     answer(&text[..n], &questions);
 }
 

@@ -2,12 +2,9 @@
 use prog_output::put;
 use spec_calc::Reading;
 use spec_calc::Worth;
+use vec_bits::peek;
 ghost use Prim.Native.Nat.{_≤_, _<_};
 ghost use lib.ListN.{length};
-
-fn peek(s: &[u8], at: usize) -> u8 {
-    if at < s.len() { s[at] } else { 0 }
-}
 
 // The offset behind the next b, or the end.
 fn behind(s: &[u8], from: usize, b: u8) -> usize
@@ -18,76 +15,18 @@ fn behind(s: &[u8], from: usize, b: u8) -> usize
     if end < s.len() { end + 1 } else { end }
 }
 
-fn hex(b: u8) -> u64
-    ensures { λ r. ⌜ r < 16 ⌝ }
-{
-    match b {
-        b'0'..=b'9' => (b - b'0') as u64,
-        b'a'..=b'f' => (b - b'a') as u64 + 10,
-        _ => 0,
-    }
-}
-
 // Two hexadecimal digits.
 fn byte_at(s: &[u8], at: usize) -> u8
     requires { ⌜ at < 1000 ⌝ }
 {
-    (hex(peek(s, at)) * 16 + hex(peek(s, at + 1))) as u8
+    vec_bits::byte(peek(s, at), peek(s, at + 1))
 }
 
 // Sixteen hexadecimal digits.
 fn bits_at(s: &[u8], at: usize) -> u64
     requires { ⌜ at ≤ length (now s) ⌝ }
 {
-    let t = &s[at..];
-    let mut n: u64 = 0;
-    let mut i = 0;
-    while i < 16 {
-        n = n % 0x1000_0000_0000_0000 * 16 + hex(peek(t, i));
-        i += 1;
-    }
-    n
-}
-
-// x times 2, or by 2, n times.
-fn scaled(x: f64, by: f64, n: u64) -> f64 {
-    let mut y = x;
-    let mut left = n;
-    while 0 < left {
-        y = y * by;
-        left -= 1;
-    }
-    y
-}
-
-// The binary64 value of some bits. Each step is exact: the value itself has them.
-fn magnitude(bits: u64) -> f64 {
-    let e = bits / 0x10_0000_0000_0000 % 2048;
-    let m = bits % 0x10_0000_0000_0000;
-    if e == 2047 {
-        if m == 0 {
-            return 1.0 / 0.0;
-        }
-        return 0.0 / 0.0;
-    }
-    if e == 0 {
-        return scaled(std::num::nearest_u64_to_f64(m), 0.5, 1074);
-    }
-    let x = std::num::nearest_u64_to_f64(0x10_0000_0000_0000 + m);
-    if e < 1075 {
-        scaled(x, 0.5, 1075 - e)
-    } else {
-        scaled(x, 2.0, e - 1075)
-    }
-}
-
-fn from_bits(bits: u64) -> f64 {
-    let x = magnitude(bits);
-    if bits / 0x8000_0000_0000_0000 == 0 {
-        x
-    } else {
-        -x
-    }
+    vec_bits::bits(&s[at..])
 }
 
 // A reading: never heard, invalid, or bits.
@@ -97,7 +36,7 @@ fn reading_at(s: &[u8], at: usize) -> Reading
     match peek(s, at) {
         b'-' => Reading::NeverHeard,
         b'i' => Reading::Invalid,
-        _ => Reading::Value(from_bits(bits_at(s, at))),
+        _ => Reading::Value(vec_bits::from_bits(bits_at(s, at))),
     }
 }
 
@@ -139,7 +78,7 @@ fn value_written(x: f64, s: &[u8], at: usize) -> bool
     if peek(s, at) == b'n' {
         x != x
     } else {
-        same(x, from_bits(bits_at(s, at)))
+        same(x, vec_bits::from_bits(bits_at(s, at)))
     }
 }
 

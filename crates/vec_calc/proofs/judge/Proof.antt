@@ -6,9 +6,7 @@ use Rattle.vec_calc.proofs.judge.Statement.{statement}
 use Rattle.vec_calc.proofs.judge.Tie as tie
 use Rattle.vec_calc.proofs.judge.Reads as reads
 use Rattle.vec_calc.proofs.judge.Lts as lts
-use Rattle.vec_calc.proofs.byte_at.Reads as byte-at-reads
 use Rattle.vec_calc.proofs.judge_text.Reads as judge-text-reads
-use Rattle.vec_calc.proofs.peek.Reads as peek-reads
 
 abbrev Inv-loop : tie.InvT-loop
 Inv-loop line text₀ n₀ text n = (n ≤ 128) × (length text ≡ 128)

@@ -1,8 +1,6 @@
 use borrow.Author.Needs.{needs}
-use Rattle.vec_calc.proofs.scaled.Statement.{statement}
-use Rattle.vec_calc.proofs.scaled.Tie as tie
-use Rattle.vec_calc.proofs.scaled.Reads as reads
-use Rattle.vec_calc.proofs.scaled.Lts as lts
+use Rattle.vec_bits.proofs.scaled.Statement.{statement}
+use Rattle.vec_bits.proofs.scaled.Tie as tie
 
 abbrev Inv-loop : tie.InvT-loop
 Inv-loop x by n y₀ left₀ y left = Unit {0}
