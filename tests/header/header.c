@@ -1,20 +1,15 @@
-/* Every function of include/hrazvanut.h, as a caller has it. Compiled as C99, C11 and C++17. */
+/* Every function of include/hrazvanut.h, as a caller has it; those of a register stand in register.c. Compiled as C99, C11, C++11 and
+ * C++17. */
 #include <math.h>
 #include <stdio.h>
 #include <stdlib.h>
 #include <string.h>
 
-#include "hrazvanut.h"
-
-#ifdef __cplusplus
-#define ZERO {}
-#else
-#define ZERO {0}
-#endif
+#include "check.h"
 
 static unsigned long checks, wrong;
 
-static void check(bool good, const char *what, int line)
+void check(bool good, const char *what, int line)
 {
     checks++;
     if (!good) {
@@ -22,7 +17,6 @@ static void check(bool good, const char *what, int line)
         printf("line %d: %s\n", line, what);
     }
 }
-#define CHECK(what) check((what), #what, __LINE__)
 
 static uint8_t lent[HRAZVANUT_TABLE + 16];
 
@@ -53,15 +47,15 @@ static bool is_text(struct hrazvanut_text text, const char *s)
 
 static void words(void)
 {
-    static const int known[] = {0, 1, 2, 3, 4, 5, 6, 7, 8, 9, 10, 11, 20, 21, 22};
+    static const int known[] = {0, 1, 2, 3, 4, 5, 6, 7, 8, 9, 10, 11, 20, 21, 22, 23, 24, 25, 34};
     size_t k = 0;
     int n;
-    CHECK(HRAZVANUT_VERSION == 3000 && HRAZVANUT_VERSION / 1000 == HRAZVANUT_VERSION_MAJOR);
+    CHECK(HRAZVANUT_VERSION == 3001 && HRAZVANUT_VERSION / 1000 == HRAZVANUT_VERSION_MAJOR);
     CHECK(hrazvanut_abi_bytes(NULL, 0) != NULL);
     CHECK(hrazvanut_string(NULL).length == 0);
     CHECK(hrazvanut_string("").length == 0);
     CHECK(is_text(hrazvanut_string("pc1"), "pc1"));
-    for (n = 0; n < 32; n++) {
+    for (n = 0; n < 48; n++) {
         const char *said = hrazvanut_refusal_words((enum hrazvanut_refusal)n);
         bool here = k < sizeof known / sizeof *known && known[k] == n;
         CHECK((strcmp(said, "unknown refusal") != 0) == here);
@@ -69,6 +63,10 @@ static void words(void)
     }
     CHECK(strcmp(hrazvanut_refusal_words(HRAZVANUT_REFUSED_NO_ROOM), "lent table too short") == 0);
     CHECK(strcmp(hrazvanut_refusal_words(HRAZVANUT_REFUSED_NO_INPUT), "no such input in the group") == 0);
+    CHECK(strcmp(hrazvanut_refusal_words((enum hrazvanut_refusal)23), "client's name over 60 bytes") == 0);
+    CHECK(strcmp(hrazvanut_refusal_words((enum hrazvanut_refusal)24), "all 64 places taken") == 0);
+    CHECK(strcmp(hrazvanut_refusal_words((enum hrazvanut_refusal)25), "no client at the place") == 0);
+    CHECK(strcmp(hrazvanut_refusal_words((enum hrazvanut_refusal)34), "not a register") == 0);
 }
 
 /* ---- loads */
@@ -407,6 +405,7 @@ int main(void)
     questions();
     look_ups();
     calculations();
+    registers();
     printf("%lu checks, %lu wrong\n", checks, wrong);
     return wrong != 0;
 }

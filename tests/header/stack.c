@@ -1,5 +1,6 @@
 /* Every call runs in a thread of 256 KiB, on inputs of a megabyte. Each runs in a process of its own, on a stack that is painted before;
- * prints of each function the most that it used, over what a thread uses for nothing, and what ended by a signal. */
+ * prints of each function the most that it used, over what a thread uses for nothing, and what ended by a signal. None may use more than
+ * the 180 KiB that the header names. */
 #define _DEFAULT_SOURCE
 #include <pthread.h>
 #include <stdio.h>
@@ -11,7 +12,7 @@
 
 #include "hrazvanut.h"
 
-enum { STACK = 256 * 1024, GUARD = 64 * 1024, MEGABYTE = 1000 * 1000, PAINT = 0xa5 };
+enum { STACK = 256 * 1024, MOST = 180 * 1024, GUARD = 64 * 1024, MEGABYTE = 1000 * 1000, PAINT = 0xa5 };
 
 /* What a call is given. */
 struct input {
@@ -67,6 +68,59 @@ static void call_find_input(const struct input *in) { hrazvanut_find_input(in->t
 
 static void call_allowed(const struct input *in) { hrazvanut_allowed(in->text); }
 
+/* All places but the last are taken; each process has it anew. */
+static struct hrazvanut_register reg;
+
+static struct hrazvanut_client client_of(const struct input *in)
+{
+    struct hrazvanut_text name = {.start = in->text.start, .length = in->text.length < 60 ? in->text.length : 60};
+    return (struct hrazvanut_client){.group = name, .user = name, .host = name, .level = 1};
+}
+
+static void call_add_client(const struct input *in)
+{
+    struct hrazvanut_client client = client_of(in);
+    hrazvanut_add_client(&reg, in->table, &client);
+    client.host = in->text;
+    hrazvanut_add_client(&reg, in->table, &client);
+}
+
+static void call_change_client(const struct input *in)
+{
+    struct hrazvanut_client client = client_of(in);
+    hrazvanut_change_client(&reg, in->table, 62, &client);
+}
+
+static void call_remove_client(const struct input *in) { hrazvanut_remove_client(&reg, in->text.length % 128); }
+
+static void call_set_reading(const struct input *in)
+{
+    struct hrazvanut_reading reading = {.state = HRAZVANUT_VALUE, .value = 1};
+    struct hrazvanut_text none = {.length = 0};
+    hrazvanut_set_reading(&reg, in->table, none, 0, reading);
+    hrazvanut_set_reading(&reg, in->table, in->text, 0, reading);
+}
+
+static void call_all_checked(const struct input *in)
+{
+    struct hrazvanut_client client = client_of(in);
+    struct hrazvanut_reading reading = {.state = HRAZVANUT_VALUE, .value = 1};
+    struct hrazvanut_text none = {.length = 0};
+    if (!hrazvanut_is_table(in->table))
+        return;
+    hrazvanut_set_reading_checked(&reg, in->table, none, 0, reading);
+    hrazvanut_change_client_checked(&reg, in->table, 62, &client);
+    hrazvanut_add_client_checked(&reg, in->table, &client);
+}
+
+static void call_reload(const struct input *in)
+{
+    struct hrazvanut_room room = {.start = lent, .length = sizeof lent};
+    hrazvanut_reload(&reg, in->text, room);
+}
+
+static void call_right_of(const struct input *in) { hrazvanut_right_of(&reg, in->text.length); }
+
 static const struct call {
     const char *name;
     void (*call)(const struct input *);
@@ -78,6 +132,13 @@ static const struct call {
     {"hrazvanut_decide_checked", call_decide_checked},
     {"hrazvanut_find_input", call_find_input},
     {"hrazvanut_allowed", call_allowed},
+    {"hrazvanut_add_client", call_add_client},
+    {"hrazvanut_change_client", call_change_client},
+    {"hrazvanut_remove_client", call_remove_client},
+    {"hrazvanut_set_reading", call_set_reading},
+    {"these, with _checked", call_all_checked},
+    {"hrazvanut_reload", call_reload},
+    {"hrazvanut_right_of", call_right_of},
 };
 enum { CALLS = sizeof calls / sizeof *calls };
 
@@ -199,6 +260,15 @@ static void make_inputs(void)
     add("zeros", repeated("x", MEGABYTE), (struct hrazvanut_table){.start = calloc(1, MEGABYTE), .length = MEGABYTE});
 }
 
+static void fill_register(void)
+{
+    const struct hrazvanut_client client = {.level = 1};
+    const struct hrazvanut_table none = {.length = 0};
+    for (size_t i = 0; i + 1 < HRAZVANUT_PLACES; i++)
+        if (hrazvanut_add_client(&reg, none, &client).refusal)
+            abort();
+}
+
 int main(void)
 {
     int bad = 0;
@@ -206,6 +276,7 @@ int main(void)
     if (stack == MAP_FAILED || mprotect(stack, GUARD, PROT_NONE))
         return 2;
     make_inputs();
+    fill_register();
     const struct call nothing = {"nothing", call_nothing};
     size_t base = used_by((struct task){.call = &nothing, .input = &inputs[0]});
     for (size_t c = 0; c < CALLS; c++) {
@@ -220,6 +291,10 @@ int main(void)
                 most = used;
         }
         printf("%-26s %6zu bytes of stack at most\n", calls[c].name, most > base ? most - base : 0);
+        if (most > base + MOST) {
+            bad = 1;
+            printf("%s needs more than %d bytes\n", calls[c].name, MOST);
+        }
     }
     return bad;
 }

@@ -6,13 +6,19 @@ static struct hrazvanut_table table;
 static struct hrazvanut_room room;
 static struct hrazvanut_question question;
 static struct hrazvanut_warnings warnings;
+static struct hrazvanut_register reg;
+static struct hrazvanut_client client;
+static struct hrazvanut_reading reading;
 
 int main(void)
 {
 #if WRONG == 0
     return (int)hrazvanut_load(text, room).refusal + (int)hrazvanut_find_input(table, text, 0).refusal +
            (int)hrazvanut_decide(table, &question).refusal + hrazvanut_allowed(text) + hrazvanut_is_table(table) +
-           (int)hrazvanut_list_warnings(text, 0, warnings).refusal;
+           (int)hrazvanut_list_warnings(text, 0, warnings).refusal + (int)hrazvanut_add_client(&reg, table, &client).refusal +
+           (int)hrazvanut_change_client(&reg, table, 0, &client).refusal + (int)hrazvanut_remove_client(&reg, 0).refusal +
+           (int)hrazvanut_set_reading(&reg, table, text, 0, reading).refusal + (int)hrazvanut_reload(&reg, text, room).loaded.refusal +
+           (int)hrazvanut_right_of(&reg, 0).access;
 #elif WRONG == 1
     return (int)hrazvanut_load(room, text).refusal;
 #elif WRONG == 2
@@ -32,5 +38,17 @@ int main(void)
     return 0;
 #elif WRONG == 9
     return (int)hrazvanut_list_warnings(text, warnings, 0).refusal;
+#elif WRONG == 10
+    return (int)hrazvanut_add_client(&reg, table, &question).refusal;
+#elif WRONG == 11
+    return (int)hrazvanut_change_client(&reg, table, &client, 0).refusal;
+#elif WRONG == 12
+    return (int)hrazvanut_set_reading(&reg, table, text, reading, 0).refusal;
+#elif WRONG == 13
+    return (int)hrazvanut_set_reading(&reg, text, table, 0, reading).refusal;
+#elif WRONG == 14
+    return (int)hrazvanut_reload(&reg, room, text).loaded.refusal;
+#elif WRONG == 15
+    return (int)hrazvanut_remove_client(&client, 0).refusal;
 #endif
 }

@@ -7,6 +7,7 @@ use std::path::{Path, PathBuf};
 use std::process::Command;
 
 const NAME: &str = "hrazvanut";
+const SOURCES: [&str; 2] = ["library.c", "register.c"];
 const FLAGS: [&str; 7] = ["-std=c11", "-O2", "-fPIC", "-Wall", "-Wextra", "-Wconversion", "-Werror"];
 
 fn here(path: &str) -> PathBuf {
@@ -28,18 +29,21 @@ fn run(command: &mut Command) {
 /// The calls of the header, as a library for Rust to link.
 fn compile_calls() {
     let out = PathBuf::from(std::env::var_os("OUT_DIR").expect("cargo names a folder"));
-    let (source, object, archive) = (here("src/library.c"), out.join("calls.o"), out.join("libcalls.a"));
-    let compiler = std::env::var("CC").unwrap_or("cc".to_string());
-    run(Command::new(compiler)
-        .args(FLAGS)
-        .arg("-I")
-        .arg(here("../../include"))
-        .arg("-c")
-        .arg(source)
-        .arg("-o")
-        .arg(&object));
+    let archive = out.join("libcalls.a");
     let _ = std::fs::remove_file(&archive);
-    run(Command::new("ar").arg("rcs").arg(&archive).arg(&object));
+    let compiler = std::env::var("CC").unwrap_or("cc".to_string());
+    for source in SOURCES {
+        let object = out.join(source).with_extension("o");
+        run(Command::new(&compiler)
+            .args(FLAGS)
+            .arg("-I")
+            .arg(here("../../include"))
+            .arg("-c")
+            .arg(here("src").join(source))
+            .arg("-o")
+            .arg(&object));
+        run(Command::new("ar").arg("rcs").arg(&archive).arg(&object));
+    }
     println!("cargo:rustc-link-search=native={}", out.display());
     println!("cargo:rustc-link-lib=static=calls");
 }
@@ -49,7 +53,9 @@ fn main() {
     println!("cargo:rerun-if-env-changed=HRAZVANUT_LIB");
     println!("cargo:rerun-if-env-changed=CC");
     println!("cargo:rerun-if-changed=build.rs");
-    println!("cargo:rerun-if-changed=src/library.c");
+    for source in SOURCES {
+        println!("cargo:rerun-if-changed=src/{source}");
+    }
     println!("cargo:rerun-if-changed={}", here("../../include/hrazvanut.h").display());
     if std::env::var_os("CARGO_FEATURE_STUB").is_some() {
         compile_calls();

@@ -2,6 +2,8 @@
 //! 3.17.6 (EPICS 7.0.3.1), opened as the program runs. Debian has no headers;
 //! the layouts are those of x86-64.
 
+pub mod clients;
+
 use std::ffi::{c_char, c_int, c_long, c_ulong, c_void, CStr, CString};
 use std::ptr::null_mut;
 
@@ -112,12 +114,6 @@ impl Asked {
     }
 }
 
-/// A client that is known to EPICS, to be computed again and again.
-pub struct Known {
-    epics: Epics,
-    client: *mut Client,
-}
-
 unsafe fn function<F: Copy>(library: *mut c_void, name: &CStr) -> Option<F> {
     let found = dlsym(library, name.as_ptr());
     // A function's address is a pointer's size here.
@@ -170,40 +166,31 @@ impl Epics {
         }
     }
 
-    /// A client that stays, to be computed.
-    pub fn know(&self, asked: &mut Asked) -> Option<Known> {
-        let mut member: *mut Member = null_mut();
-        let mut client: *mut Client = null_mut();
-        // SAFETY: as above; both stay until the program's end.
-        unsafe { self.admit(asked, &mut member, &mut client)? };
-        Some(Known { epics: *self, client })
-    }
-
     unsafe fn admit(
         &self,
         asked: &mut Asked,
         member: &mut *mut Member,
         client: &mut *mut Client,
     ) -> Option<()> {
+        self.open_group(asked, member)?;
+        self.connect(asked, *member, client)
+    }
+
+    /// The group by its name, with its readings and calculations.
+    unsafe fn open_group(&self, asked: &Asked, member: &mut *mut Member) -> Option<()> {
         if (self.add_member)(member, asked.group.as_ptr()) != 0 {
             return None;
         }
         let group = (**member).group;
         put_readings(group, asked.values);
         (self.compute_group)(group);
-        let (user, host) = (asked.user.as_ptr(), asked.host.as_mut_ptr().cast());
-        ((self.add_client)(client, *member, asked.level, user, host) == 0).then_some(())
+        Some(())
     }
-}
 
-impl Known {
-    /// asCompute: the rules anew, with the calculations' last results.
-    pub fn compute(&self) -> u8 {
-        // SAFETY: the client was made by EPICS and stays.
-        unsafe {
-            (self.epics.compute)(self.client);
-            (*self.client).access as u8
-        }
+    /// The client keeps pointers to the names.
+    unsafe fn connect(&self, asked: &mut Asked, member: *mut Member, client: &mut *mut Client) -> Option<()> {
+        let (user, host) = (asked.user.as_ptr(), asked.host.as_mut_ptr().cast());
+        ((self.add_client)(client, member, asked.level, user, host) == 0).then_some(())
     }
 }
 

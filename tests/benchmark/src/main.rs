@@ -7,10 +7,12 @@ mod epics;
 mod files;
 mod measure;
 mod ratios;
+mod register;
 
+use epics::clients::Clients;
 use epics::{Asked, Epics};
 use files::Sample;
-use measure::{times, Timed};
+use measure::{times, Time, Timed};
 use paper::{Access, Question, Reading, LETTERS, TABLE_BYTES};
 use ratios::{Kind, Ratios};
 use std::ffi::CString;
@@ -96,14 +98,14 @@ impl Prepared<'_> {
     /// A line of times: library, `paper`, and EPICS if it is the third.
     fn row(&self, name: &str, epics_name: &str, mut timed: Vec<Timed>) -> Option<[f64; 2]> {
         let times = times(&mut timed, self.rounds);
-        let columns: String = times.iter().map(|t| format!("{:11.0}{:9.0}", t.median, t.best)).collect();
-        let Some(epics) = times.get(2) else {
-            println!("  {name:34}{columns}");
-            return None;
-        };
-        let ratio = [times[0].median / epics.median, times[0].best / epics.best];
-        println!("  {name:34}{columns}{:8.2}{:7.2}  {epics_name}", ratio[0], ratio[1]);
-        Some(ratio)
+        line(name, epics_name, times[0], times.get(1), times.get(2))
+    }
+
+    /// A line of times: library, and EPICS if it is there.
+    fn beside(&self, name: &str, epics_name: &str, library: Timed, epics: Option<Timed>) -> Option<[f64; 2]> {
+        let mut timed: Vec<Timed> = [library].into_iter().chain(epics).collect();
+        let times = times(&mut timed, self.rounds);
+        line(name, epics_name, times[0], None, times.get(1))
     }
 
     fn loads(&self, ratios: &mut Ratios) {
@@ -165,7 +167,8 @@ impl Prepared<'_> {
         timed.extend(self.epics_question());
         let row = self.row("question, table checked each time", "a whole question", timed);
         ratios.note(Kind::QuestionAndCheck, self.sample.name, row);
-        if let Some(known) = self.epics.and_then(|e| e.know(&mut self.epics_asked())) {
+        if let Some(known) = self.epics.and_then(|e| Clients::new(e, self.epics_asked(), 1)) {
+            assert_eq!(known.compute(), 2);
             let mut timed = self.checked_questions();
             timed.push(Timed::new(move || {
                 black_box(known.compute());
@@ -196,6 +199,27 @@ impl Prepared<'_> {
     }
 }
 
+/// Prints a line, and answers the ratios to EPICS.
+fn line(
+    name: &str,
+    epics_name: &str,
+    library: Time,
+    paper: Option<&Time>,
+    epics: Option<&Time>,
+) -> Option<[f64; 2]> {
+    let number = |t: f64| if t < 100.0 { format!("{t:.1}") } else { format!("{t:.0}") };
+    let column = |t: &Time| format!("{:>11}{:>9}", number(t.median), number(t.best));
+    let paper = paper.map_or(" ".repeat(20), column);
+    let Some(epics) = epics else {
+        println!("  {name:42}{}{paper}", column(&library));
+        return None;
+    };
+    let ratio = [library.median / epics.median, library.best / epics.best];
+    let columns = column(&library) + &paper + &column(epics);
+    println!("  {name:42}{columns}{:8.2}{:7.2}  {epics_name}", ratio[0], ratio[1]);
+    Some(ratio)
+}
+
 fn main() {
     if !library::LINKED {
         eprintln!("benchmark: the static library was not there when this was built");
@@ -213,12 +237,13 @@ fn main() {
         let (bytes, table) = (sample.text.len(), prepared.table.len());
         println!("\n{}: {bytes} bytes, {rules} rules, a table of {table} bytes", sample.name);
         let column = |name: &str| format!("{name:>11}{:>9}", "best");
-        let head = format!("  {:34}{}{}", "", column("library"), column("paper"));
+        let head = format!("  {:42}{}{}", "", column("library"), column("paper"));
         let beside = if epics.is_some() { column("EPICS") + "   ratio   best" } else { String::new() };
         println!("{head}{beside}");
         prepared.loads(&mut ratios);
         prepared.checks();
         prepared.questions(&mut ratios);
+        prepared.register(&mut ratios);
     }
     if epics.is_some() {
         println!("\n{ratios}");

@@ -6,14 +6,19 @@ use std::time::Instant;
 /// on the machine falls into few of them.
 const BATCH_NS: f64 = 1e5;
 
-/// Something to be timed.
+/// Something to be timed, of which a run does so many.
 pub struct Timed<'a> {
-    pub run: Box<dyn FnMut() + 'a>,
+    run: Box<dyn FnMut() + 'a>,
+    each: usize,
 }
 
 impl<'a> Timed<'a> {
     pub fn new(run: impl FnMut() + 'a) -> Timed<'a> {
-        Timed { run: Box::new(run) }
+        Timed::many(1, run)
+    }
+
+    pub fn many(each: usize, run: impl FnMut() + 'a) -> Timed<'a> {
+        Timed { run: Box::new(run), each }
     }
 
     /// Nanoseconds for one of `count` runs.
@@ -53,7 +58,7 @@ pub fn times(timed: &mut [Timed], rounds: usize) -> Vec<Time> {
     let mut found = vec![Vec::new(); timed.len()];
     for _ in 0..rounds {
         for ((one, count), times) in timed.iter_mut().zip(&counts).zip(&mut found) {
-            times.push(one.batch(*count));
+            times.push(one.batch(*count) / one.each as f64);
         }
     }
     found.into_iter().map(of_batches).collect()

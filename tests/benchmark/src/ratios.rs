@@ -9,6 +9,10 @@ pub enum Kind {
     LoadCleared,
     Question,
     QuestionAndCheck,
+    /// With so many clients.
+    Reading(usize),
+    Client,
+    Reload,
 }
 
 /// Of each kind the greatest ratio of medians and of bests, with its sample.
@@ -33,10 +37,13 @@ impl fmt::Display for Ratios {
         let mut mark = ':';
         for (kind, [median, best]) in &self.0 {
             let name = match kind {
-                Kind::Load => "load",
-                Kind::LoadCleared => "load, buffer cleared",
-                Kind::Question => "question",
-                Kind::QuestionAndCheck => "question, table checked each time",
+                Kind::Load => "load".to_string(),
+                Kind::LoadCleared => "load, buffer cleared".to_string(),
+                Kind::Question => "question".to_string(),
+                Kind::QuestionAndCheck => "question, table checked each time".to_string(),
+                Kind::Reading(clients) => format!("a reading set, clients {clients}"),
+                Kind::Client => "a client added and removed".to_string(),
+                Kind::Reload => "reload, clients 64".to_string(),
             };
             write!(f, "{mark} {name} {:.2} ({}) / {:.2} ({})", median.0, median.1, best.0, best.1)?;
             mark = ';';

@@ -1,6 +1,7 @@
 //! The cases: what is made, and what is asked of it.
 
 use crate::compare::{Comparison, Go};
+use crate::{register, stray};
 use inputs::question::{good, Names, Owned};
 use inputs::random::Random;
 use inputs::{calculation, file, question, table};
@@ -9,11 +10,32 @@ use paper::{LETTERS, TABLE_BYTES};
 
 /// One case, of a kind chosen at random.
 pub fn run(random: &mut Random, comparison: &mut Comparison) -> Go {
-    match random.below(20) {
+    match random.below(21) {
         0..=11 => of_file(random, comparison),
         12..=15 => of_table(random, comparison),
         16 | 17 => of_calculation(random, comparison),
-        _ => of_values(random, comparison),
+        18 | 19 => of_values(random, comparison),
+        _ => of_register(random, comparison),
+    }
+}
+
+/// A sequence of calls on a register, over a room that holds no table yet, or a
+/// table, or nearly one.
+fn of_register(random: &mut Random, comparison: &mut Comparison) -> Go {
+    let mut room = match random.below(10) {
+        0..=5 => table_of(&inputs::register::text(random)).unwrap_or_default(),
+        6 => table::free(random),
+        _ => Vec::new(),
+    };
+    if random.percent(10) {
+        table::damage(random, &mut room);
+    }
+    let most = if random.percent(85) { TABLE_BYTES } else { random.below(1500) };
+    room.resize(room.len().max(most), 0);
+    if random.percent(25) {
+        stray::run(random, comparison, room)
+    } else {
+        register::run(random, comparison, room)
     }
 }
 

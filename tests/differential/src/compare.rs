@@ -57,7 +57,7 @@ impl Comparison {
         Comparison { done: 0, limit, census: BTreeMap::new() }
     }
 
-    fn same<T: PartialEq + Debug>(&mut self, paper: T, library: T, input: impl Fn() -> String) -> Go {
+    pub fn same<T: PartialEq + Debug>(&mut self, paper: T, library: T, input: impl Fn() -> String) -> Go {
         if paper != library {
             let answers = format!("paper   {paper:?}\nlibrary {library:?}");
             return Err(Stop::Difference(format!("{}\n{answers}", input())));
@@ -70,7 +70,7 @@ impl Comparison {
         }
     }
 
-    fn count(&mut self, what: String) {
+    pub fn count(&mut self, what: String) {
         *self.census.entry(what).or_default() += 1;
     }
 
@@ -146,7 +146,7 @@ impl Comparison {
 }
 
 /// Where two buffers of one length first differ.
-fn first_difference(ours: &[u8], theirs: &[u8]) -> Option<(isize, u8, u8)> {
+pub fn first_difference(ours: &[u8], theirs: &[u8]) -> Option<(isize, u8, u8)> {
     let place = ours.iter().zip(theirs).position(|(a, b)| a != b)?;
     Some((place as isize - GUARD as isize, ours[place], theirs[place]))
 }

@@ -9,6 +9,9 @@
 
 mod cases;
 mod compare;
+mod register;
+mod slices;
+mod stray;
 
 use compare::{Comparison, Stop};
 use inputs::random::Random;

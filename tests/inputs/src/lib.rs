@@ -1,4 +1,5 @@
-//! Inputs made from a seed: files, tables, questions, calculations, lines.
+//! Inputs made from a seed: files, tables, questions, calculations, lines, calls
+//! on a register.
 #![forbid(unsafe_code)]
 
 pub mod calculation;
@@ -7,6 +8,7 @@ pub mod file;
 pub mod lines;
 pub mod question;
 pub mod random;
+pub mod register;
 pub mod table;
 
 use random::Random;

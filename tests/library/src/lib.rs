@@ -1,5 +1,6 @@
 //! The proved code's static library behind safe functions on slices. What is
-//! called is `library.c`, which calls it by the functions of its header.
+//! called are `library.c` and `register.c`, which call it by the functions of
+//! its header.
 
 #[cfg(feature = "stub")]
 extern crate stub as _;
@@ -81,8 +82,8 @@ pub struct Question<'a> {
 /// The header's struct, which Rust does not look into.
 pub enum Made {}
 
-/// `library.c`, or the same names with nothing behind them, so that the tests
-/// build.
+/// The functions in C, or the same names with nothing behind them, so that the
+/// tests build.
 macro_rules! calls {
     ($(fn $name:ident($($part:ident: $t:ty),* $(,)?) $(-> $answer:ty)?;)*) => {
         #[cfg(linked)]
@@ -102,6 +103,8 @@ macro_rules! calls {
         }
     };
 }
+
+pub mod register;
 
 type In = *const u8;
 

@@ -3,7 +3,8 @@
 //!
 //! The modules follow the paper's headings: `text` (tokens), `grammar`,
 //! `file` (refusals 5 to 10 and warnings), `table` (bytes and check),
-//! `question` (decision and look-up), `calculation`, `programs`.
+//! `question` (decision and look-up), `calculation`, `programs`. `register` is
+//! document 02's first request, `script` its calls as lines.
 #![forbid(unsafe_code)]
 
 pub mod calculation;
@@ -11,11 +12,14 @@ pub mod file;
 pub mod grammar;
 pub mod programs;
 pub mod question;
+pub mod register;
+pub mod script;
 pub mod table;
 pub mod text;
 
 pub use calculation::{allowed, Reading, Readings};
 pub use question::{decide, decide_checked, find_input, Access, Answer, Question};
+pub use register::{Client, Register};
 pub use table::is_table;
 
 /// Limits of refusals 1, 3 and 5.
@@ -33,6 +37,9 @@ pub const TABLE_BYTES: usize = 35_108;
 
 /// Letters A to U.
 pub const LETTERS: usize = 21;
+
+/// Places of the register.
+pub const PLACES: usize = 64;
 
 /// A load's refusal: its number, and its place (for 11 the bytes needed).
 #[derive(Clone, Copy, Debug, PartialEq, Eq)]

@@ -1,7 +1,7 @@
 //! The question: the decision, and the look-up of an input's name.
 
 use crate::calculation::{holds, parse, Readings};
-use crate::table::{is_table, Run, StoredRule, View, ACCESS_GROUPS, UNDEFINED};
+use crate::table::{is_table, Run, StoredRule, Text, View, ACCESS_GROUPS, UNDEFINED};
 use crate::LETTERS;
 
 #[derive(Clone, Copy, Debug, PartialEq, Eq, PartialOrd, Ord)]
@@ -27,7 +27,7 @@ pub struct Question<'a> {
     pub readings: Readings,
 }
 
-const NOTHING: Answer = Answer { access: Access::None, trap: false };
+pub const NOTHING: Answer = Answer { access: Access::None, trap: false };
 
 /// The answer, or refusal 20 or 21.
 pub fn decide(table: &[u8], question: &Question) -> Result<Answer, u8> {
@@ -61,14 +61,16 @@ fn access_of(rule: &StoredRule) -> Access {
     }
 }
 
+/// The first group of that name; an empty name is DEFAULT's.
+pub(crate) fn named_group(view: &View, name: &[u8]) -> Option<usize> {
+    let wanted = if name.is_empty() { b"DEFAULT" } else { name };
+    (0..view.count(ACCESS_GROUPS)).find(|n| view.string(view.access_group(*n).0) == wanted)
+}
+
 /// An empty name goes to DEFAULT, any other to the first group of that name,
 /// or to DEFAULT.
-fn answering_group(view: &View, name: &[u8]) -> Option<usize> {
-    let first = |wanted: &[u8]| {
-        (0..view.count(ACCESS_GROUPS)).find(|n| view.string(view.access_group(*n).0) == wanted)
-    };
-    let named = if name.is_empty() { None } else { first(name) };
-    named.or_else(|| first(b"DEFAULT"))
+pub(crate) fn answering_group(view: &View, name: &[u8]) -> Option<usize> {
+    named_group(view, name).or_else(|| named_group(view, b""))
 }
 
 fn passes(view: &View, rule: &StoredRule, question: &Question) -> bool {
@@ -107,8 +109,13 @@ pub fn find_input(table: &[u8], group: &[u8], letter: u32) -> Result<(usize, usi
     }
     let view = View::open(table).ok_or(20)?;
     let group = answering_group(&view, group).ok_or(22)?;
-    let (_, (first, count), _) = view.access_group(group);
-    let inputs = (first..first + count).map(|n| view.input(n));
-    let (_, name) = inputs.into_iter().find(|(l, _)| *l == letter as usize).ok_or(22)?;
+    let name = first_input(&view, group, letter).ok_or(22)?;
     Ok((view.place(name), name.1))
+}
+
+/// The name of a letter's first input in a group.
+pub(crate) fn first_input(view: &View, group: usize, letter: u32) -> Option<Text> {
+    let (_, (first, count), _) = view.access_group(group);
+    let mut inputs = (first..first + count).map(|n| view.input(n));
+    inputs.find(|(l, _)| *l == letter as usize).map(|(_, name)| name)
 }

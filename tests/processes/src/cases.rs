@@ -1,11 +1,11 @@
 //! The cases: a file for the checker, or rules and lines for the asker.
 
-use crate::compare::{Bench, Go, Rules};
-use crate::process::How;
 use inputs::question::Names;
 use inputs::random::Random;
 use inputs::{every, file, lines};
 use paper::{programs, TABLE_BYTES};
+use processes::compare::{Bench, Go, Rules};
+use processes::process::How;
 
 /// The paper's example.
 const RULES: &[u8] =

@@ -9,12 +9,10 @@
 //! seed is run; -v prints how often each line was to be printed.
 
 mod cases;
-mod compare;
-mod process;
 mod vectors;
 
-use compare::{Bench, Difference, Go};
 use inputs::random::Random;
+use processes::compare::{Bench, Difference, Go};
 use std::path::{absolute, PathBuf};
 use std::process::exit;
 

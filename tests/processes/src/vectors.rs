@@ -1,7 +1,7 @@
 //! The two programs on a folder of vectors: its `check` and its `ask`.
 
-use crate::compare::{Bench, Go, Rules};
-use crate::process::How;
+use processes::compare::{Bench, Go, Rules};
+use processes::process::How;
 use std::path::{Path, PathBuf};
 
 fn bytes(path: &Path) -> Vec<u8> {

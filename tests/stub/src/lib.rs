@@ -3,11 +3,14 @@
 //! which the comparison must find.
 #![allow(clippy::too_many_arguments, clippy::missing_safety_doc)]
 
+mod exports;
+mod register;
+
 use paper::{Access, Answer, Question, Reading, Refusal, LETTERS};
 use std::sync::OnceLock;
 
 /// Whether this fault is the chosen one. 1 to 22 are of the library, 23 to 38
-/// of the asker, 39 to 44 of the checker.
+/// of the asker, 39 to 44 of the checker, 45 to 83 of the library's register.
 pub fn fault(number: u32) -> bool {
     static CHOSEN: OnceLock<u32> = OnceLock::new();
     let chosen = CHOSEN.get_or_init(|| {

@@ -2,7 +2,7 @@
 //! for each difference and one with the counts; exit code 1 on a difference.
 
 use paper::calculation::{holds, parse, value};
-use paper::{programs, Reading, Readings, TABLE_BYTES};
+use paper::{programs, script, Reading, Readings, TABLE_BYTES};
 use std::path::{Path, PathBuf};
 
 #[derive(Default)]
@@ -86,23 +86,11 @@ fn table(folder: &Path, score: &mut Score) {
     }
 }
 
-fn from_hex(text: &str) -> Vec<u8> {
-    let pairs = (0..text.len()).step_by(2).map(|i| &text[i..i + 2]);
-    pairs.map(|p| u8::from_str_radix(p, 16).expect("two hexadecimal digits")).collect()
-}
-
-fn reading(field: &str) -> Reading {
-    match field {
-        "-" => Reading::NeverHeard,
-        "inv" => Reading::Invalid,
-        bits => Reading::Value(f64::from_bits(u64::from_str_radix(bits, 16).expect("sixteen digits"))),
-    }
-}
-
 /// The line as this implementation would have it.
 fn calculation_line(fields: &[&str]) -> String {
-    let Some(tree) = parse(&from_hex(fields[0])) else { return format!("{}\trefused", fields[0]) };
-    let given: Vec<Reading> = fields[4].split(' ').map(reading).collect();
+    let calculation = script::text(fields[0]).expect("a text in hexadecimal");
+    let Some(tree) = parse(&calculation) else { return format!("{}\trefused", fields[0]) };
+    let given: Vec<Reading> = fields[4].split(' ').map(|r| script::reading(r).expect("a reading")).collect();
     let readings: Readings = given.try_into().expect("21 readings");
     let bits = match value(&tree, &readings) {
         None => "bad".to_string(),

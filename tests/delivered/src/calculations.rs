@@ -1,0 +1,118 @@
+//! `calc`: which texts are calculations, their truth, and their values to the
+//! bit. The library tells a value by rules that compare it with a letter.
+
+use crate::questions::{all_readings, as_lent};
+use crate::score::{same, text, Score, Verdict};
+use library::Asked;
+use paper::calculation::{holds, parse, value};
+use paper::{script, Reading, Readings, CALCULATION_BYTES, LETTERS, TABLE_BYTES};
+use std::path::Path;
+
+/// Each line is a vector.
+pub fn run(path: &Path, score: &mut Score) {
+    match text(path) {
+        Ok(lines) => {
+            for (number, line) in lines.lines().enumerate() {
+                score.vector(&format!("calculation {}", number + 1), one(line));
+            }
+        }
+        Err(what) => score.stray(path, &what),
+    }
+}
+
+fn one(line: &str) -> Verdict {
+    let fields: Vec<&str> = line.split('\t').collect();
+    let calculation = script::text(fields[0]).ok_or("not in hexadecimal")?;
+    match fields[..] {
+        [_, "refused"] => {
+            same("paper", false, paper::allowed(&calculation))?;
+            same("library", false, library::allowed(&calculation))
+        }
+        [_, "allowed", result, truth, readings] => {
+            same("paper", true, paper::allowed(&calculation))?;
+            same("library", true, library::allowed(&calculation))?;
+            let readings = all_readings(readings, ' ')?;
+            by_paper(&calculation, result, truth, &readings)?;
+            by_library(&calculation, result, truth, &readings)
+        }
+        _ => Err(format!("not a line of calc: {line}")),
+    }
+}
+
+fn by_paper(calculation: &[u8], result: &str, truth: &str, readings: &Readings) -> Verdict {
+    let tree = parse(calculation).ok_or("paper refuses it")?;
+    let found = match value(&tree, readings) {
+        None => "bad".to_string(),
+        Some(v) if v.is_nan() => "nan".to_string(),
+        Some(v) => format!("{:016x}", v.to_bits()),
+    };
+    same("paper's value", result, &found)?;
+    same("paper's truth", truth, &holds(&tree, readings).to_string())
+}
+
+/// The truth, and the value: that of a text is the one that it equals.
+fn by_library(calculation: &[u8], result: &str, truth: &str, readings: &Readings) -> Verdict {
+    same("library's truth", Some(truth == "true"), is_true(calculation, readings))?;
+    let Some(letter) = unused(calculation) else { return Ok(()) };
+    let mut readings = *readings;
+    readings[letter] = Reading::Value(0.0);
+    if result == "bad" || result == "nan" {
+        return equals_nothing(calculation, letter, &readings);
+    }
+    let bits = u64::from_str_radix(result, 16).map_err(|_| format!("{result} is no value"))?;
+    let expected = f64::from_bits(bits);
+    let negative = compared("1/(", calculation, ")<0");
+    let letter_name = char::from(b'A' + letter as u8);
+    let equal = if expected.is_infinite() {
+        compared("(", calculation, if expected > 0.0 { ")=1/0" } else { ")=-1/0" })
+    } else {
+        readings[letter] = Reading::Value(expected);
+        compared("(", calculation, &format!(")={letter_name}"))
+    };
+    fits("library's value", true, &equal, &readings)?;
+    if expected == 0.0 {
+        return fits("library's sign of zero", expected.is_sign_negative(), &negative, &readings);
+    }
+    Ok(())
+}
+
+fn compared(before: &str, calculation: &[u8], behind: &str) -> Vec<u8> {
+    [before.as_bytes(), calculation, behind.as_bytes()].concat()
+}
+
+/// A value that is not a number, and a calculation with a bad reading, is not
+/// less than another, nor equal, nor greater.
+fn equals_nothing(calculation: &[u8], letter: usize, readings: &Readings) -> Verdict {
+    for sign in ["<", "=", ">"] {
+        let behind = format!("){sign}{}", char::from(b'A' + letter as u8));
+        fits("library's value", false, &compared("(", calculation, &behind), readings)?;
+    }
+    Ok(())
+}
+
+/// A text that is too long to be asked says nothing.
+fn fits(what: &str, expected: bool, calculation: &[u8], readings: &Readings) -> Verdict {
+    if calculation.len() > CALCULATION_BYTES {
+        return Ok(());
+    }
+    same(what, Some(expected), is_true(calculation, readings))
+}
+
+/// A letter that a calculation does not name.
+fn unused(calculation: &[u8]) -> Option<usize> {
+    (0..LETTERS).find(|l| !calculation.iter().any(|b| b.to_ascii_uppercase() == b'A' + *l as u8))
+}
+
+/// Whether a rule with this calculation passes; nothing if no file has it.
+fn is_true(calculation: &[u8], readings: &Readings) -> Option<bool> {
+    let inputs: String = ('A'..='U').map(|letter| format!("INP{letter}(x)")).collect();
+    let before = format!("ASG(DEFAULT){{{inputs}RULE(1,WRITE){{CALC(\"");
+    let file = [before.as_bytes(), calculation, b"\")}}"].concat();
+    let mut table = vec![0; TABLE_BYTES];
+    if library::load(&file, &mut table).refusal > 0 {
+        return None;
+    }
+    let (states, values) = as_lent(readings);
+    let asked = Asked { group: b"", user: b"", host: b"", level: 1, states: &states, values: &values };
+    Some(library::decide(&table, &asked).access == 2)
+}

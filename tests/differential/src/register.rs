@@ -1,0 +1,203 @@
+//! A sequence of calls on a register, by `paper` and by the header on its struct;
+//! `slices` asks the proved functions the same.
+
+use crate::compare::{first_difference, hex, Comparison, Go};
+use crate::slices::{Parts, Slices};
+use inputs::question::Names;
+use inputs::random::Random;
+use inputs::register::{call, reading, Mood};
+use library::register::{How, Outcome, Register};
+use paper::register::{changed, Rights};
+use paper::script::{self, Call, Done};
+use paper::{Access, Answer, Reading, Refusal, LETTERS, PLACES};
+
+const NOTHING: Outcome =
+    Outcome { refusal: 0, place: 0, needed: 0, warnings: 0, length: 0, changed: 0, agrees: true };
+
+/// A register by both, over a table by both, and what was done with it.
+struct Pair {
+    paper: paper::Register,
+    library: Register,
+    ours: Vec<u8>,
+    theirs: Vec<u8>,
+    rights: Rights,
+    said: String,
+}
+
+/// Calls until the sequence ends or differs.
+pub fn run(random: &mut Random, comparison: &mut Comparison, table: Vec<u8>) -> Go {
+    let mood = if random.percent(12) { Mood::Full } else { Mood::Mixed };
+    let calls = if matches!(mood, Mood::Full) { random.between(90, 140) } else { random.between(5, 60) };
+    let mut pair = Pair::new(random, table);
+    if random.percent(60) {
+        let first = Call::Load(inputs::register::text(random));
+        pair.step(random, comparison, &first)?;
+    }
+    let mut names = Names::of(&pair.ours);
+    for _ in 0..calls {
+        if random.percent(2) {
+            let mut table = pair.ours;
+            inputs::table::damage(random, &mut table);
+            pair = Pair::new(random, table);
+            names = Names::of(&pair.ours);
+        }
+        let call = call(random, &names, &mood);
+        pair.step(random, comparison, &call)?;
+        if matches!(call, Call::Load(_)) {
+            names = Names::of(&pair.ours);
+        }
+    }
+    Ok(())
+}
+
+impl Pair {
+    /// No client; the readings are never heard, or any.
+    fn new(random: &mut Random, table: Vec<u8>) -> Pair {
+        let mut pair = Pair {
+            paper: paper::Register::empty(),
+            library: Register::empty(),
+            said: format!("table {}", hex(&table)),
+            rights: paper::Register::empty().rights(&table),
+            ours: table.clone(),
+            theirs: table,
+        };
+        if random.percent(25) {
+            pair.hear(random);
+        }
+        pair
+    }
+
+    /// Readings laid into both, as the slices have them.
+    fn hear(&mut self, random: &mut Random) {
+        let (_, states, values) = self.library.parts();
+        for (i, to) in self.paper.readings.iter_mut().flatten().enumerate() {
+            *to = reading(random);
+            (states[i], values[i]) = match *to {
+                Reading::NeverHeard => (0, inputs::question::value(random)),
+                Reading::Invalid => (*random.pick(&[1, 3, 255]), 1.0),
+                Reading::Value(value) => (2, value),
+            };
+        }
+        self.said += &format!("\nstates {}\nvalues {values:?}", hex(states));
+    }
+
+    fn parts(&mut self) -> Parts {
+        let (places, states, values) = self.library.parts();
+        Parts { places: places.to_vec(), states: states.to_vec(), values: values.to_vec() }
+    }
+
+    /// One call, and what both say of it.
+    fn step(&mut self, random: &mut Random, comparison: &mut Comparison, call: &Call) -> Go {
+        let checked = random.percent(50) && paper::is_table(&self.ours) && library::is_table(&self.theirs);
+        let length = self.lent_length(random, call);
+        self.said += &format!("\n{}", script::written(call));
+        let before = self.parts();
+        let table = self.theirs[..length].to_vec();
+        let answer = self.paper.call(&mut self.ours[..length], call);
+        let rights = self.paper.rights(&self.ours[..length]);
+        let wanted = wanted(call, answer, changed(&self.rights, &rights));
+        self.rights = rights;
+        let how = How { checked, invalid: *random.pick(&[1, 1, 3, 254, 255]) };
+        // SAFETY: if it is checked, the library has just said so of these bytes.
+        let said = unsafe { self.library.call(&mut self.theirs[..length], call, how) };
+        let told = if wanted.changed > 0 { " changes rights" } else { "" };
+        comparison.count(format!("{} {:2}{told}", name(call), wanted.refusal));
+        let state = self.state(wanted.refusal > 0, &before);
+        let text = || format!("{}\n{how:?}, lent {length} bytes of the table", self.said);
+        comparison.same((wanted, shown(&self.rights), String::new()), (said, self.shown(), state), text)?;
+        let after = self.parts();
+        let slices = Slices { random, call, how, table: &table };
+        let found = slices.differences(&before, &after, &wanted, &self.theirs[..length]);
+        comparison.same(String::new(), found, || format!("{}\nby slices", self.said))
+    }
+
+    /// A load is lent all of the table's room; another call that, or the table.
+    fn lent_length(&self, random: &mut Random, call: &Call) -> usize {
+        let whole = self.ours.len();
+        if matches!(call, Call::Load(_)) || random.percent(50) {
+            return whole;
+        }
+        let stored = self.ours.get(2..4).map_or(0, |w| usize::from(u16::from_le_bytes([w[0], w[1]])));
+        if paper::is_table(&self.ours) {
+            stored
+        } else {
+            random.below(whole + 1)
+        }
+    }
+
+    /// The rights by the library; those behind the last place are none.
+    fn shown(&self) -> String {
+        let of = |place: usize| {
+            let (access, trap) = self.library.right(place);
+            right_text(access, trap)
+        };
+        let behind = [PLACES, PLACES + 1, 256, 1 << 32, usize::MAX];
+        let astray: Vec<usize> = behind.into_iter().filter(|place| of(*place) != "N-").collect();
+        let mut rights: Vec<String> = (0..PLACES).map(of).collect();
+        rights.extend(astray.iter().map(|place| format!("and one at {place}")));
+        rights.join(" ")
+    }
+
+    /// What is wrong with the bytes after a call, or nothing.
+    fn state(&mut self, refused: bool, before: &Parts) -> String {
+        if let Some(found) = first_difference(&self.ours, &self.theirs) {
+            return format!("table at {found:?}");
+        }
+        let after = self.parts();
+        if refused {
+            return after.differs_from(before).map_or(String::new(), |p| format!("refused, but writes {p}"));
+        }
+        let readings = self.paper.readings.iter().flatten().enumerate();
+        let wrong =
+            readings.into_iter().find(|(i, r)| !same_reading(**r, after.states[*i], after.values[*i]));
+        wrong.map_or(String::new(), |(i, r)| {
+            let (state, value) = (after.states[i], after.values[i]);
+            format!("group {} letter {}: {r:?}, not {state} {value}", i / LETTERS, i % LETTERS)
+        })
+    }
+}
+
+/// As the header is to answer.
+fn wanted(call: &Call, answer: Result<Done, Refusal>, changed: u64) -> Outcome {
+    let place = match call {
+        Call::Change(place, _) | Call::Remove(place) => *place as u64,
+        _ => 0,
+    };
+    match answer {
+        Ok(Done::Loaded(l)) => {
+            Outcome { length: l.length as u64, warnings: l.warnings as u64, changed, ..NOTHING }
+        }
+        Ok(Done::At(place)) => Outcome { place: place as u64, changed, ..NOTHING },
+        Ok(Done::Nothing) => Outcome { place, changed, ..NOTHING },
+        Err(Refusal { number: 11, place }) => Outcome { refusal: 11, needed: place as u64, ..NOTHING },
+        Err(Refusal { number, place }) => Outcome { refusal: number.into(), place: place as u64, ..NOTHING },
+    }
+}
+
+fn same_reading(reading: Reading, state: u8, value: f64) -> bool {
+    match reading {
+        Reading::NeverHeard => state == 0,
+        Reading::Invalid => state != 0 && state != 2,
+        Reading::Value(v) => state == 2 && (v.to_bits() == value.to_bits() || v.is_nan() && value.is_nan()),
+    }
+}
+
+fn name(call: &Call) -> &'static str {
+    match call {
+        Call::Load(_) => "register load",
+        Call::Add(_) => "register add",
+        Call::Change(..) => "register change",
+        Call::Remove(_) => "register remove",
+        Call::Set(..) => "register set",
+    }
+}
+
+fn shown(rights: &Rights) -> String {
+    let of = |a: &Answer| script::right(a);
+    rights.iter().map(of).collect::<Vec<String>>().join(" ")
+}
+
+fn right_text(access: u64, trap: bool) -> String {
+    let known = [Access::None, Access::Read, Access::Write].get(access as usize).copied();
+    known.map_or(format!("{access}?"), |access| script::right(&Answer { access, trap }))
+}

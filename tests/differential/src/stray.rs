@@ -1,0 +1,130 @@
+//! Calls on a register whose places are any bytes. `paper` cannot say who stands
+//! there; what holds of each call all the same is held.
+
+use crate::compare::{hex, Comparison, Go};
+use crate::slices::{Parts, Slices};
+use inputs::question::Names;
+use inputs::random::Random;
+use inputs::register::{call, Mood};
+use library::register::{How, Outcome, Register};
+use paper::script::{written, Call};
+use paper::{Refusal, PLACES};
+
+pub fn run(random: &mut Random, comparison: &mut Comparison, mut table: Vec<u8>) -> Go {
+    let names = Names::of(&table);
+    let mut register = Register::empty();
+    fill(random, &names, &mut register, &mut table);
+    for _ in 0..random.between(1, 12) {
+        let call = call(random, &names, &Mood::Mixed);
+        step(random, comparison, &mut register, &mut table, &call)?;
+    }
+    Ok(())
+}
+
+/// Any bytes, or some clients with some bytes changed.
+fn fill(random: &mut Random, names: &Names, register: &mut Register, table: &mut [u8]) {
+    if random.percent(40) {
+        register.parts().0.fill_with(|| random.byte());
+        return;
+    }
+    let how = How { checked: false, invalid: 1 };
+    for _ in 0..random.between(1, 80) {
+        // SAFETY: it is not checked.
+        unsafe { register.call(table, &call(random, names, &Mood::Full), how) };
+    }
+    let places = register.parts().0;
+    for _ in 0..random.between(1, 200) {
+        let most = if random.percent(50) { places.len() } else { 2000 };
+        let place = random.below(most);
+        places[place] = if random.percent(50) { random.byte() } else { places[place] ^ 1 << random.below(8) };
+    }
+}
+
+fn rights(register: &Register) -> Vec<(u64, bool)> {
+    (0..PLACES).map(|place| register.right(place)).collect()
+}
+
+fn parts(register: &mut Register) -> Parts {
+    let (places, states, values) = register.parts();
+    Parts { places: places.to_vec(), states: states.to_vec(), values: values.to_vec() }
+}
+
+fn step(
+    r: &mut Random,
+    comparison: &mut Comparison,
+    register: &mut Register,
+    table: &mut [u8],
+    call: &Call,
+) -> Go {
+    let (before, stood, lent) = (parts(register), rights(register), table.to_vec());
+    let how = How { checked: r.percent(50) && library::is_table(table), invalid: 1 };
+    // SAFETY: if it is checked, the library has just said so of these bytes.
+    let outcome = unsafe { register.call(table, call, how) };
+    let (after, stand) = (parts(register), rights(register));
+    comparison.count(format!("register of any bytes {:2}", outcome.refusal));
+    let wrong = [
+        refusal(call, &lent, &outcome),
+        told(&stood, &stand, &outcome),
+        bytes(call, (&before, &after), (&lent, table), &outcome),
+        Slices { random: r, call, how, table: &lent }.differences(&before, &after, &outcome, table),
+    ];
+    let text = || format!("{} on places\n{}\ntable {}", written(call), hex(&before.places), hex(&lent));
+    comparison.same([const { String::new() }; 4], wrong, text)
+}
+
+/// The refusals that hang on what is given alone, and those that are left.
+fn refusal(call: &Call, table: &[u8], outcome: &Outcome) -> String {
+    let mut room = table.to_vec();
+    let by_paper =
+        paper::Register::empty().call(&mut room, call).map_or_else(|Refusal { number, .. }| number, |_| 0);
+    let possible: &[u64] = match (call, by_paper) {
+        (Call::Add(_), 0) => &[0, 24],
+        (Call::Change(place, _) | Call::Remove(place), _) if *place >= PLACES => &[25],
+        (Call::Change(..), _) => &[0, 21, 23, 25],
+        (Call::Remove(_), _) => &[0, 25],
+        _ => &[by_paper.into()],
+    };
+    if possible.contains(&outcome.refusal) {
+        return String::new();
+    }
+    format!("refused {}, not one of {possible:?}", outcome.refusal)
+}
+
+/// Each right is one, and the changed places are those whose rights are others.
+fn told(before: &[(u64, bool)], after: &[(u64, bool)], outcome: &Outcome) -> String {
+    let bits: u64 = (0..PLACES).filter(|p| before[*p] != after[*p]).map(|p| 1 << p).sum();
+    if bits != outcome.changed {
+        return format!("changed {:x}, not {bits:x}", outcome.changed);
+    }
+    let strange = before.iter().chain(after).find(|(access, _)| *access > 2);
+    strange.map_or(String::new(), |(access, _)| format!("access {access}"))
+}
+
+/// Refused: no byte is another. A load writes its table and forgets readings;
+/// nothing else writes a table, and only a reading writes readings.
+fn bytes(
+    call: &Call,
+    (before, after): (&Parts, &Parts),
+    (lent, table): (&[u8], &[u8]),
+    outcome: &Outcome,
+) -> String {
+    if outcome.refusal > 0 {
+        let same = lent == table && after.differs_from(before).is_none();
+        return if same { String::new() } else { "refused, but writes".to_string() };
+    }
+    let mut room = lent.to_vec();
+    let heard = match call {
+        Call::Load(text) => {
+            let length = paper::load(text, &mut room).map_or(0, |l| l.length as u64);
+            length == outcome.length && after.states.iter().all(|state| *state == 0)
+        }
+        Call::Set(..) => after.states.iter().zip(&before.states).filter(|(a, b)| a != b).count() < 2,
+        _ => after.states == before.states,
+    };
+    let same = room == table && heard;
+    if same {
+        String::new()
+    } else {
+        format!("the bytes of {}", written(call))
+    }
+}

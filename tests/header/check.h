@@ -1,0 +1,19 @@
+/* What the parts of the header's test share. */
+#ifndef CHECK_H
+#define CHECK_H
+
+#include "hrazvanut.h"
+
+#ifdef __cplusplus
+#define ZERO {}
+#else
+#define ZERO {0}
+#endif
+
+void check(bool good, const char *what, int line);
+#define CHECK(what) check((what), #what, __LINE__)
+
+/* The register's part: register.c. */
+void registers(void);
+
+#endif

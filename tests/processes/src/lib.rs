@@ -1,0 +1,5 @@
+//! The two programs as processes: one run, and what it prints held against what
+//! it should.
+
+pub mod compare;
+pub mod process;

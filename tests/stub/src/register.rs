@@ -1,0 +1,345 @@
+//! The register over `paper` in lent bytes, with the faults 45 to 83. A place's
+//! record is laid out as this stub likes: taken, right, level, the
+//! three lengths, the three names.
+
+use crate::fault;
+use paper::question::NOTHING;
+use paper::register::{changed, Rights};
+use paper::table::{View, ACCESS_GROUPS};
+use paper::{Access, Answer, Client, Reading, Refusal, Register, LETTERS, NAME_BYTES, PLACES};
+
+const RECORD: usize = 448;
+const READINGS: usize = 64 * LETTERS;
+
+/// What is lent of a register to one call.
+pub struct Lent<'a> {
+    pub places: &'a mut [u8],
+    pub states: Option<&'a mut [u8]>,
+    pub values: Option<&'a mut [f64]>,
+    pub changed: &'a mut [u64],
+}
+
+impl Lent<'_> {
+    /// A slice that is too short is no register.
+    fn fits(&self) -> bool {
+        let states = self.states.as_ref().is_none_or(|s| s.len() >= READINGS);
+        let values = self.values.as_ref().is_none_or(|v| v.len() >= READINGS || fault(66));
+        self.places.len() >= PLACES * RECORD && states && values
+    }
+
+    fn register(&self) -> Register {
+        let states = self.states.as_deref().unwrap_or(&[]);
+        let values = self.values.as_deref().unwrap_or(&[]);
+        let reading = |i: usize| match states.get(i) {
+            None | Some(0) => Reading::NeverHeard,
+            Some(2) => values.get(i).map_or(Reading::Invalid, |v| Reading::Value(*v)),
+            Some(_) => Reading::Invalid,
+        };
+        Register {
+            clients: self.places.chunks_exact(RECORD).take(PLACES).map(client).collect(),
+            readings: (0..64).map(|g| std::array::from_fn(|l| reading(g * LETTERS + l))).collect(),
+        }
+    }
+
+    fn rights(&self) -> Rights {
+        std::array::from_fn(|place| right(self.places[place * RECORD + 1]))
+    }
+
+    fn put_clients(&mut self, register: &Register) {
+        for (record, client) in self.places.chunks_exact_mut(RECORD).zip(&register.clients) {
+            let right = record[1];
+            record.fill(0);
+            record[1] = right;
+            if let Some(c) = client {
+                let names = [&c.group, &c.user, &c.host];
+                (record[0], record[2]) = (1, c.level as u8);
+                for (i, name) in names.into_iter().enumerate() {
+                    record[3 + i] = name.len() as u8;
+                    let at = 6 + i * NAME_BYTES;
+                    record[at..at + name.len()].copy_from_slice(name);
+                }
+            }
+        }
+    }
+
+    fn put_readings(&mut self, register: &Register) {
+        let states = self.states.as_deref_mut().unwrap_or(&mut []);
+        let values = self.values.as_deref_mut().unwrap_or(&mut []);
+        for (i, reading) in register.readings.iter().flatten().enumerate() {
+            let (state, value) = match reading {
+                Reading::NeverHeard => (0, None),
+                Reading::Invalid => (1, None),
+                Reading::Value(value) => (2, Some(*value)),
+            };
+            let kept = states[i] > 2 && state == 1;
+            states[i] = if kept { states[i] } else { state };
+            if let (Some(to), Some(value)) = (values.get_mut(i), value) {
+                *to = value;
+            }
+        }
+    }
+
+    /// The rights after a call, and the bits of those that are others.
+    fn put_rights(&mut self, after: &Rights) {
+        let before = self.rights();
+        for (place, answer) in after.iter().enumerate() {
+            self.places[place * RECORD + 1] = number(answer);
+        }
+        let plain = |rights: &Rights| rights.map(|a| Answer { trap: false, ..a });
+        let bits = match () {
+            () if fault(53) => u64::MAX,
+            () if fault(54) => 0,
+            () if fault(83) => changed(&before.map(known), after), // a damaged right not told
+            () if fault(55) => changed(&plain(&before), &plain(after)), // the trap flag not looked at
+            () => changed(&before, after),
+        };
+        if let Some(word) = self.changed.first_mut() {
+            *word = bits;
+        } else if fault(74) {
+            // SAFETY: the tests lend a part of an array that goes on.
+            unsafe { *self.changed.as_mut_ptr() = bits };
+        }
+        if fault(67) && self.places.len() > PLACES * RECORD {
+            self.places[PLACES * RECORD] ^= 1; // behind the register
+        }
+    }
+
+    fn refused(&mut self, number: u8) -> u64 {
+        if fault(64) && self.places.len() > 5 {
+            self.places[5] ^= 1; // a refused call writes
+        }
+        if let Some(word) = self.changed.first_mut().filter(|_| fault(65)) {
+            *word = 0;
+        }
+        u64::from(number) << 48
+    }
+}
+
+/// Bytes that no call has written are no client.
+fn client(record: &[u8]) -> Option<Client> {
+    let name = |i: usize| record[6 + i * NAME_BYTES..][..record[3 + i].into()].to_vec();
+    let level = record[2].into();
+    let whole = level < 2 && record[3..6].iter().all(|length| usize::from(*length) <= NAME_BYTES);
+    (record[0] == 1 && whole).then(|| Client { group: name(0), user: name(1), host: name(2), level })
+}
+
+fn right(number: u8) -> Answer {
+    let access = [Access::None, Access::Read, Access::Write, Access::None][usize::from(number & 3)];
+    Answer { access, trap: number & 4 != 0 }
+}
+
+/// No call gives NONE with trap.
+fn known(answer: Answer) -> Answer {
+    if answer.access == Access::None {
+        NOTHING
+    } else {
+        answer
+    }
+}
+
+fn number(answer: &Answer) -> u8 {
+    answer.access as u8 | u8::from(answer.trap) << 2
+}
+
+/// The rights by `paper`; with fault 63 a client of an undefined group does not
+/// go by DEFAULT's readings.
+fn rights(register: &Register, table: &[u8]) -> Rights {
+    let mut rights = register.rights(table);
+    if fault(63) {
+        let mut deaf = register.clone();
+        deaf.readings.fill([Reading::NeverHeard; LETTERS]);
+        let without = deaf.rights(table);
+        for (place, client) in register.clients.iter().enumerate() {
+            if client.as_ref().is_some_and(|c| !c.group.is_empty() && !is_defined(table, &c.group)) {
+                rights[place] = without[place];
+            }
+        }
+    }
+    rights
+}
+
+fn is_defined(table: &[u8], group: &[u8]) -> bool {
+    paper::is_table(table)
+        && View::open(table).is_some_and(|view| {
+            (0..view.count(ACCESS_GROUPS)).any(|n| view.string(view.access_group(n).0) == group)
+        })
+}
+
+/// A client as it is given, with the faults that misread it.
+pub fn given(group: &[u8], user: &[u8], host: &[u8], level: u32) -> Client {
+    let level = if fault(61) { level % 256 } else { level };
+    let mut client = Client { group: group.to_vec(), user: user.to_vec(), host: host.to_vec(), level };
+    if fault(58) && client.user.len() == NAME_BYTES {
+        client.user.push(b'x'); // the longest name refused
+    }
+    if fault(77) && client.group.len() > NAME_BYTES {
+        client.group.truncate(NAME_BYTES); // the group's name cut
+    }
+    client
+}
+
+pub fn add(lent: &mut Lent, table: &[u8], client: &Client) -> u64 {
+    if !lent.fits() {
+        return lent.refused(34);
+    }
+    if fault(72) && !paper::is_table(table) {
+        return lent.refused(20); // asks for a table
+    }
+    if fault(59) && client.level > 1 {
+        return lent.refused(21); // 21 before 23
+    }
+    let mut register = lent.register();
+    let place = match register.add(client) {
+        Ok(place) => other_place(&mut register, place),
+        Err(number) => return lent.refused(number),
+    };
+    let mut after = rights(&register, table);
+    if fault(76) {
+        after = lent.rights(); // the new client's right not made
+    }
+    lent.put_clients(&register);
+    lent.put_rights(&after);
+    place as u64
+}
+
+/// The place taken; a fault moves the client to another free one.
+fn other_place(register: &mut Register, place: usize) -> usize {
+    let free = |p: &usize| register.clients[*p].is_none();
+    let last = register.clients.iter().enumerate().rposition(|(p, c)| p != place && c.is_some());
+    let to = match () {
+        () if fault(52) => (0..PLACES).rev().find(free), // the highest
+        () if fault(75) => last.map(|p| p + 1).filter(|p| *p < PLACES && free(p)), // behind the last
+        () => None,
+    };
+    let to = to.unwrap_or(place);
+    register.clients.swap(place, to);
+    to
+}
+
+pub fn change(lent: &mut Lent, table: &[u8], place: usize, client: &Client) -> u64 {
+    if !lent.fits() {
+        return lent.refused(34);
+    }
+    if fault(60) && client.user.len() > NAME_BYTES {
+        return lent.refused(23); // 23 before 25
+    }
+    let mut register = lent.register();
+    let host = register.clients.get(place).and_then(|c| Some(c.as_ref()?.host.clone()));
+    if let Err(number) = register.change(place, client) {
+        return lent.refused(number);
+    }
+    if let (true, Some(Some(client)), Some(host)) = (fault(73), register.clients.get_mut(place), host) {
+        client.host = host; // the host stays as it was
+    }
+    let after = if fault(46) { lent.rights() } else { rights(&register, table) };
+    lent.put_clients(&register);
+    lent.put_rights(&after);
+    0
+}
+
+pub fn remove(lent: &mut Lent, place: usize) -> u64 {
+    if !lent.fits() {
+        return lent.refused(34);
+    }
+    let mut register = lent.register();
+    if let Err(number) = register.remove(place) {
+        return lent.refused(number);
+    }
+    let mut after = lent.rights();
+    if !fault(49) {
+        after[place] = NOTHING;
+    }
+    lent.put_clients(&register);
+    lent.put_rights(&after);
+    0
+}
+
+/// One reading, with the faults that set it elsewhere.
+fn set_reading(
+    r: &mut Register,
+    table: &[u8],
+    group: &[u8],
+    letter: u32,
+    reading: Reading,
+) -> Result<(), u8> {
+    let letter = if fault(62) { letter % 256 } else { letter };
+    if fault(71) && matches!(reading, Reading::NeverHeard) {
+        return r.clone().set(table, group, letter, reading); // never heard is not set
+    }
+    let mut done = r.set(table, group, letter, reading);
+    if fault(81) && group.is_empty() && is_defined(table, b"") {
+        let view = View::open(table).expect("it is a table");
+        let named = |n: &usize| view.string(view.access_group(*n).0).is_empty();
+        let empty = (0..view.count(ACCESS_GROUPS)).find(named).expect("it is defined");
+        r.readings[empty][letter as usize % LETTERS] = reading; // the ASG "" hears it
+    }
+    if fault(56) && done == Err(22) {
+        done = r.set(table, b"", letter, reading); // goes on to DEFAULT
+    }
+    if fault(69) && done == Err(22) && letter < LETTERS as u32 {
+        done = Ok(()); // a letter without input
+    }
+    if fault(48) && done.is_ok() {
+        r.readings.iter_mut().for_each(|group| group[letter as usize] = reading);
+    }
+    if fault(78) && done.is_ok() && letter as usize == LETTERS - 1 {
+        r.readings[0][0] = reading; // the last letter's goes elsewhere too
+    }
+    done
+}
+
+pub fn set(lent: &mut Lent, table: &[u8], group: &[u8], letter: u32, reading: Reading, checked: bool) -> u64 {
+    if !lent.fits() {
+        return lent.refused(34);
+    }
+    if fault(57) && letter as usize >= LETTERS {
+        return lent.refused(22); // 22 before 20
+    }
+    let mut register = lent.register();
+    if let Err(number) = set_reading(&mut register, table, group, letter, reading) {
+        return lent.refused(number);
+    }
+    let stale = fault(45) || fault(70) && checked;
+    let after = if stale { lent.rights() } else { rights(&register, table) };
+    lent.put_readings(&register);
+    lent.put_rights(&after);
+    0
+}
+
+pub fn reload(lent: &mut Lent, text: &[u8], table: &mut [u8]) -> u64 {
+    if !lent.fits() {
+        return lent.refused(34);
+    }
+    let mut register = lent.register();
+    match register.load(text, table) {
+        Ok(loaded) => {
+            let after = if fault(47) { lent.rights() } else { rights(&register, table) };
+            if !fault(50) {
+                lent.put_readings(&register);
+            }
+            lent.put_rights(&after);
+            loaded.length as u64 | (loaded.warnings as u64) << 32
+        }
+        Err(Refusal { number, place }) => {
+            if fault(51) {
+                lent.put_readings(&Register::empty()); // lost by a refused load
+            }
+            if fault(68) && number == 11 {
+                lent.put_rights(&[NOTHING; PLACES]);
+            }
+            lent.refused(number) | place as u64
+        }
+    }
+}
+
+pub fn right_at(places: &[u8], place: usize) -> u8 {
+    let place = if fault(79) { place % 256 } else { place };
+    if places.len() < PLACES * RECORD && !fault(80) || place >= PLACES {
+        return 0;
+    }
+    let stored = places.get(place * RECORD + 1).copied().unwrap_or(0);
+    if fault(82) {
+        return stored; // of damaged bytes no right at all
+    }
+    number(&right(stored))
+}
