@@ -15,7 +15,9 @@
  * - Bytes need no alignment; structs and arrays of them have that of their type, as the compiler lays them.
  * - Nothing is kept between calls but what stands in a register: no heap, no static storage, no pointer. Any thread may call, as long as
  *   nobody writes what another call reads or writes.
- * - A load, a reload and a list of warnings need less than 180 KiB of stack. Every call runs in a thread of 256 KiB, whatever it is given.
+ * - A load, a reload and a list of warnings need less than 192 KiB of stack. Every call runs in a thread of 256 KiB, whatever it is given.
+ * - The floating-point environment is C's default: rounding to nearest, no flush to zero, no traps. Do not link with -ffast-math or -Ofast:
+ *   it would flush small readings to zero, and a rule could then be true that is not.
  *
  * Documents: 01 is the paper that says what is made; docs/USING.md tells each refusal and warning with its cure.
  */
@@ -204,7 +206,7 @@ struct hrazvanut_found {
  * its trap flag, is another after the call than before: those clients are to be told. No bit is set if refused. */
 struct hrazvanut_entered {
     enum hrazvanut_refusal refusal;
-    size_t place; /* the client's; 0 if refused */
+    size_t place; /* the client's; HRAZVANUT_PLACES, at which nobody stands, if refused */
     uint64_t changed;
 };
 
@@ -354,7 +356,7 @@ static inline struct hrazvanut_entered hrazvanut_abi_entered(uint64_t answer, si
 {
     struct hrazvanut_entered entered;
     entered.refusal = hrazvanut_abi_refusal(answer);
-    entered.place = entered.refusal == HRAZVANUT_NOT_REFUSED ? place : 0;
+    entered.place = entered.refusal == HRAZVANUT_NOT_REFUSED ? place : HRAZVANUT_PLACES;
     entered.changed = changed;
     return entered;
 }

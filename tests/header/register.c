@@ -201,17 +201,17 @@ static void parts(void)
     CHECK(has(0, HRAZVANUT_NONE, false) && has(1, HRAZVANUT_READ, false));
     entered = remove_at(1);
     CHECK(entered.place == 1 && entered.changed == 2);
-    CHECK(remove_at(1).refusal == HRAZVANUT_REFUSED_NO_CLIENT && remove_at(1).place == 0);
+    CHECK(remove_at(1).refusal == HRAZVANUT_REFUSED_NO_CLIENT && remove_at(1).place == HRAZVANUT_PLACES);
 }
 
 static void refused(size_t place, const struct hrazvanut_client *client, enum hrazvanut_refusal refusal)
 {
     struct hrazvanut_entered entered = add(client);
-    CHECK(entered.refusal == refusal && entered.place == 0 && entered.changed == 0);
+    CHECK(entered.refusal == refusal && entered.place == HRAZVANUT_PLACES && entered.changed == 0);
     entered = change(place, client);
-    CHECK(entered.refusal == refusal && entered.place == 0 && entered.changed == 0);
+    CHECK(entered.refusal == refusal && entered.place == HRAZVANUT_PLACES && entered.changed == 0);
     entered = change(60, client);
-    CHECK(entered.refusal == HRAZVANUT_REFUSED_NO_CLIENT && entered.place == 0 && entered.changed == 0);
+    CHECK(entered.refusal == HRAZVANUT_REFUSED_NO_CLIENT && entered.place == HRAZVANUT_PLACES && entered.changed == 0);
 }
 
 /* 60 and 61 bytes in each name, levels of more than 8 bits, and the order of refusals. */
@@ -258,7 +258,7 @@ static void places(void)
         CHECK(entered.refusal == HRAZVANUT_NOT_REFUSED && entered.place == i && entered.changed == UINT64_C(1) << i);
         CHECK(has(i, HRAZVANUT_READ, false));
     }
-    CHECK(add(&c).refusal == HRAZVANUT_REFUSED_NO_PLACE && add(&c).changed == 0 && add(&c).place == 0);
+    CHECK(add(&c).refusal == HRAZVANUT_REFUSED_NO_PLACE && add(&c).changed == 0 && add(&c).place == HRAZVANUT_PLACES);
     c.level = 2;
     CHECK(add(&c).refusal == HRAZVANUT_REFUSED_LEVEL);
     c.level = 0;

@@ -1,6 +1,6 @@
 /* Every call runs in a thread of 256 KiB, on inputs of a megabyte. Each runs in a process of its own, on a stack that is painted before;
  * prints of each function the most that it used, over what a thread uses for nothing, and what ended by a signal. None may use more than
- * the 180 KiB that the header names. */
+ * the 192 KiB that the header names. */
 #define _DEFAULT_SOURCE
 #include <pthread.h>
 #include <stdio.h>
@@ -12,7 +12,7 @@
 
 #include "hrazvanut.h"
 
-enum { STACK = 256 * 1024, MOST = 180 * 1024, GUARD = 64 * 1024, MEGABYTE = 1000 * 1000, PAINT = 0xa5 };
+enum { STACK = 256 * 1024, MOST = 192 * 1024, GUARD = 64 * 1024, MEGABYTE = 1000 * 1000, PAINT = 0xa5 };
 
 /* What a call is given. */
 struct input {
@@ -257,6 +257,8 @@ static void make_inputs(void)
         add(parts[i], repeated(parts[i], 79), tables[i % 3]); /* no calculation is longer */
     }
     add("rules", hrazvanut_string(strdup(nested("-(", "A", ")"))), bytes_as_table(repeated("\1", MEGABYTE)));
+    add("signs", hrazvanut_string(strdup(nested("-", "A", ""))), tables[0]);
+    add("brackets", hrazvanut_string(strdup(nested("(", "", ""))), tables[1]); /* no calculation, and the deepest */
     add("zeros", repeated("x", MEGABYTE), (struct hrazvanut_table){.start = calloc(1, MEGABYTE), .length = MEGABYTE});
 }
 

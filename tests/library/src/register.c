@@ -97,7 +97,8 @@ void library_call(int call, struct hrazvanut_register *reg, const struct given *
         r.loaded.refusal = set.refusal, r.changed = set.changed;
     } else {
         struct hrazvanut_entered entered = enter(call, reg, g);
-        r.loaded.refusal = entered.refusal, r.loaded.place = entered.place, r.changed = entered.changed;
+        r.loaded.refusal = entered.refusal, r.changed = entered.changed;
+        r.loaded.place = entered.refusal ? entered.place - HRAZVANUT_PLACES : entered.place; /* nobody's place, if refused: then 0 */
     }
     out[0] = r.loaded.refusal;
     out[1] = r.loaded.place;
