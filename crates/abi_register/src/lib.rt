@@ -82,6 +82,7 @@ pub extern "C" fn hrazvanut_abi_change(
     api_register::tell_changed(c, changed)
 }
 
+// As hrazvanut_abi_add_checked: hrazvanut_abi_is_table has said 1 of the same bytes, or an accepted load left them.
 #[no_mangle]
 pub extern "C" fn hrazvanut_abi_change_checked(
     places: &mut [u8],
