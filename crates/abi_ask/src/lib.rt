@@ -29,7 +29,7 @@ pub extern "C" fn hrazvanut_abi_decide(
         Answers (now (table .entry)) (now (group .entry)) (now (user .entry)) (now (host .entry)) level (now (states .entry)) (now (values .entry)) r
         ⌝ }
 {
-    let rs = api_readings::readings(states, values, 0);
+    let rs = calc_readings::readings(states, values, 0);
     api_numbers::answer_number(ask::decide(table, group, user, host, level, rs))
 }
 
@@ -49,7 +49,7 @@ pub extern "C" fn hrazvanut_abi_decide_checked(
         Answers (now (table .entry)) (now (group .entry)) (now (user .entry)) (now (host .entry)) level (now (states .entry)) (now (values .entry)) r
         ⌝ }
 {
-    let rs = api_readings::readings(states, values, 0);
+    let rs = calc_readings::readings(states, values, 0);
     api_numbers::answer_number(ask_checked::decide_checked(table, group, user, host, level, rs))
 }
 

@@ -33,7 +33,7 @@ pub extern "C" fn hrazvanut_abi_set(
         (lent (now (table .entry)) (now (places .exit)) (now (states .exit)) (now (values .exit))) (now (changed .entry)) (now (changed .exit)) r
         ⌝ }
 {
-    let x = api_readings::reading(state, value);
+    let x = calc_readings::reading(state, value);
     let c = register::set(places, states, values, table, group, letter, x);
     api_register::tell_changed(c, changed)
 }
@@ -58,7 +58,7 @@ pub extern "C" fn hrazvanut_abi_set_checked(
         (lent (now (table .entry)) (now (places .exit)) (now (states .exit)) (now (values .exit))) (now (changed .entry)) (now (changed .exit)) r
         ⌝ }
 {
-    let x = api_readings::reading(state, value);
+    let x = calc_readings::reading(state, value);
     let c = reg_set::set_checked(places, states, values, table, group, letter, x);
     api_register::tell_changed(c, changed)
 }

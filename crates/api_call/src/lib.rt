@@ -37,6 +37,6 @@ pub fn call(
     let b = api_script::text_at(script, pool, i, 3);
     let c = api_script::text_at(script, pool, i, 5);
     let n = api_script::level(levels, i);
-    let rs = api_readings::readings(states, values, api_script::word(script, i, 8));
+    let rs = calc_readings::readings(states, values, api_script::word(script, i, 8));
     api_calls::call_reading(what, a, b, c, skip, n, rs, lent)
 }

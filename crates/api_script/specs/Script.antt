@@ -15,7 +15,7 @@ use Rattle.spec_demand.specs.Calls.{allow, calculate, hold}
 --   1 to 6  three texts, each from where to where it stands in the pool
 --   7       how many warnings are skipped
 --   8       where the 21 readings begin in states and values
--- The others say nothing. Each call has a level or letter of its own. What stands beyond an end is no byte, the number 0; of readings see api_readings/specs.
+-- The others say nothing. Each call has a level or letter of its own. What stands beyond an end is no byte, the number 0; of readings see calc_readings/specs.
 pub record Script : Type 0 where
   pub words : List ℕ
   pub pool : List ℕ

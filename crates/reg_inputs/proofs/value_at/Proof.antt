@@ -2,7 +2,7 @@ use mathlib.Core.Path.{sym}
 use native.Mathlib.Omega.{arith}
 use lib.Ieee.{nan}
 use lib.ListN.{List·getD-eq-default}
-use Rattle.api_readings.specs.laws.Readings.{getD-within}
+use Rattle.calc_readings.specs.laws.Readings.{getD-within}
 use borrow.Author.Needs.{needs}
 use Rattle.reg_inputs.proofs.value_at.Statement.{statement}
 use Rattle.reg_inputs.proofs.value_at.Tie as tie

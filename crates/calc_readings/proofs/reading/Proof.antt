@@ -1,7 +1,7 @@
-use Rattle.api_readings.specs.laws.Readings.{unheard, valued, invalid}
+use Rattle.calc_readings.specs.laws.Readings.{unheard, valued, invalid}
 use borrow.Author.Needs.{needs}
-use Rattle.api_readings.proofs.reading.Statement.{statement}
-use Rattle.api_readings.proofs.reading.Tie as tie
+use Rattle.calc_readings.proofs.reading.Statement.{statement}
+use Rattle.calc_readings.proofs.reading.Tie as tie
 
 returns : tie.Need-returns
 returns c = unheard (c .before .args .state) (c .before .args .value) (c .if1 .taken)

@@ -2,8 +2,8 @@ use lib.ListN.{List·getD-eq-default}
 use native.Mathlib.Omega.{arith}
 use mathlib.Core.Path.{sym}
 use borrow.Author.Needs.{needs}
-use Rattle.api_readings.proofs.state_at.Statement.{statement}
-use Rattle.api_readings.proofs.state_at.Tie as tie
+use Rattle.calc_readings.proofs.state_at.Statement.{statement}
+use Rattle.calc_readings.proofs.state_at.Tie as tie
 
 sub-if2 : tie.Need-sub-if2
 sub-if2 c = search needs

@@ -1,12 +1,12 @@
-use Rattle.api_readings.specs.laws.Readings.{getD-within}
+use Rattle.calc_readings.specs.laws.Readings.{getD-within}
 use native.Mathlib.Omega.{arith}
 use mathlib.Core.Path.{sym}
 use mathlib.Core.Logic.{⊎-elim}
 use lib.ListN.{List·getD-eq-default}
 use lib.Ieee.{nan}
 use borrow.Author.Needs.{needs}
-use Rattle.api_readings.proofs.value_at.Statement.{statement}
-use Rattle.api_readings.proofs.value_at.Tie as tie
+use Rattle.calc_readings.proofs.value_at.Statement.{statement}
+use Rattle.calc_readings.proofs.value_at.Tie as tie
 
 sub-if2 : tie.Need-sub-if2
 sub-if2 c = search needs

@@ -1,11 +1,11 @@
-use Rattle.api_readings.specs.laws.Readings.{Stand-to, stand-none, stand-more, stand-all}
+use Rattle.calc_readings.specs.laws.Readings.{Stand-to, stand-none, stand-more, stand-all}
 use Rattle.spec_calc.specs.States.{reading}
 use native.Mathlib.Omega.{arith}
 use Prim.Native.Nat.{_-_}
 use mathlib.Core.Path.{refl, ap₂, _∙_}
 use borrow.Author.Needs.{needs}
-use Rattle.api_readings.proofs.readings.Statement.{statement}
-use Rattle.api_readings.proofs.readings.Tie as tie
+use Rattle.calc_readings.proofs.readings.Statement.{statement}
+use Rattle.calc_readings.proofs.readings.Tie as tie
 
 abbrev Inv-loop : tie.InvT-loop
 Inv-loop states values from rs₀ i₀ rs i = Stand-to states values from rs i
