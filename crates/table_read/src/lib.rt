@@ -99,7 +99,7 @@ pub fn name_of(table: &[u8], s: Section, i: usize) -> &[u8]
 }
 
 // The first access group of a name; DEFAULT does not stand in for one that is missing. Inner: callers have a checked table.
-pub fn first_named(table: &[u8], group: &[u8]) -> Index
+fn first_named(table: &[u8], group: &[u8]) -> Index
     requires { ⌜ is-table (now table) ≡ true ⌝ }
     ensures { λ r. ⌜ r ≡ index-of (number-named (now (table .entry)) (now (group .entry))) ⌝ }
 {

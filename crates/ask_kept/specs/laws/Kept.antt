@@ -16,7 +16,8 @@ use Rattle.spec_rule.specs.Decision.{no-access, granted, decision-by, then}
 use Rattle.spec_rule.specs.Kept.{bit, truths, says-stands, by-kept, kept-decision}
 use Rattle.spec_rule.specs.laws.Decision.{then-no-greater, then-greater}
 use Rattle.spec_rule.specs.laws.Kept.{kept-is, truths-enough, Settled, more-settled, kept-turn}
-use Rattle.spec_rule.specs.laws.Walk.{list-on, part-on, mapped-on, mapped-end, sets-on, part-sets}
+use Rattle.spec_rule.specs.laws.Walk.{list-on, part-on, mapped-on, mapped-end, sets-on}
+use Rattle.spec_lists.specs.laws.Sets.{part-sets-all}
 use Rattle.spec_file.specs.Limit.{access-groups, rules, most}
 use Rattle.table_fields.specs.Field.{Word}
 use Rattle.table_read.specs.Stored.{Stored, word-of}
@@ -133,9 +134,9 @@ module _ (b : List ℕ) (i : ℕ) (h : Stored b access-groups i) (user host : Li
       let few = group-few b i h in
       let x : part (record { first = at; count = length g }) (sets kept at bits) ≡ bits =
       ap (λ (k : ℕ). part (record { first = at; count = k }) (sets kept at bits)) (sym bits-count)
-      ∙ part-sets bits kept at (omega (arith, bits-count)) in
+      ∙ part-sets-all bits kept at (omega (arith, bits-count)) in
       let y : take (length g) (sets ts 0 vs) ≡ vs =
-      ap (λ (k : ℕ). take k (sets ts 0 vs)) (sym n) ∙ part-sets vs ts 0 (omega arith) in
+      ap (λ (k : ℕ). take k (sets ts 0 vs)) (sym n) ∙ part-sets-all vs ts 0 (omega arith) in
       ap (λ (ks : List ℕ). kept-decision ks (sets ts 0 vs) g) x
       ∙ sym (truths-enough (length g) bits (sets ts 0 vs) g (omega arith))
       ∙ ap (λ (us : List Bool). kept-decision bits us g) y

@@ -10,7 +10,7 @@ use lib.ListN.{length, take, replicate, length-replicate}
 use lib.Seq.{sets, length-sets}
 use Rattle.spec_rule.specs.declared.Decision.{Decision}
 use Rattle.spec_rule.specs.Decision.{decision-by}
-use Rattle.spec_rule.specs.laws.Walk.{part-sets}
+use Rattle.spec_lists.specs.laws.Sets.{part-sets-all}
 use Rattle.spec_file.specs.Limit.{access-groups, rules, most}
 use Rattle.spec_table.specs.View.{view}
 use Rattle.spec_table.specs.Check.{is-table}
@@ -60,7 +60,7 @@ module _ (t : List ℕ) (i : ℕ) (h : Stored t access-groups i) where
       flags-taken {count} c =
           let bits = client-bits t i u host l in
           let n : count ≡ length bits = c .is ∙ sym (group-counted t i h) ∙ sym (bits-count t i h u host l) in
-          ap₂ take n flags-are ∙ part-sets bits no-flags 0 (omega (arith, bits-count t i h u host l, group-few t i h, no-flags-count))
+          ap₂ take n flags-are ∙ part-sets-all bits no-flags 0 (omega (arith, bits-count t i h u host l, group-few t i h, no-flags-count))
 
       decision-is :
           {ts : List Bool} {d : Decision} → ts ≡ truths-now t i states values → d ≡ decision-kept t i flags 0 ts

@@ -14,7 +14,7 @@ use Rattle.spec_rule.specs.declared.Decision.{Decision}
 use Rattle.spec_rule.specs.Kept.{bit, truths, kept-decision}
 use Rattle.spec_rule.specs.Rule.{calculation-holds}
 use Rattle.spec_rule.specs.laws.Kept.{truths-enough}
-use Rattle.spec_rule.specs.laws.Walk.{part-sets}
+use Rattle.spec_lists.specs.laws.Sets.{part-sets-all}
 use Rattle.spec_file.specs.Limit.{rules, most}
 use Rattle.spec_table.specs.Check.{is-table}
 use Rattle.spec_register.specs.Register.{most-clients}
@@ -114,4 +114,4 @@ module _ (t : List ℕ) (i : ℕ) (rs : List Reading) {ts : List Bool} (e : ts �
   truths-begin h =
       let vs = truths rs (rules-at t i) in
       let n : length vs ≡ length (rules-at t i) = length-map (rules-at t i) (λ r. calculation-holds rs (r .calculation)) in
-      ap₂ (λ (k : ℕ) (us : List Bool). take k us) (sym n) e ∙ part-sets vs none 0 (omega (arith, rules-length t i h, none-count))
+      ap₂ (λ (k : ℕ) (us : List Bool). take k us) (sym n) e ∙ part-sets-all vs none 0 (omega (arith, rules-length t i h, none-count))

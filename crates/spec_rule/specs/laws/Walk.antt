@@ -1,13 +1,13 @@
 -- Walking a list by index: what is left of it is what is to do.
 use mathlib.Core.Path.{_≡_, refl, sym, ap, _∙_}
 use mathlib.Core.Bool.{Bool, true, false, _||_}
-use mathlib.Core.List.{List, [], _∷_, _++_, map, append-nil, append-assoc}
+use mathlib.Core.List.{List, [], _∷_, _++_, map, append-nil}
 use mathlib.Core.Option.{Option, none, some}
 use Prim.Native.Nat.{ℕ, suc, _+_, _≤_, _<_}
 use native.Mathlib.Omega.{arith}
 use native.Mathlib.Numerals.{add-one}
 use lib.ListN.{length, take, drop, set, getD, length-take, length-drop, drop-of-length-le, take-append-drop}
-use lib.Seq.{drop-cons, getD-take, getD-drop, take-add, take-at, drop-at, sets, sets-eq}
+use lib.Seq.{drop-cons, getD-take, getD-drop, take-add, sets}
 use Rattle.spec_lists.specs.Select.{any, first}
 use Rattle.spec_lists.specs.Runs.{Run, part}
 use Rattle.spec_lists.specs.laws.Joined.{map-drop}
@@ -52,14 +52,6 @@ module _ {A : Type 0} where
   -- one more store of a run of stores
   pub sets-on : {w : A} {ws vs : List A} (l : List A) (j : ℕ) {k : ℕ} → suc j ≡ k → vs ≡ w ∷ ws → sets l j vs ≡ sets (set l j w) k ws
   sets-on {w} {ws} l j n e = ap (sets l j) e ∙ ap (λ (m : ℕ). sets (set l j w) m ws) n
-
-  -- a part that a run of stores has written
-  pub part-sets : (vs l : List A) (at : ℕ) → at + length vs ≤ length l → part (record { first = at; count = length vs }) (sets l at vs) ≡ vs
-  part-sets vs l at h =
-      let n : length (take at l) ≡ at = omega (arith, length-take at l) in
-      ap (λ (x : List A). take (length vs) (drop at x)) (sets-eq vs l at h ∙ append-assoc (take at l) vs (drop (at + length vs) l))
-      ∙ ap (take (length vs)) (drop-at (take at l) (vs ++ drop (at + length vs) l) at n)
-      ∙ take-at vs (drop (at + length vs) l) (length vs) refl
 
 module _ {A B : Type 0} (f : A → B) where
   -- the same of what elements are read as, in a list and in a run
