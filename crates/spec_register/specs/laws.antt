@@ -1,3 +1,4 @@
+pub mod Alone
 pub mod Changed
 pub mod From
 pub mod Input

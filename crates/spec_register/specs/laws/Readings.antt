@@ -5,10 +5,9 @@ use mathlib.Core.List.{List, [], _∷_}
 use mathlib.Core.Logic.{inl, inr}
 use mathlib.Core.Option.{Option, none, some}
 use Prim.Native.Nat.{ℕ, _≤_, _<_}
-use native.Mathlib.Decide.{ℕ-discrete, decLt}
 use native.Mathlib.Omega.{arith}
 use lib.ListN.{length, getD, set}
-use lib.Seq.{getD-set-same, getD-set-other, set-out}
+use lib.Seq.{getD-set-same}
 use Rattle.spec_calc.specs.declared.Reading.{Reading}
 use Rattle.spec_calc.specs.declared.Reading.the-variants.{NeverHeard}
 use Rattle.spec_calc.specs.Value.{reading}
@@ -25,6 +24,7 @@ use Rattle.spec_register.specs.Refusal.{add-refusal, change-refusal, rem
 use Rattle.spec_register.specs.Calls.{Gateway, Call, add, change, remove, set-reading, load-again, unless, reading-set, after-load, after, after-calls}
 use Rattle.spec_register.specs.Calls.{answer, refusal-of}
 use Rattle.spec_register.specs.Sentences.{Sized, Not-refused, Each-done, reading-at, Only-reading, Named, Has-input, Spares-reading, No-load}
+use Rattle.spec_register.specs.laws.Alone.{set-here, elsewhere}
 use Rattle.spec_register.specs.laws.Input.{settable}
 use Rattle.spec_register.specs.laws.Sized.{at-replicate, readings-sized}
 use Rattle.spec_register.specs.laws.Refused.{set-done, set-refused, load-done, named-group-is}
@@ -36,34 +36,13 @@ unheard-at r i letter =
     ap (λ (rs : List Reading). reading rs letter) (at-replicate (most access-groups) never-heard i) ∙ at-replicate letters NeverHeard letter
 
 module _ (r : Register) (i letter : ℕ) (x : Reading) where
-  anew : List Reading
-  anew = set (readings-at r i) letter x
-
-  set-here : i < length (r .readings) → readings-at (with-reading r i letter x) i ≡ anew
-  unfolding anew
-  set-here h = getD-set-same (r .readings) i anew never-heard h
-
-  letter-elsewhere : (l : ℕ) → (l ≡ letter → ⊥) → Dec (i < length (r .readings)) → reading-at (with-reading r i letter x) i l ≡ reading-at r i l
-  unfolding anew
-  letter-elsewhere l n (yes h) = ap (λ (rs : List Reading). reading rs l) (set-here h) ∙ getD-set-other (readings-at r i) letter l x NeverHeard n
-  letter-elsewhere l n (no h) =
-      ap (λ (rss : List (List Reading)). reading (getD rss i never-heard) l) (set-out (r .readings) i (set (readings-at r i) letter x) (omega arith))
-
-  elsewhere : (j l : ℕ) → (j ≡ i → l ≡ letter → ⊥) → reading-at (with-reading r i letter x) j l ≡ reading-at r j l
-  elsewhere j l n = by (ℕ-discrete j i)
-    where
-      by : Dec (j ≡ i) → reading-at (with-reading r i letter x) j l ≡ reading-at r j l
-      by (yes e) = rw e (letter-elsewhere l (n e) (decLt i (length (r .readings))))
-      by (no d) = ap (λ (rs : List Reading). reading rs l) (getD-set-other (r .readings) i j (set (readings-at r i) letter x) never-heard d)
-
   only-set : Sized r → i < most access-groups → letter < letters → Only-reading i letter x r (with-reading r i letter x)
-  unfolding anew
   only-set s h k =
       record {
         here =
-            ap (λ (rs : List Reading). reading rs letter) (set-here (omega (arith, h, s .groups)))
+            ap (λ (rs : List Reading). reading rs letter) (set-here r i letter x (omega (arith, h, s .groups)))
             ∙ getD-set-same (readings-at r i) letter x NeverHeard (omega (arith, k, readings-sized r s i));
-        others = elsewhere;
+        others = elsewhere r i letter x;
         clients = refl;
       }
 
