@@ -56,7 +56,7 @@ pub extern "C" fn hrazvanut_abi_change(
     states: &[u8],
     values: &[f64],
     table: &[u8],
-    place: usize,
+    p: usize,
     group: &[u8],
     user: &[u8],
     host: &[u8],
@@ -64,21 +64,11 @@ pub extern "C" fn hrazvanut_abi_change(
     changed: &mut [u64],
 ) -> u64
     ensures { λ r. ⌜
-        Changes (lent (now (table .entry)) (now (places .entry)) (now (states .entry)) (now (values .entry))) place
+        Changes (lent (now (table .entry)) (now (places .entry)) (now (states .entry)) (now (values .entry))) p
         (client-of (now (group .entry)) level (now (user .entry)) (now (host .entry))) (now (places .exit)) (now (changed .entry)) (now (changed .exit)) r
         ⌝ }
 {
-    let c = register::change(
-        places,
-        states,
-        values,
-        table,
-        place,
-        group,
-        user,
-        host,
-        level,
-    );
+    let c = register::change(places, states, values, table, p, group, user, host, level);
     api_register::tell_changed(c, changed)
 }
 
@@ -89,7 +79,7 @@ pub extern "C" fn hrazvanut_abi_change_checked(
     states: &[u8],
     values: &[f64],
     table: &[u8],
-    place: usize,
+    p: usize,
     group: &[u8],
     user: &[u8],
     host: &[u8],
@@ -98,20 +88,10 @@ pub extern "C" fn hrazvanut_abi_change_checked(
 ) -> u64
     requires { ⌜ is-table (now table) ≡ true ⌝ }
     ensures { λ r. ⌜
-        Changes (lent (now (table .entry)) (now (places .entry)) (now (states .entry)) (now (values .entry))) place
+        Changes (lent (now (table .entry)) (now (places .entry)) (now (states .entry)) (now (values .entry))) p
         (client-of (now (group .entry)) level (now (user .entry)) (now (host .entry))) (now (places .exit)) (now (changed .entry)) (now (changed .exit)) r
         ⌝ }
 {
-    let c = reg_checked::change_checked(
-        places,
-        states,
-        values,
-        table,
-        place,
-        group,
-        user,
-        host,
-        level,
-    );
+    let c = reg_checked::change_checked(places, states, values, table, p, group, user, host, level);
     api_register::tell_changed(c, changed)
 }

@@ -16,11 +16,11 @@ abbrev pub room-or : Option Refused → ℕ → Room
 room-or none p = room.At p
 room-or (some x) p = room.Refused x
 
-abbrev pub room-to-add : Lent → Client → Room
+unfoldable pub room-to-add : Lent → Client → Room
 room-to-add s c =
     cond (is-register s) (room-or (add-refusal (standing-in (s .places)) c) (free-in (s .places))) (room.Refused NotRegister)
 
-abbrev pub room-to-change : Lent → ℕ → Client → Room
+unfoldable pub room-to-change : Lent → ℕ → Client → Room
 room-to-change s p c = cond (is-register s) (room-or (change-refusal (standing-in (s .places)) p c) p) (room.Refused NotRegister)
 
 abbrev pub room-to-remove : List ℕ → ℕ → Room

@@ -51,27 +51,27 @@ free-in b = lowest-free (clients-in b)
 
 -- ---- a client is added, changed, removed
 
-abbrev pub places-added : Lent → Client → List ℕ
+unfoldable pub places-added : Lent → Client → List ℕ
 places-added s c =
     cond (is-register s)
     (unless (add-refusal (standing-in (s .places)) c)
     (entered (s .table) (readings-in (s .states) (s .values)) (s .places) (free-in (s .places)) c) (s .places))
     (s .places)
 
-abbrev pub told-added : Lent → Client → Added
+unfoldable pub told-added : Lent → Client → Added
 told-added s c =
     cond (is-register s)
     (added-at (add-refusal (standing-in (s .places)) c) (free-in (s .places)) (differing-in (s .places) (places-added s c)))
     (added.Refused NotRegister)
 
-abbrev pub places-changed : Lent → ℕ → Client → List ℕ
+unfoldable pub places-changed : Lent → ℕ → Client → List ℕ
 places-changed s p c =
     cond (is-register s)
     (unless (change-refusal (standing-in (s .places)) p c)
     (entered (s .table) (readings-in (s .states) (s .values)) (s .places) p c) (s .places))
     (s .places)
 
-abbrev pub told-changed : Lent → ℕ → Client → Changed
+unfoldable pub told-changed : Lent → ℕ → Client → Changed
 told-changed s p c =
     cond (is-register s)
     (changed-or (change-refusal (standing-in (s .places)) p c) (differing-in (s .places) (places-changed s p c)))

@@ -1,9 +1,6 @@
 use Rattle.reg_refuse.specs.laws.Told.{add-placed, add-fits, added-here, not-added}
 use Rattle.spec_places.specs.Storage.{lent}
 use Rattle.spec_register.specs.Register.{client-of}
-use Rattle.reg_refuse.specs.laws.Told.{add-placed, add-fits, added-here, not-added}
-use Rattle.spec_places.specs.Storage.{lent}
-use Rattle.spec_register.specs.Register.{client-of}
 use borrow.Author.Needs.{needs}
 use Rattle.reg_checked.proofs.add_checked.Statement.{statement}
 use Rattle.reg_checked.proofs.add_checked.Tie as tie

@@ -23,6 +23,7 @@ add-room t l v f p = cond t (room-or (first-if l LongName (first-if v BadLevel (
 pub added-by :
     (s : Lent) (c : Client) {t l v f : Bool} {p : ℕ} → is-register s ≡ t → long-name c ≡ l → bad-level c ≡ v
     → all-taken (standing-in (s .places)) ≡ f → p ≡ free-in (s .places) → add-room t l v f p ≡ room-to-add s c
+unfolding room-to-add
 added-by s c e g h i j = cc
 
 -- no client, long name, bad level
@@ -32,6 +33,7 @@ change-room t n l v p = cond t (room-or (first-if n NoClient (first-if l LongNam
 pub changed-by :
     (s : Lent) (p : ℕ) (c : Client) {t n l v : Bool} → is-register s ≡ t → no-client (standing-in (s .places)) p ≡ n → long-name c ≡ l
     → bad-level c ≡ v → change-room t n l v p ≡ room-to-change s p c
+unfolding room-to-change
 changed-by s p c e g h i = cc
 
 abbrev remove-room : Bool → Bool → ℕ → Room

@@ -19,6 +19,7 @@ use Rattle.spec_register.specs.Calls.{unless, added-at, changed-or}
 use Rattle.spec_places.specs.Storage.{Lent, are-places, standing-in, readings-in}
 use Rattle.spec_places.specs.Writing.{entered, freed}
 use Rattle.spec_places.specs.Calls.{is-register, free-in, differing-in, places-added, told-added, places-changed, told-changed, places-removed, told-removed}
+use Rattle.spec_places.specs.laws.Behind.{but-table}
 use Rattle.spec_places.specs.laws.Fits.{Fits, not-first, fits-added, fits-changed}
 use Rattle.reg_bytes.specs.Placed.{Placed}
 use Rattle.reg_bytes.specs.laws.Placed.{placed, has-places}
@@ -70,13 +71,14 @@ module _ (s : Lent) (c : Client) where
   abbrev rs : ℕ → List Reading
   rs = readings-in (s .states) (s .values)
 
-  add-causes : {r : Room} {p : ℕ} → r ≡ room-to-add s c → r ≡ room.At p → (is-register s ≡ true) × (add-refusal (standing-in (s .places)) c ≡ none) × (free-in (s .places) ≡ p)
+  add-causes : {r : Room} {p : ℕ} → r ≡ room-to-add (but-table s) c → r ≡ room.At p → (is-register s ≡ true) × (add-refusal (standing-in (s .places)) c ≡ none) × (free-in (s .places) ≡ p)
+  unfolding room-to-add
   add-causes {p = p} h e = made (is-register s) (add-refusal (standing-in (s .places)) c) (free-in (s .places)) p (sym h ∙ e)
 
-  pub add-fits : {r : Room} {p : ℕ} → r ≡ room-to-add s c → r ≡ room.At p → Fits c
+  pub add-fits : {r : Room} {p : ℕ} → r ≡ room-to-add (but-table s) c → r ≡ room.At p → Fits c
   add-fits h e = fits-added (standing-in (s .places)) c (add-causes h e .1)
 
-  pub add-placed : {r : Room} {p : ℕ} → r ≡ room-to-add s c → r ≡ room.At p → Placed (s .places) p
+  pub add-placed : {r : Room} {p : ℕ} → r ≡ room-to-add (but-table s) c → r ≡ room.At p → Placed (s .places) p
   add-placed {p = p} h e =
       let k = add-causes h e in
       let r = standing-in (s .places) in
@@ -87,15 +89,17 @@ module _ (s : Lent) (c : Client) where
       placed (s .places) p (has-places s (k .0)) l
 
   pub added-here :
-      {r : Room} {p m : ℕ} {e : List ℕ} → r ≡ room-to-add s c → r ≡ room.At p → e ≡ entered (s .table) rs (s .places) p c → m ≡ differing-in (s .places) e
+      {r : Room} {p m : ℕ} {e : List ℕ} → r ≡ room-to-add (but-table s) c → r ≡ room.At p → e ≡ entered (s .table) rs (s .places) p c → m ≡ differing-in (s .places) e
       → (added.At p m ≡ told-added s c) × (e ≡ places-added s c)
+  unfolding told-added places-added
   added-here {p = p} {m = m} {e = e} h g w v =
       let k = add-causes h g in
       let left : e ≡ places-added s c =
       w ∙ ap (λ (q : ℕ). entered (s .table) rs (s .places) q c) (sym (k .2)) ∙ done-leaves (s .places) (k .0) (k .1) in
       (ap (added.At p) (v ∙ ap (differing-in (s .places)) left) ∙ done-added (k .0) (k .1) (k .2), left)
 
-  pub not-added : {r : Room} {x : Refused} → r ≡ room-to-add s c → r ≡ room.Refused x → (added.Refused x ≡ told-added s c) × (s .places ≡ places-added s c)
+  pub not-added : {r : Room} {x : Refused} → r ≡ room-to-add (but-table s) c → r ≡ room.Refused x → (added.Refused x ≡ told-added s c) × (s .places ≡ places-added s c)
+  unfolding room-to-add told-added places-added
   not-added {x = x} h e =
       let o = add-refusal (standing-in (s .places)) c in
       let q = free-in (s .places) in (
@@ -105,13 +109,14 @@ module _ (s : Lent) (c : Client) where
 
   -- a change
   module _ (p : ℕ) where
-    change-causes : {r : Room} {q : ℕ} → r ≡ room-to-change s p c → r ≡ room.At q → (is-register s ≡ true) × (change-refusal (standing-in (s .places)) p c ≡ none) × (p ≡ q)
+    change-causes : {r : Room} {q : ℕ} → r ≡ room-to-change (but-table s) p c → r ≡ room.At q → (is-register s ≡ true) × (change-refusal (standing-in (s .places)) p c ≡ none) × (p ≡ q)
+    unfolding room-to-change
     change-causes {q = q} h e = made (is-register s) (change-refusal (standing-in (s .places)) p c) p q (sym h ∙ e)
 
-    pub change-fits : {r : Room} {q : ℕ} → r ≡ room-to-change s p c → r ≡ room.At q → Fits c
+    pub change-fits : {r : Room} {q : ℕ} → r ≡ room-to-change (but-table s) p c → r ≡ room.At q → Fits c
     change-fits h e = fits-changed (standing-in (s .places)) p c (change-causes h e .1)
 
-    pub change-placed : {r : Room} {q : ℕ} → r ≡ room-to-change s p c → r ≡ room.At q → Placed (s .places) q
+    pub change-placed : {r : Room} {q : ℕ} → r ≡ room-to-change (but-table s) p c → r ≡ room.At q → Placed (s .places) q
     change-placed {q = q} h e =
         let k = change-causes h e in
         let r = standing-in (s .places) in
@@ -120,15 +125,17 @@ module _ (s : Lent) (c : Client) where
         placed (s .places) q (has-places s (k .0)) l
 
     pub changed-here :
-        {r : Room} {q m : ℕ} {e : List ℕ} → r ≡ room-to-change s p c → r ≡ room.At q → e ≡ entered (s .table) rs (s .places) q c → m ≡ differing-in (s .places) e
+        {r : Room} {q m : ℕ} {e : List ℕ} → r ≡ room-to-change (but-table s) p c → r ≡ room.At q → e ≡ entered (s .table) rs (s .places) q c → m ≡ differing-in (s .places) e
         → (changed.Places m ≡ told-changed s p c) × (e ≡ places-changed s p c)
+    unfolding told-changed places-changed
     changed-here {m = m} {e = e} h g w v =
         let k = change-causes h g in
         let left : e ≡ places-changed s p c =
         w ∙ ap (λ (i : ℕ). entered (s .table) rs (s .places) i c) (sym (k .2)) ∙ done-leaves (s .places) (k .0) (k .1) in
         (ap changed.Places (v ∙ ap (differing-in (s .places)) left) ∙ done-changed (k .0) (k .1), left)
 
-    pub not-changed : {r : Room} {x : Refused} → r ≡ room-to-change s p c → r ≡ room.Refused x → (changed.Refused x ≡ told-changed s p c) × (s .places ≡ places-changed s p c)
+    pub not-changed : {r : Room} {x : Refused} → r ≡ room-to-change (but-table s) p c → r ≡ room.Refused x → (changed.Refused x ≡ told-changed s p c) × (s .places ≡ places-changed s p c)
+    unfolding room-to-change told-changed places-changed
     not-changed {x = x} h e =
         let o = change-refusal (standing-in (s .places)) p c in (
           refused-changed (is-register s) o p (differing-in (s .places) (places-changed s p c)) x (sym h ∙ e),

@@ -1,9 +1,6 @@
 use Rattle.reg_refuse.specs.laws.Told.{change-placed, change-fits, changed-here, not-changed}
 use Rattle.spec_places.specs.Storage.{lent}
 use Rattle.spec_register.specs.Register.{client-of}
-use Rattle.reg_refuse.specs.laws.Told.{change-placed, change-fits, changed-here, not-changed}
-use Rattle.spec_places.specs.Storage.{lent}
-use Rattle.spec_register.specs.Register.{client-of}
 use borrow.Author.Needs.{needs}
 use Rattle.register.proofs.change.Statement.{statement}
 use Rattle.register.proofs.change.Tie as tie

@@ -1,5 +1,4 @@
 use Rattle.reg_refuse.specs.laws.Told.{remove-placed, removed-here, not-removed}
-use Rattle.reg_refuse.specs.laws.Told.{remove-placed, removed-here, not-removed}
 use borrow.Author.Needs.{needs}
 use Rattle.register.proofs.remove.Statement.{statement}
 use Rattle.register.proofs.remove.Tie as tie

@@ -32,7 +32,7 @@ use Rattle.spec_register.specs.Refusal.{no-input, add-refusal, change-refusal, 
 use Rattle.spec_register.specs.Calls.{Call, add, change, remove, set-reading, load-again, unless, client-added, rights-changed, added-at, changed-or}
 use Rattle.spec_places.specs.Storage.{Lent, lent, at-place, client-bytes, kept-at, nothing-kept, right-code, standing-in, readings-in}
 use Rattle.spec_places.specs.Writing.{asked, rules-at, kept-by, kept, entered, each, kept-right, renewed, state-of}
-use Rattle.spec_places.specs.Calls.{is-register, free-in, differing-in, with-reading-in, left, told}
+use Rattle.spec_places.specs.Calls.{is-register, free-in, differing-in, with-reading-in, told-added, places-added, told-changed, places-changed, left, told}
 
 -- lent storage but for the table
 abbrev pub but-table : Lent → Lent
@@ -119,11 +119,12 @@ module _ (t u : List ℕ) (same-test : is-table t ≡ is-table u) (same-view : v
         let i = g .number * letters + letter in
         let states = set st i (state-of r) in
         let values = set v i (heard r) in
-        ap (λ (x : List ℕ). lent [] x states values) (renewed-same (g .number) (readings-in states values (g .number)) b)
+        ap (λ (x : List ℕ). lent [] x states values) (renewed-same (g .number) _ b)
     reading-same true (some y) g letter r = refl
     reading-same false o g letter r = refl
 
     pub same-left : (c : Call) → ((text : List ℕ) → c ≡ load-again text → ⊥) → but-table (left (over t) c) ≡ but-table (left (over u) c)
+    unfolding places-added places-changed
     same-left (add c) n = ap (λ (x : List ℕ). lent [] x st v) (put-same (add-refusal (standing-in b) c) (free-in b) c)
     same-left (change p c) n = ap (λ (x : List ℕ). lent [] x st v) (put-same (change-refusal (standing-in b) p c) p c)
     same-left (remove p) n = refl
@@ -136,6 +137,7 @@ module _ (t u : List ℕ) (same-test : is-table t ≡ is-table u) (same-view : v
     same-left (load-again text) n = absurd (n text refl)
 
     pub same-told : (c : Call) → ((text : List ℕ) → c ≡ load-again text → ⊥) → told (over t) c ≡ told (over u) c
+    unfolding told-added places-added told-changed places-changed
     same-told (add c) n =
         let o = add-refusal (standing-in b) c in
         ap

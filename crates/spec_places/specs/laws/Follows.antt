@@ -25,7 +25,7 @@ use Rattle.spec_register.specs.Sentences.{begun}
 use Rattle.spec_places.specs.Storage.{Lent, zeroed, places-bytes, all-readings, are-places, standing-in, readings-in}
 use Rattle.spec_places.specs.Writing.{entered, freed}
 use Rattle.spec_places.specs.Calls.{is-register, has-room, free-in, differing-in, with-places, with-reading-in, reloaded-by}
-use Rattle.spec_places.specs.Calls.{places-added, places-changed, places-removed, left-set, left-reloaded, left, left-by-calls, told, Agrees}
+use Rattle.spec_places.specs.Calls.{told-added, places-added, told-changed, places-changed, places-removed, left-set, left-reloaded, left, left-by-calls, told, Agrees}
 use Rattle.spec_places.specs.laws.Settled.{Settled, has-places, has-states, right-settled, zeros-settled, zeros-empty}
 use Rattle.spec_places.specs.laws.Steps.{gateway-in, Holds, call-holds}
 
@@ -46,6 +46,7 @@ module _ (s : Lent) (h : Settled s) where
 
   -- a call tells what spec_register answers
   pub told-answers : (c : Call) → told s c ≡ answer (gateway-in s) c
+  unfolding told-added told-changed
   told-answers (add c) =
       let o = add-refusal (standing-in (s .places)) c in
       ap client-added (by-changes (added-at o (free-in (s .places))) (added.Refused NotRegister) (h .room) (changes (add c)))
@@ -125,6 +126,7 @@ module _ (s : Lent) (n : ℕ) where
 
 -- 01: "A refused call changes no lent byte and no state": of whatever is lent
 pub refused-leaves : (s : Lent) (c : Call) (n : ℕ) → refusal-of (told s c) ≡ some n → left s c ≡ s
+unfolding told-added places-added told-changed places-changed
 refused-leaves s (add c) n e =
     let b = s .places in
     add-leaves s n

@@ -31,7 +31,7 @@ use Rattle.spec_register.specs.Calls.{added-at, changed-or, reloaded-as, refusa
 use Rattle.spec_register.specs.laws.Refused.{added-told, changed-told}
 use Rattle.spec_places.specs.Storage.{Lent, places-bytes, all-readings, are-places, right-in, standing-in}
 use Rattle.spec_places.specs.Calls.{are-states, are-values, is-register, has-room, free-in, differing-in}
-use Rattle.spec_places.specs.Calls.{places-added, places-changed, places-removed, left-set, left-reloaded, told, Short-register, Too-short}
+use Rattle.spec_places.specs.Calls.{told-added, places-added, told-changed, places-changed, places-removed, left-set, left-reloaded, told, Short-register, Too-short}
 
 pub short-right : (b : List ℕ) (p : ℕ) → length b < places-bytes → right-in b p ≡ no-access
 short-right b p h = rw (lt-leb places-bytes (length b) h)
@@ -127,6 +127,7 @@ changed-other : (o : Option Refused) (m : ℕ) → Other (Option·map number o) 
 changed-other o m h = rw (changed-told o m) h
 
 pub too-short : (s : Lent) (c : Call) → (refusal-of (told s c) ≡ some 34) ↔ Too-short s c
+unfolding told-added told-changed
 too-short s (add c) =
     let o = add-refusal (standing-in (s .places)) c in
     let m = differing-in (s .places) (places-added s c) in

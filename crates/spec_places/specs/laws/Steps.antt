@@ -32,7 +32,7 @@ use Rattle.spec_register.specs.laws.Lowest.{lowest-within}
 use Rattle.spec_register.specs.laws.From.{given-at, given-length, given-beyond, given-same, given-set, given-one}
 use Rattle.spec_places.specs.Storage.{Lent, places-bytes, all-readings, are-places, client-in, clients-in, standing-in, readings-in, register-in}
 use Rattle.spec_places.specs.Writing.{entered, freed, renewed, settled}
-use Rattle.spec_places.specs.Calls.{are-states, are-values, free-in, with-reading-in, reloaded-by, has-room, with-places, left}
+use Rattle.spec_places.specs.Calls.{are-states, are-values, free-in, places-added, places-changed, with-reading-in, reloaded-by, has-room, with-places, left}
 use Rattle.spec_places.specs.laws.Each.{each-length, each-at}
 use Rattle.spec_places.specs.laws.Fits.{Fits, not-first, fits-added, fits-changed}
 use Rattle.spec_places.specs.laws.Frame.{Local, entered-local, freed-local, settled-local, renewed-local}
@@ -168,6 +168,7 @@ module _ (s : Lent) (h : Settled s) where
   Told-holds o c r = Holds (with-places s (unless o c b)) (record { table = t; register = unless o r (register-in s) })
 
   pub add-holds : (c : Client) → Holds (left s (add c)) (after (gateway-in s) (add c))
+  unfolding places-added
   add-holds c =
       subst
       (λ (x : Bool). Holds (with-places s (cond x (unless refusal (entered t rs b (free-in b) c) b) b)) (after (gateway-in s) (add c)))
@@ -184,6 +185,7 @@ module _ (s : Lent) (h : Settled s) where
       by (some x) e = stays
 
   pub change-holds : (p : ℕ) (c : Client) → Holds (left s (change p c)) (after (gateway-in s) (change p c))
+  unfolding places-changed
   change-holds p c =
       subst
       (λ (x : Bool). Holds (with-places s (cond x (unless refusal (entered t rs b p c) b) b)) (after (gateway-in s) (change p c)))
