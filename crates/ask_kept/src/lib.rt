@@ -72,8 +72,8 @@ fn with_kept(table: &[u8], rule: usize, k: u8, t: bool, earlier: Decision) -> De
     if !t {
         return earlier; // its calculation is false
     }
-    let offered = ask_rule::granted_by(table_read::field(table, Section::Rules, rule, 0));
-    if ask_rule::is_at_least(earlier, offered) {
+    let offered = ask_grant::granted_by(table_read::field(table, Section::Rules, rule, 0));
+    if ask_grant::is_at_least(earlier, offered) {
         return earlier;
     }
     offered

@@ -9,11 +9,10 @@ use Rattle.spec_calc.specs.Value.{heard, good}
 use Rattle.spec_rule.specs.declared.Decision.{Decision}
 use Rattle.spec_rule.specs.Question.{question-of, Question}
 use Rattle.spec_rule.specs.Rule.{Rule, calculation-holds, passes}
-use Rattle.spec_rule.specs.Decision.{grant, decision-by}
+use Rattle.spec_rule.specs.Decision.{decision-by}
 use Rattle.spec_file.specs.Limit.{rules}
 use Rattle.spec_table.specs.View.{view}
-use Rattle.spec_table.specs.Check.{permission-bits, trap-bit}
-use Rattle.spec_table.specs.Policy.{permission, set-bit, rule-of, row}
+use Rattle.spec_table.specs.Policy.{rule-of, row}
 
 -- the i-th rule of a table
 abbrev pub rule-at : List ℕ → ℕ → Rule
@@ -26,11 +25,6 @@ question u h l rs = question-of [] u h l rs
 -- the values of some readings, and which of them are good
 abbrev pub Inputs-are : List Float → List Bool → List Reading → Type 0
 Inputs-are values goods rs = (values ≡ map heard rs) × (goods ≡ map good rs)
-
--- ---- what a rule's flags give
-
-abbrev pub flagged : ℕ → Decision
-flagged f = grant (permission (permission-bits f)) (set-bit (trap-bit f))
 
 -- ---- of every question whose readings have these values
 

@@ -1,3 +1,1 @@
-pub mod Members
 pub mod Calculation
-pub mod Flags

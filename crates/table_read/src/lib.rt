@@ -78,7 +78,7 @@ fn count(table: &[u8], s: Section) -> usize
     table_fields::count(table, order_of(s))
 }
 
-// The j-th word of the i-th record of a section. Inner: ask, ask_checked and ask_rule call it, with a record that a search or a run gave them.
+// The j-th word of the i-th record of a section. Inner: its callers have the record from a search or a run.
 pub fn field(table: &[u8], s: Section, i: usize, j: usize) -> usize
     requires { ⌜ Stored (now table) (section s) i × (j < width (section s)) ⌝ }
     ensures { λ r. ⌜ Word (word-of (now (table .entry)) (section s) i j) r ⌝ }
@@ -86,7 +86,7 @@ pub fn field(table: &[u8], s: Section, i: usize, j: usize) -> usize
     table_fields::field(table, order_of(s), i, j)
 }
 
-// The part of a table that a record's name is. Inner: ask, ask_checked and ask_rule call it, with a record that a search or a run gave them.
+// The part of a table that a record's name is. Inner: its callers have the record from a search or a run.
 pub fn name_of(table: &[u8], s: Section, i: usize) -> &[u8]
     requires { ⌜ Stored (now table) (section s) i ⌝ }
     ensures { λ r. ⌜ now r ≡ name (view (now (table .entry))) (section s) (row (view (now (table .entry))) (section s) i) ⌝ }

@@ -1,5 +1,6 @@
 use Rattle.ask_kept.specs.laws.Kept.{not-kept, not-true-kept, kept-no-more, kept-more}
-use Rattle.ask_rule.specs.Rules.{rule-at, flagged}
+use Rattle.ask_grant.specs.Flags.{flagged}
+use Rattle.ask_rule.specs.Rules.{rule-at}
 use Rattle.spec_rule.specs.Rule.{rank}
 use lib.Dec.{leb}
 use borrow.Author.Tests.{not-true, not-false}

@@ -3,7 +3,8 @@ use native.Mathlib.Omega.{arith}
 use lib.Dec.{leb}
 use Rattle.spec_rule.specs.Rule.{rank}
 use Rattle.spec_rule.specs.laws.Decision.{gives-no-more, gives-more, gives-nothing}
-use Rattle.ask_rule.specs.Rules.{rule-at, question, flagged}
+use Rattle.ask_grant.specs.Flags.{flagged}
+use Rattle.ask_rule.specs.Rules.{rule-at, question}
 use borrow.Author.Needs.{needs}
 use Rattle.ask_rule.proofs.with_rule.Statement.{statement}
 use Rattle.ask_rule.proofs.with_rule.Tie as tie

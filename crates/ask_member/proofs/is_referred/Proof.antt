@@ -1,12 +1,12 @@
-use Rattle.ask_rule.specs.Members.{groups, matches}
-use Rattle.ask_rule.specs.laws.Members.{referred-none, referred-some}
+use Rattle.ask_member.specs.Members.{groups, matches}
+use Rattle.ask_member.specs.laws.Members.{referred-none, referred-some}
 use Rattle.spec_table.specs.Policy.{row}
 use Rattle.spec_table.specs.View.{view}
 use Rattle.spec_file.specs.Limit.{references}
 use native.Mathlib.Omega.{arith}
 use mathlib.Core.Path.{sym, _∙_}
-use Rattle.ask_rule.proofs.is_referred.Statement.{statement}
-use Rattle.ask_rule.proofs.is_referred.Tie as tie
+use Rattle.ask_member.proofs.is_referred.Statement.{statement}
+use Rattle.ask_member.proofs.is_referred.Tie as tie
 
 field-requires : tie.Need-field-requires
 field-requires c κs = (c .before .before .pre .0, omega arith)

@@ -1,6 +1,6 @@
 use borrow.Author.Needs.{needs}
-use Rattle.ask_rule.proofs.same_name.Statement.{statement}
-use Rattle.ask_rule.proofs.same_name.Tie as tie
+use Rattle.ask_member.proofs.same_name.Statement.{statement}
+use Rattle.ask_member.proofs.same_name.Tie as tie
 
 enum-told : tie.Need-enum-told
 enum-told c = search needs

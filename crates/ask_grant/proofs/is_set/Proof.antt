@@ -1,8 +1,8 @@
-use Rattle.ask_rule.specs.laws.Flags.{set-bit-on}
+use Rattle.ask_grant.specs.laws.Flags.{set-bit-on}
 use mathlib.Core.Path.{sym}
 use borrow.Author.Needs.{needs}
-use Rattle.ask_rule.proofs.is_set.Statement.{statement}
-use Rattle.ask_rule.proofs.is_set.Tie as tie
+use Rattle.ask_grant.proofs.is_set.Statement.{statement}
+use Rattle.ask_grant.proofs.is_set.Tie as tie
 
 returns : tie.Need-returns
 returns c = search needs

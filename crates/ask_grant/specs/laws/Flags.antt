@@ -7,7 +7,7 @@ use Rattle.spec_rule.specs.declared.Access.the-variants as access
 use Rattle.spec_rule.specs.Decision.{grant}
 use Rattle.spec_table.specs.Check.{permission-bits, trap-bit}
 use Rattle.spec_table.specs.Policy.{permission, set-bit}
-use Rattle.ask_rule.specs.Rules.{flagged}
+use Rattle.ask_grant.specs.Flags.{flagged}
 
 pub flagged-as : (f : ℕ) (a : Access) {p : Access} → p ≡ permission (permission-bits f) → p ≡ a → grant a (set-bit (trap-bit f)) ≡ flagged f
 flagged-as f a e q = ap (λ (x : Access). grant x (set-bit (trap-bit f))) (sym q ∙ e)

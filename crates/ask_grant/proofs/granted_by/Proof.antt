@@ -1,10 +1,10 @@
 use Rattle.spec_rule.specs.Decision.{grant}
-use Rattle.ask_rule.specs.laws.Flags.{flagged-as}
+use Rattle.ask_grant.specs.laws.Flags.{flagged-as}
 use Rattle.spec_rule.specs.declared.Access.the-variants as access
 use mathlib.Core.Path.{ap, _∙_}
 use borrow.Author.Needs.{needs}
-use Rattle.ask_rule.proofs.granted_by.Statement.{statement}
-use Rattle.ask_rule.proofs.granted_by.Tie as tie
+use Rattle.ask_grant.proofs.granted_by.Statement.{statement}
+use Rattle.ask_grant.proofs.granted_by.Tie as tie
 
 is-set-requires : tie.Need-is-set-requires
 is-set-requires c κs = search needs

@@ -19,9 +19,9 @@ use Rattle.spec_table.specs.Policy.{members-of, referred, row}
 use Rattle.spec_table.specs.laws.Standing.{stands, users-members, hosts-members, references-within, user-number, host-number}
 use Rattle.table_fields.specs.Field.{Word}
 use Rattle.table_read.specs.Stored.{Stored, word-of}
-use Rattle.ask_rule.specs.declared.GroupKind.{GroupKind}
-use Rattle.ask_rule.specs.declared.GroupKind.the-variants.{Users, Hosts}
-use Rattle.ask_rule.specs.Members.{groups, references-word, references-run, Refers}
+use Rattle.ask_member.specs.declared.GroupKind.{GroupKind}
+use Rattle.ask_member.specs.declared.GroupKind.the-variants.{Users, Hosts}
+use Rattle.ask_member.specs.Members.{groups, references-word, references-run, Refers}
 
 module _ (c : Content) (w : well-formed c ≡ true) where
   pub members-within : (k : GroupKind) (i : ℕ) → i < length (c .records (groups k)) → Within (length (c .records members)) (members-run (row c (groups k) i))

@@ -1,6 +1,6 @@
 use borrow.Author.Needs.{needs}
-use Rattle.ask_rule.proofs.group_word.Statement.{statement}
-use Rattle.ask_rule.proofs.group_word.Tie as tie
+use Rattle.ask_member.proofs.group_word.Statement.{statement}
+use Rattle.ask_member.proofs.group_word.Tie as tie
 
 enum-told : tie.Need-enum-told
 enum-told c = search needs

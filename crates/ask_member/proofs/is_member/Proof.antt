@@ -1,5 +1,5 @@
-use Rattle.ask_rule.specs.Members.{groups, matches}
-use Rattle.ask_rule.specs.laws.Members.{members-within}
+use Rattle.ask_member.specs.Members.{groups, matches}
+use Rattle.ask_member.specs.laws.Members.{members-within}
 use Rattle.spec_table.specs.Policy.{row, members-of}
 use Rattle.spec_table.specs.laws.Standing.{stands}
 use Rattle.spec_table.specs.Policy as policy
@@ -14,8 +14,8 @@ use mathlib.Core.List.{[]}
 use mathlib.Core.Path.{_≡_, refl, sym, ap, _∙_}
 use Prim.Native.Nat.{_≤_, _-_}
 use borrow.Author.Needs.{needs}
-use Rattle.ask_rule.proofs.is_member.Statement.{statement}
-use Rattle.ask_rule.proofs.is_member.Tie as tie
+use Rattle.ask_member.proofs.is_member.Statement.{statement}
+use Rattle.ask_member.proofs.is_member.Tie as tie
 
 abbrev Inv-loop : tie.InvT-loop
 Inv-loop table k group name start n i₀ i = (i ≤ n) × (any (matches k name) (members-of (view table) (row (view table) (groups k) group)) ≡ any (matches k name) (drop i (members-of (view table) (row (view table) (groups k) group))))

@@ -1,8 +1,8 @@
-use Rattle.ask_rule.specs.laws.Flags.{permission-high}
+use Rattle.ask_grant.specs.laws.Flags.{permission-high}
 use mathlib.Core.Path.{sym}
 use borrow.Author.Needs.{needs}
-use Rattle.ask_rule.proofs.permission_of.Statement.{statement}
-use Rattle.ask_rule.proofs.permission_of.Tie as tie
+use Rattle.ask_grant.proofs.permission_of.Statement.{statement}
+use Rattle.ask_grant.proofs.permission_of.Tie as tie
 
 returns : tie.Need-returns
 returns c = search needs

@@ -1,7 +1,7 @@
 use mathlib.Core.Path.{refl}
 use borrow.Author.Needs.{needs}
-use Rattle.ask_rule.proofs.is_at_least.Statement.{statement}
-use Rattle.ask_rule.proofs.is_at_least.Tie as tie
+use Rattle.ask_grant.proofs.is_at_least.Statement.{statement}
+use Rattle.ask_grant.proofs.is_at_least.Tie as tie
 
 rank-of-requires : tie.Need-rank-of-requires
 rank-of-requires c κs = search needs

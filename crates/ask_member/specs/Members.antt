@@ -10,8 +10,8 @@ use Rattle.spec_file.specs.Limit.{Section, user-groups, host-groups, rules, ref
 use Rattle.spec_table.specs.View.{view}
 use Rattle.spec_table.specs.Check.{run-at, number-field, undefined-number}
 use Rattle.spec_table.specs.Policy.{members-of, referred, row}
-use Rattle.ask_rule.specs.declared.GroupKind.{GroupKind}
-use Rattle.ask_rule.specs.declared.GroupKind.the-variants.{Users, Hosts}
+use Rattle.ask_member.specs.declared.GroupKind.{GroupKind}
+use Rattle.ask_member.specs.declared.GroupKind.the-variants.{Users, Hosts}
 
 abbrev pub groups : GroupKind → Section
 groups Users = user-groups

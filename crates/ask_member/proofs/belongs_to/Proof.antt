@@ -1,5 +1,5 @@
-use Rattle.ask_rule.specs.Members.{groups, matches, references-run}
-use Rattle.ask_rule.specs.laws.Members.{references-low, references-first, references-count, refers, kind-references, belongs-none, belongs-some}
+use Rattle.ask_member.specs.Members.{groups, matches, references-run}
+use Rattle.ask_member.specs.laws.Members.{references-low, references-first, references-count, refers, kind-references, belongs-none, belongs-some}
 use Rattle.spec_table.specs.Policy.{row, referred}
 use Rattle.spec_table.specs.laws.Standing.{stands}
 use Rattle.spec_table.specs.View.{view}
@@ -13,8 +13,8 @@ use mathlib.Core.List.{[], map}
 use mathlib.Core.Path.{_≡_, refl, sym, _∙_}
 use Prim.Native.Nat.{_≤_, _-_}
 use borrow.Author.Needs.{needs}
-use Rattle.ask_rule.proofs.belongs_to.Statement.{statement}
-use Rattle.ask_rule.proofs.belongs_to.Tie as tie
+use Rattle.ask_member.proofs.belongs_to.Statement.{statement}
+use Rattle.ask_member.proofs.belongs_to.Tie as tie
 
 abbrev Inv-loop : tie.InvT-loop
 Inv-loop table k rule name j start n i₀ i = (i ≤ n) × (any (λ m. any (matches k name) m) (map (referred (view table) (groups k)) (part (references-run k (row (view table) rules rule)) (view table .records references))) ≡ any (λ m. any (matches k name) m) (drop i (map (referred (view table) (groups k)) (part (references-run k (row (view table) rules rule)) (view table .records references)))))
