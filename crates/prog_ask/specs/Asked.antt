@@ -9,7 +9,7 @@ use Rattle.spec_table.specs.Check.{is-table}
 use Rattle.spec_load.specs.declared.Loaded.{Loaded}
 use Rattle.spec_load.specs.declared.Loaded.the-variants as loaded
 use Rattle.spec_load.specs.Load.{load}
-use Rattle.prog_words.specs.Words.{refusal-line}
+use Rattle.prog_report.specs.Report.{refusal-line}
 use Rattle.prog_replies.specs.Input.{Input, printed}
 use Rattle.prog_ask.specs.declared.Begins.{Begins}
 use Rattle.prog_ask.specs.declared.Begins.the-variants.{Ready, Refused}

@@ -20,7 +20,7 @@ fn begin(rules: &[u8], table: &mut [u8], out: &mut [u8]) -> Begins
     match load::load(rules, table) {
         Loaded::Accepted { length, warnings } => Begins::Ready,
         Loaded::Refused { refusal, place } => {
-            let n = prog_words::refusal_line(refusal, place, out);
+            let n = prog_report::refusal_line(refusal, place, out);
             Begins::Refused(n)
         }
     }

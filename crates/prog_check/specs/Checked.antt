@@ -3,7 +3,7 @@ use mathlib.Core.List.{List, [], _∷_, _++_}
 use Prim.Native.Nat.{ℕ}
 use Rattle.spec_file.specs.Warning.{number, Warned, warnings}
 use Rattle.spec_file.specs.Load.{Verdict, refuse, accept, verdict}
-use Rattle.prog_words.specs.Words.{refusal-line, warning-line}
+use Rattle.prog_report.specs.Report.{refusal-line, warning-line}
 
 -- 01: "a line each"
 abbrev pub warning-lines : List Warned → List ℕ

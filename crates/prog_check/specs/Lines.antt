@@ -5,8 +5,8 @@ use Prim.Native.Nat.{ℕ, _*_, _≤_}
 use lib.ListN.{length, take}
 use Rattle.io.specs.Counts.{Counts}
 use Rattle.spec_file.specs.Limit.{most-bytes}
-use Rattle.prog_words.specs.Put.{Put}
-use Rattle.prog_words.specs.Words.{warning-line}
+use Rattle.prog_text.specs.Put.{Put}
+use Rattle.prog_report.specs.Report.{warning-line}
 use Rattle.prog_check.specs.Checked.{checked}
 
 -- the lines of warnings whose numbers and places stand in two lists

@@ -3,7 +3,7 @@ use spec_load::Listed;
 ghost use mathlib.Core.Path.{_≡_};
 ghost use Prim.Native.Nat.{_*_, _≤_};
 ghost use lib.ListN.{length, take};
-ghost use Rattle.prog_words.specs.Put.{Stands};
+ghost use Rattle.prog_text.specs.Put.{Stands};
 ghost use Rattle.prog_check.specs.Lines.{lines-by, longest-line, Prints};
 
 // No file has more tokens than bytes, and so no more warnings.
@@ -28,7 +28,7 @@ fn put_warnings(numbers: &[u8], places: &[u16], n: usize, out: &mut [u8]) -> usi
     let mut end = 0;
     let mut i = 0;
     while i < n {
-        end = prog_words::warning_line(wide(numbers[i]), load_tokens::wide(places[i]), out, end);
+        end = prog_report::warning_line(wide(numbers[i]), load_tokens::wide(places[i]), out, end);
         i += 1;
     }
     end
@@ -41,7 +41,7 @@ pub fn check(text: &[u8], out: &mut [u8]) -> usize
     let mut numbers = [0u8; MOST];
     let mut places = [0u16; MOST];
     match warnings::list_warnings(text, 0, &mut numbers, &mut places) {
-        Listed::Refused { refusal, place } => prog_words::refusal_line(refusal, place, out),
+        Listed::Refused { refusal, place } => prog_report::refusal_line(refusal, place, out),
         Listed::Warnings(count) => put_warnings(&numbers, &places, count, out),
     }
 }

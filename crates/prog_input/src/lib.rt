@@ -45,7 +45,7 @@ pub fn read_whole(fd: i32, buf: &mut [u8]) -> usize
     while rounds < MOST {
         match read_piece(fd, &mut piece) {
             Piece::Bytes(n) => {
-                end = prog_words::put(&piece[..n], buf, end);
+                end = prog_text::put(&piece[..n], buf, end);
             }
             Piece::End => {
                 return end;

@@ -5,7 +5,8 @@ use Prim.Native.Nat.{ℕ}
 use lib.Dec.{eqb}
 use Rattle.spec_decision.specs.Decision.{decide}
 use Rattle.prog_line.specs.Line.{Line, refused, question, asks}
-use Rattle.prog_words.specs.Words.{answer-text, refused-line, line}
+use Rattle.prog_text.specs.Text.{line}
+use Rattle.prog_words.specs.Words.{answer-text, refused-line}
 
 -- the newline, which ends a line
 abbrev pub ends-line : ℕ → Bool

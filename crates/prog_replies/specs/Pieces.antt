@@ -6,7 +6,7 @@ use Prim.Native.Nat.{ℕ, _-_, _≤_, _<_}
 use lib.ListN.{length, take, drop, getD}
 use Rattle.spec_lists.specs.Select.{all}
 use Rattle.io.specs.Counts.{Counts}
-use Rattle.prog_words.specs.Put.{Put}
+use Rattle.prog_text.specs.Put.{Put}
 use Rattle.prog_replies.specs.Input.{ends-line, parted, replies, whole, cut, printed}
 
 -- bytes of one line

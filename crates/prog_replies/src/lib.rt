@@ -6,7 +6,7 @@ ghost use Prim.Native.Nat.{_+_, _*_, _≤_};
 ghost use lib.ListN.{length, take};
 ghost use Rattle.spec_table.specs.Check.{is-table};
 ghost use Rattle.prog_line.specs.Line.{asks};
-ghost use Rattle.prog_words.specs.Put.{Put};
+ghost use Rattle.prog_text.specs.Put.{Put};
 ghost use Rattle.prog_replies.specs.Input.{answered, reply};
 ghost use Rattle.prog_replies.specs.Pieces.{room, longest-reply, Line-span, Extends, State, Responds, Finishes, Cuts};
 
@@ -46,7 +46,7 @@ fn reply(table: &[u8], line: &[u8], out: &mut [u8], at: usize) -> usize
     ensures { λ r. ⌜ Put (reply (now (table .entry)) (now (line .entry))) (now (out .entry)) at (now (out .exit)) r ⌝ }
 {
     let end = answer_line(table, line, out, at);
-    prog_words::put(b"\n", out, end)
+    prog_text::put(b"\n", out, end)
 }
 
 // Behind the line that has begun stands what a piece has from an offset up to another: if a newline ends it there, it is answered.
@@ -66,7 +66,7 @@ fn take_line(
         × Extends (now (table .entry)) (take at (now (piece .entry))) (take (end + 1) (now (piece .entry)))
         (now (out .entry)) printed (now (buffer .entry)) count (now (out .exit)) (r .printed) (now (buffer .exit)) (r .count) ⌝ }
 {
-    let filled = prog_words::put(&piece[at..end], buffer, count);
+    let filled = prog_text::put(&piece[at..end], buffer, count);
     if end < piece.len() {
         let next = reply(table, &buffer[..filled], out, printed);
         return Progress {
@@ -129,7 +129,7 @@ pub fn cut(count: usize, out: &mut [u8]) -> usize
 {
     if 0 < count {
         let text_end = prog_words::refused_text(out, 0);
-        return prog_words::put(b"\n", out, text_end);
+        return prog_text::put(b"\n", out, text_end);
     }
     0
 }

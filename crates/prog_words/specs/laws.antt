@@ -1,4 +1,1 @@
-pub mod Put
-pub mod Digits
-pub mod Length
 pub mod Examples

@@ -85,7 +85,7 @@ pub fn put_reloaded(l: Reloaded) {
             changed,
         } => put_pair(b"ok ", length, warnings),
         Reloaded::Refused { refusal, place } => {
-            put_pair(b"refused ", prog_words::refusal_number(refusal), place)
+            put_pair(b"refused ", prog_report::refusal_number(refusal), place)
         }
         Reloaded::NotRegister => put_refused(Refused::NotRegister),
     }

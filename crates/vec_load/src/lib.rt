@@ -22,7 +22,7 @@ fn put_answer(a: Loaded) {
         Loaded::Accepted { length, warnings } => put_pair(b"accepted ", length, warnings),
         Loaded::Refused { refusal, place } => put_pair(
             b"refused ",
-            prog_words::refusal_number(refusal),
+            prog_report::refusal_number(refusal),
             place,
         ),
     }

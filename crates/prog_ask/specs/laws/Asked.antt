@@ -11,9 +11,9 @@ use Rattle.spec_load.specs.declared.Loaded.the-variants as loaded
 use Rattle.spec_load.specs.Load.{Result, load}
 use Rattle.spec_demand.specs.Calls.{is-accepted}
 use Rattle.spec_demand.specs.laws.Exact.{leaves-table}
-use Rattle.prog_words.specs.Words.{refusal-line}
-use Rattle.prog_words.specs.Put.{Stands}
-use Rattle.prog_words.specs.laws.Put.{put-whole}
+use Rattle.prog_report.specs.Report.{refusal-line}
+use Rattle.prog_text.specs.Put.{Stands}
+use Rattle.prog_text.specs.laws.Put.{put-whole}
 use Rattle.prog_replies.specs.laws.History.{wrote}
 use Rattle.prog_ask.specs.declared.Begins.the-variants.{Ready, Refused}
 use Rattle.prog_ask.specs.Asked.{asked-by, asked, Begun}

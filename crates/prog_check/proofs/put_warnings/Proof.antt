@@ -1,8 +1,8 @@
 use Rattle.prog_check.specs.laws.Lines.{no-lines, line-more}
-use Rattle.prog_words.specs.Put.{Stands}
+use Rattle.prog_text.specs.Put.{Stands}
 use Rattle.prog_check.specs.Lines.{lines-by, longest-line}
-use Rattle.prog_words.specs.laws.Put.{put-within, put-length, put-as}
-use Rattle.prog_words.specs.Words.{warning-line}
+use Rattle.prog_text.specs.laws.Put.{put-within, put-length, put-as}
+use Rattle.prog_report.specs.Report.{warning-line}
 use lib.ListN.{length, take, getD}
 use mathlib.Core.Path.{_≡_, refl, sym, ap, subst, _∙_}
 use native.Mathlib.Omega.{arith}

@@ -12,9 +12,9 @@ use Rattle.spec_file.specs.Load.{Verdict, refuse, accept, verdict}
 use Rattle.spec_load.specs.declared.Listed.{Listed}
 use Rattle.spec_load.specs.declared.Listed.the-variants.{Warnings, Refused}
 use Rattle.spec_load.specs.Listing.{Listing, laid-over, listed-by, listing}
-use Rattle.prog_words.specs.Words.{refusal-line}
-use Rattle.prog_words.specs.Put.{Stands}
-use Rattle.prog_words.specs.laws.Put.{put-within, put-as, put-whole}
+use Rattle.prog_report.specs.Report.{refusal-line}
+use Rattle.prog_text.specs.Put.{Stands}
+use Rattle.prog_text.specs.laws.Put.{put-within, put-as, put-whole}
 use Rattle.prog_check.specs.Checked.{told, checked}
 use Rattle.prog_check.specs.Lines.{lines-by, most-printed, Prints}
 use Rattle.prog_check.specs.laws.Few.{length-map, few-warnings}

@@ -7,11 +7,11 @@ use lib.ListN.{length, take, getD, length-append}
 use lib.Seq.{take-suc, length-take-le}
 use Rattle.spec_lists.specs.Text.{bytes}
 use Rattle.spec_file.specs.Warning.{number, Warned}
-use Rattle.prog_words.specs.Words.{placed, warning-line}
-use Rattle.prog_words.specs.Put.{Put, Stands}
-use Rattle.prog_words.specs.laws.Put.{reached-fits, put-put, put-as}
-use Rattle.prog_words.specs.laws.Digits.{few-digits}
-use Rattle.prog_words.specs.laws.Length.{placed-length}
+use Rattle.prog_report.specs.Report.{placed, warning-line}
+use Rattle.prog_text.specs.Put.{Put, Stands}
+use Rattle.prog_text.specs.laws.Put.{reached-fits, put-put, put-as}
+use Rattle.prog_text.specs.laws.Digits.{few-digits}
+use Rattle.prog_report.specs.laws.Length.{placed-length}
 use Rattle.prog_check.specs.Checked.{warning-lines}
 use Rattle.prog_check.specs.Lines.{lines-by, longest-line}
 

@@ -3,7 +3,7 @@ use mathlib.Core.Path.{_≡_, sym}
 use lib.ListN.{length}
 use lib.Seq.{length-take-le}
 use Prim.Native.Nat.{_-_, _≤_}
-use Rattle.prog_words.specs.laws.Put.{put-within, put-length}
+use Rattle.prog_text.specs.laws.Put.{put-within, put-length}
 use borrow.Author.Needs.{needs}
 use Rattle.prog_input.proofs.read_whole.Statement.{statement}
 use Rattle.prog_input.proofs.read_whole.Tie as tie

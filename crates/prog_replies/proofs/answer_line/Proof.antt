@@ -1,5 +1,5 @@
 use Rattle.prog_replies.specs.laws.Answer.{refused-answer, asked, question-answer}
-use Rattle.prog_words.specs.laws.Put.{put-as}
+use Rattle.prog_text.specs.laws.Put.{put-as}
 use native.Mathlib.Omega.{arith}
 use borrow.Author.Needs.{needs}
 use Rattle.prog_replies.proofs.answer_line.Statement.{statement}

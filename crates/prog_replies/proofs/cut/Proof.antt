@@ -1,7 +1,7 @@
 use native.Mathlib.Omega.{arith}
 use mathlib.Core.Path.{refl, sym}
 use lib.ListN.{length}
-use Rattle.prog_words.specs.laws.Put.{reached-fits, put-within, put-put}
+use Rattle.prog_text.specs.laws.Put.{reached-fits, put-within, put-put}
 use Rattle.prog_replies.specs.laws.History.{cuts-none, cuts-line}
 use borrow.Author.Needs.{needs}
 use Rattle.prog_replies.proofs.cut.Statement.{statement}

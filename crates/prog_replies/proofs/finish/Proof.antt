@@ -5,7 +5,7 @@ use mathlib.Core.Path.{refl, sym, ap, _∙_}
 use mathlib.Core.List.{append-nil}
 use Rattle.prog_replies.specs.laws.Begun.{reply-begun, nothing-begun, line-begun}
 use Rattle.prog_replies.specs.Input.{reply, replies}
-use Rattle.prog_words.specs.laws.Put.{reached-fits, put-as}
+use Rattle.prog_text.specs.laws.Put.{reached-fits, put-as}
 use Rattle.prog_replies.specs.laws.History.{finishes}
 use borrow.Author.Needs.{needs}
 use Rattle.prog_replies.proofs.finish.Statement.{statement}

@@ -3,13 +3,13 @@ use native.Mathlib.Omega.{arith}
 use mathlib.Core.Path.{sym}
 use Rattle.prog_replies.specs.laws.Steps.{line-ends, line-goes-on}
 use Rattle.prog_replies.specs.laws.Begun.{begun-more, reply-begun}
-use Rattle.prog_words.specs.laws.Put.{put-within, put-length, put-as}
+use Rattle.prog_text.specs.laws.Put.{put-within, put-length, put-as}
 use borrow.Author.Needs.{needs}
 use Rattle.prog_replies.proofs.take_line.Statement.{statement}
 use Rattle.prog_replies.proofs.take_line.Tie as tie
 use Rattle.prog_replies.proofs.take_line.Reads as reads
 use Rattle.prog_replies.proofs.take_line.Lts as lts
-use Rattle.prog_words.proofs.put.Reads as put-reads
+use Rattle.prog_text.proofs.put.Reads as put-reads
 use Rattle.prog_replies.proofs.reply.Reads as reply-reads
 
 sub-put : tie.Need-sub-put

@@ -5,9 +5,10 @@ use Prim.Native.Nat.{ℕ, _+_, _*_, _≤_, _<_}
 use native.Mathlib.Omega.{arith}
 use lib.ListN.{length, take, drop}
 use lib.Seq.{take-all, length-take-le, drop-at, sets-eq}
-use Rattle.prog_words.specs.Put.{Put}
-use Rattle.prog_words.specs.Words.{refused-line, line}
-use Rattle.prog_words.specs.laws.Put.{reached-fits, put-within, put-whole}
+use Rattle.prog_text.specs.Put.{Put}
+use Rattle.prog_text.specs.Text.{line}
+use Rattle.prog_words.specs.Words.{refused-line}
+use Rattle.prog_text.specs.laws.Put.{reached-fits, put-within, put-whole}
 use Rattle.prog_replies.specs.Input.{Parted, parted, last-line, replies, cut-line}
 use Rattle.prog_replies.specs.Pieces.{room, Begun, Answers, State, Held, longest-reply, Wrote, Responds, Finishes, Cuts}
 use Rattle.prog_replies.specs.laws.Pieces.{plain-take, parted-append, replies-append}

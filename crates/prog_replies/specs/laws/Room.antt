@@ -12,8 +12,9 @@ use Rattle.spec_decision.specs.declared.Answer.{Answer}
 use Rattle.spec_decision.specs.declared.Answer.the-variants.{Answered, NotTable, BadLevel}
 use Rattle.spec_decision.specs.Decision.{decide}
 use Rattle.prog_line.specs.Line.{Line, refused, question, asks}
-use Rattle.prog_words.specs.Words.{access-word, log-word, digits-in, decimal-digits, answer-text}
-use Rattle.prog_words.specs.laws.Put.{put-whole}
+use Rattle.prog_text.specs.Text.{digits-in, decimal-digits}
+use Rattle.prog_words.specs.Words.{access-word, log-word, answer-text}
+use Rattle.prog_text.specs.laws.Put.{put-whole}
 use Rattle.prog_replies.specs.Input.{ends-line, in-first, parted, answered, reply, replies}
 use Rattle.prog_replies.specs.Pieces.{plain, Answers}
 use Rattle.prog_replies.specs.laws.Pieces.{by-first}

@@ -9,8 +9,8 @@ use lib.ListN.{length, take, drop, getD, length-drop}
 use lib.Seq.{take-add, take-suc, take-all, take-length, drop-length}
 use borrow.Author.Tests.{eqb-true}
 use Rattle.bytes.specs.Bytes.{slice, indexOf, indexAfter}
-use Rattle.prog_words.specs.Put.{Put}
-use Rattle.prog_words.specs.laws.Put.{reached-fits, put-put, put-as}
+use Rattle.prog_text.specs.Put.{Put}
+use Rattle.prog_text.specs.laws.Put.{reached-fits, put-put, put-as}
 use Rattle.prog_replies.specs.Input.{Parted, parted, reply, replies}
 use Rattle.prog_replies.specs.Pieces.{plain, Begun, Answers, Line-span}
 use Rattle.prog_replies.specs.laws.Pieces.{plain-parted, plain-line, plain-append, rest-plain, parted-append, replies-append}

@@ -1,5 +1,6 @@
-use Rattle.prog_words.specs.Words.{answer-text, digits-in, decimal-digits}
-use Rattle.prog_words.specs.laws.Put.{put-within, put-put, put-as}
+use Rattle.prog_words.specs.Words.{answer-text}
+use Rattle.prog_text.specs.Text.{digits-in, decimal-digits}
+use Rattle.prog_text.specs.laws.Put.{put-within, put-put, put-as}
 use mathlib.Core.Path.{ap}
 use borrow.Author.Needs.{needs}
 use Rattle.prog_words.proofs.answer_text.Statement.{statement}

@@ -1,5 +1,5 @@
 use Rattle.prog_words.specs.Words.{access-word}
-use Rattle.prog_words.specs.laws.Put.{put-as}
+use Rattle.prog_text.specs.laws.Put.{put-as}
 use mathlib.Core.Path.{ap}
 use borrow.Author.Needs.{needs}
 use Rattle.prog_words.proofs.put_access.Statement.{statement}

@@ -1,5 +1,5 @@
 use Rattle.prog_words.specs.Words.{log-word}
-use Rattle.prog_words.specs.laws.Put.{put-as}
+use Rattle.prog_text.specs.laws.Put.{put-as}
 use mathlib.Core.List.{_∷_}
 use mathlib.Core.Path.{ap}
 use borrow.Author.Needs.{needs}

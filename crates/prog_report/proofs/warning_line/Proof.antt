@@ -1,7 +1,7 @@
-use Rattle.prog_words.specs.laws.Put.{put-within, put-put}
+use Rattle.prog_text.specs.laws.Put.{put-within, put-put}
 use borrow.Author.Needs.{needs}
-use Rattle.prog_words.proofs.warning_line.Statement.{statement}
-use Rattle.prog_words.proofs.warning_line.Tie as tie
+use Rattle.prog_report.proofs.warning_line.Statement.{statement}
+use Rattle.prog_report.proofs.warning_line.Tie as tie
 
 slice-aggregate-put-placed : tie.Need-slice-aggregate-put-placed
 slice-aggregate-put-placed c = search needs

@@ -8,9 +8,9 @@ use lib.Dec.{ltb}
 use lib.ListN.{length, length-append}
 use borrow.Author.Tests.{ltb-true, ltb-false, lt-ltb, le-ltb}
 use Rattle.spec_lists.specs.Text.{whole}
-use Rattle.prog_words.specs.Words.{digits-in, decimal-digits}
-use Rattle.prog_words.specs.Put.{Put}
-use Rattle.prog_words.specs.laws.Put.{put-put}
+use Rattle.prog_text.specs.Text.{digits-in, decimal-digits}
+use Rattle.prog_text.specs.Put.{Put}
+use Rattle.prog_text.specs.laws.Put.{put-put}
 
 -- any bound that is enough
 digits-any : (f g n : ℕ) → n < f → n < g → digits-in f n ≡ digits-in g n

@@ -9,7 +9,7 @@ use lib.ListN.{length, getD, set, take, drop, length-append}
 use lib.Seq.{sets, sets-eq, take-at, length-sets, set-out, drop-length}
 use borrow.Author.Tests.{leb-true, leb-false, le-leb}
 use Rattle.spec_rule.specs.laws.Walk.{list-on, sets-on}
-use Rattle.prog_words.specs.Put.{reached, Put}
+use Rattle.prog_text.specs.Put.{reached, Put}
 
 pub reached-fits : (room n : ℕ) → n ≤ room → reached room n ≡ n
 reached-fits room n h = rw (le-leb n room h)

@@ -1,12 +1,12 @@
 use lib.ListN.{getD, length-set, length, drop}
 use mathlib.Core.Path.{ap, _≡_, refl, _∙_}
-use Rattle.prog_words.specs.laws.Put.{sets-step, stops-full, stops-done}
+use Rattle.prog_text.specs.laws.Put.{sets-step, stops-full, stops-done}
 use lib.Seq.{sets}
 use native.Mathlib.Omega.{arith}
 use Prim.Native.Nat.{_+_, _≤_, _-_}
 use borrow.Author.Needs.{needs}
-use Rattle.prog_words.proofs.put.Statement.{statement}
-use Rattle.prog_words.proofs.put.Tie as tie
+use Rattle.prog_text.proofs.put.Statement.{statement}
+use Rattle.prog_text.proofs.put.Tie as tie
 
 abbrev Inv-loop : tie.InvT-loop
 Inv-loop text out₀ at i₀ out i = (i ≤ length text) × (at + i ≤ length out) × (length out ≡ length out₀) × (sets out₀ at text ≡ sets out (at + i) (drop i text))

@@ -1,15 +1,15 @@
-use Rattle.prog_words.specs.laws.Digits.{put-digit, put-digits}
-use Rattle.prog_words.specs.laws.Put.{put-within}
+use Rattle.prog_text.specs.laws.Digits.{put-digit, put-digits}
+use Rattle.prog_text.specs.laws.Put.{put-within}
 use borrow.Author.Needs.{needs}
 use Prim.Native.Nat.{ℕ, _<_}
 use borrow.Fn.Kinds.{In}
 use borrow.Fn.PlainCycle.{Measures, is, falls, and}
-use Rattle.prog_words.proofs.put_number.Reads as put-number
-use Rattle.prog_words.proofs.put_number.Kinds as put-number-kinds
-use Rattle.prog_words.proofs.+put_number.Lts-put_number as put-number-lts
-use Rattle.prog_words.proofs.put.Reads as put-reads
-use Rattle.prog_words.proofs.+put_number.{statement}
-use Rattle.prog_words.proofs.+put_number.Tie.{close}
+use Rattle.prog_text.proofs.put_number.Reads as put-number
+use Rattle.prog_text.proofs.put_number.Kinds as put-number-kinds
+use Rattle.prog_text.proofs.+put_number.Lts-put_number as put-number-lts
+use Rattle.prog_text.proofs.put.Reads as put-reads
+use Rattle.prog_text.proofs.+put_number.{statement}
+use Rattle.prog_text.proofs.+put_number.Tie.{close}
 
 abbrev μ-put-number : Measures 1 put-number-kinds.ps ℕ
 μ-put-number κs a = a .0

@@ -1,8 +1,8 @@
-use Rattle.prog_words.specs.Words.{placed}
-use Rattle.prog_words.specs.laws.Put.{put-within, put-put}
+use Rattle.prog_report.specs.Report.{placed}
+use Rattle.prog_text.specs.laws.Put.{put-within, put-put}
 use borrow.Author.Needs.{needs}
-use Rattle.prog_words.proofs.put_placed.Statement.{statement}
-use Rattle.prog_words.proofs.put_placed.Tie as tie
+use Rattle.prog_report.proofs.put_placed.Statement.{statement}
+use Rattle.prog_report.proofs.put_placed.Tie as tie
 
 put-requires : tie.Need-put-requires
 put-requires c κs = search needs

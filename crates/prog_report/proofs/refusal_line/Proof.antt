@@ -1,13 +1,14 @@
-use Rattle.prog_words.specs.laws.Length.{short-refusal}
+use Rattle.prog_report.specs.laws.Length.{short-refusal}
 use native.Mathlib.Omega.{arith}
 use mathlib.Core.Path.{sym, ap}
 use Prim.Native.Nat.{ℕ}
 use Rattle.spec_lists.specs.Text.{bytes}
-use Rattle.prog_words.specs.laws.Put.{put-within, put-put, put-as}
-use Rattle.prog_words.specs.Words.{placed, line}
+use Rattle.prog_text.specs.laws.Put.{put-within, put-put, put-as}
+use Rattle.prog_report.specs.Report.{placed}
+use Rattle.prog_text.specs.Text.{line}
 use borrow.Author.Needs.{needs}
-use Rattle.prog_words.proofs.refusal_line.Statement.{statement}
-use Rattle.prog_words.proofs.refusal_line.Tie as tie
+use Rattle.prog_report.proofs.refusal_line.Statement.{statement}
+use Rattle.prog_report.proofs.refusal_line.Tie as tie
 
 slice-aggregate-put-placed : tie.Need-slice-aggregate-put-placed
 slice-aggregate-put-placed c = search needs

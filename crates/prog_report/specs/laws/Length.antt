@@ -8,8 +8,9 @@ use Rattle.spec_lists.specs.Text.{bytes}
 use Rattle.spec_file.specs.declared.Refusal.{Refusal}
 use Rattle.spec_file.specs.declared.Refusal.the-variants as cause
 use Rattle.spec_file.specs.Refusal as refusal
-use Rattle.prog_words.specs.Words.{decimal-digits, placed, refusal-line}
-use Rattle.prog_words.specs.laws.Digits.{few-digits}
+use Rattle.prog_text.specs.Text.{decimal-digits}
+use Rattle.prog_report.specs.Report.{placed, refusal-line}
+use Rattle.prog_text.specs.laws.Digits.{few-digits}
 
 pub placed-length : (w : List ℕ) (n p : ℕ) → length (placed w n p) ≡ length w + length (decimal-digits n) + 4 + length (decimal-digits p)
 unfolding placed
