@@ -3,10 +3,9 @@ use mathlib.Core.Bool.{Bool, cond}
 use mathlib.Core.List.{List, [], _∷_, _++_}
 use Prim.Native.Nat.{ℕ}
 use lib.Dec.{eqb}
-use Rattle.spec_decision.specs.Decision.{decide}
-use Rattle.prog_line.specs.Line.{Line, refused, question, asks}
 use Rattle.prog_text.specs.Text.{line}
-use Rattle.prog_words.specs.Words.{answer-text, refused-line}
+use Rattle.prog_words.specs.Words.{refused-line}
+use Rattle.prog_reply.specs.Reply.{reply}
 
 -- the newline, which ends a line
 abbrev pub ends-line : ℕ → Bool
@@ -37,15 +36,6 @@ last-line (b ∷ s) = (b ∷ s) ∷ []
 -- 01: "lines of standard input"
 abbrev pub lines-of : List ℕ → List (List ℕ)
 lines-of s = parted s .lines ++ last-line (parted s .rest)
-
--- 01: "another form or a longer line prints `refused line`. A line is answered by access and log word, or `refused 21`."
-abbrev pub answered : List ℕ → Line → List ℕ
-answered table refused = refused-line
-answered table (question q) = answer-text (decide table q)
-
--- what is printed for a line
-unfoldable pub reply : List ℕ → List ℕ → List ℕ
-reply table l = line (answered table (asks l))
 
 -- for some lines
 unfoldable pub replies : List ℕ → List (List ℕ) → List ℕ

@@ -1,52 +1,15 @@
 // What the asker prints for its input, which comes in pieces.
-use prog_line::Line;
 ghost use mathlib.Core.Path.{_≡_};
 ghost use mathlib.Core.Bool.{true};
 ghost use Prim.Native.Nat.{_+_, _*_, _≤_};
 ghost use lib.ListN.{length, take};
 ghost use Rattle.spec_table.specs.Check.{is-table};
-ghost use Rattle.prog_line.specs.Line.{asks};
-ghost use Rattle.prog_text.specs.Put.{Put};
-ghost use Rattle.prog_replies.specs.Input.{answered, reply};
 ghost use Rattle.prog_replies.specs.Pieces.{room, longest-reply, Line-span, Extends, State, Responds, Finishes, Cuts};
 
 // How many bytes of a line that has begun are stored, and how many bytes of answers were written.
 pub struct Progress {
     pub count: usize,
     pub printed: usize,
-}
-
-// Writes the answer to a line from an offset on, as far as there is room, and answers the offset behind it.
-fn answer_line(table: &[u8], line: &[u8], out: &mut [u8], at: usize) -> usize
-    requires { ⌜ (is-table (now table) ≡ true) × (at ≤ length (now out)) ⌝ }
-    ensures { λ r. ⌜ Put (answered (now (table .entry)) (asks (now (line .entry)))) (now (out .entry)) at (now (out .exit)) r ⌝ }
-{
-    match prog_line::question(line) {
-        Line::Refused => prog_words::refused_text(out, at),
-        Line::Question {
-            user,
-            host,
-            level_at,
-            level,
-        } => {
-            let group = prog_line::group(line, user);
-            let user_name = prog_line::part(line, user, host);
-            let host_name = prog_line::part(line, host, level_at);
-            let mut allowed = false;
-            let rs = prog_line::readings(line, level_at + 1, &mut allowed);
-            let answer = ask_checked::decide_checked(table, group, user_name, host_name, level, rs);
-            prog_words::answer_text(answer, out, at)
-        }
-    }
-}
-
-// The same with its newline.
-fn reply(table: &[u8], line: &[u8], out: &mut [u8], at: usize) -> usize
-    requires { ⌜ (is-table (now table) ≡ true) × (at ≤ length (now out)) ⌝ }
-    ensures { λ r. ⌜ Put (reply (now (table .entry)) (now (line .entry))) (now (out .entry)) at (now (out .exit)) r ⌝ }
-{
-    let end = answer_line(table, line, out, at);
-    prog_text::put(b"\n", out, end)
 }
 
 // Behind the line that has begun stands what a piece has from an offset up to another: if a newline ends it there, it is answered.
@@ -68,7 +31,7 @@ fn take_line(
 {
     let filled = prog_text::put(&piece[at..end], buffer, count);
     if end < piece.len() {
-        let next = reply(table, &buffer[..filled], out, printed);
+        let next = prog_reply::reply(table, &buffer[..filled], out, printed);
         return Progress {
             count: 0,
             printed: next,
@@ -118,7 +81,7 @@ pub fn finish(table: &[u8], buffer: &[u8], count: usize, out: &mut [u8]) -> usiz
     if count == 0 {
         return 0;
     }
-    reply(table, &buffer[..count], out, 0)
+    prog_reply::reply(table, &buffer[..count], out, 0)
 }
 
 // Refuses the line that has begun where the reading of the input fails.

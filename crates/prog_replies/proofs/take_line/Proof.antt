@@ -10,7 +10,7 @@ use Rattle.prog_replies.proofs.take_line.Tie as tie
 use Rattle.prog_replies.proofs.take_line.Reads as reads
 use Rattle.prog_replies.proofs.take_line.Lts as lts
 use Rattle.prog_text.proofs.put.Reads as put-reads
-use Rattle.prog_replies.proofs.reply.Reads as reply-reads
+use Rattle.prog_reply.proofs.reply.Reads as reply-reads
 
 sub-put : tie.Need-sub-put
 sub-put c = search needs

@@ -11,7 +11,8 @@ use borrow.Author.Tests.{leb-true, leb-false, le-leb, lt-leb}
 use Rattle.prog_line.specs.Line.{asks, longest-line}
 use Rattle.prog_text.specs.Put.{Put, reached}
 use Rattle.prog_text.specs.laws.Put.{reached-fits, reached-full, reached-within, sets-out}
-use Rattle.prog_replies.specs.Input.{last-line, reply}
+use Rattle.prog_reply.specs.Reply.{reply}
+use Rattle.prog_replies.specs.Input.{last-line}
 use Rattle.prog_replies.specs.Pieces.{plain, room, Begun}
 use Rattle.prog_replies.specs.laws.Pieces.{plain-append}
 

@@ -4,7 +4,8 @@ use mathlib.Core.Bool.{Bool, true, false, not, _&&_, false≢true}
 use mathlib.Core.List.{List, [], _∷_, _++_, append-assoc}
 use Prim.Native.Nat.{ℕ, zero, suc}
 use lib.ListN.{take}
-use Rattle.prog_replies.specs.Input.{ends-line, Parted, in-first, parted, reply, replies}
+use Rattle.prog_reply.specs.Reply.{reply}
+use Rattle.prog_replies.specs.Input.{ends-line, Parted, in-first, parted, replies}
 use Rattle.prog_replies.specs.Pieces.{plain}
 
 -- ---- one line

@@ -5,41 +5,12 @@ use mathlib.Core.List.{List, [], _∷_, _++_}
 use Prim.Native.Nat.{ℕ, suc, _+_, _*_, _≤_}
 use native.Mathlib.Omega.{arith}
 use lib.ListN.{length, take, length-append}
-use Rattle.spec_lists.specs.Text.{bytes}
-use Rattle.spec_rule.specs.declared.Access.{Access}
-use Rattle.spec_rule.specs.declared.Access.the-variants as access
-use Rattle.spec_decision.specs.declared.Answer.{Answer}
-use Rattle.spec_decision.specs.declared.Answer.the-variants.{Answered, NotTable, BadLevel}
-use Rattle.spec_decision.specs.Decision.{decide}
-use Rattle.prog_line.specs.Line.{Line, refused, question, asks}
-use Rattle.prog_text.specs.Text.{digits-in, decimal-digits}
-use Rattle.prog_words.specs.Words.{access-word, log-word, answer-text}
 use Rattle.prog_text.specs.laws.Put.{put-whole}
-use Rattle.prog_replies.specs.Input.{ends-line, in-first, parted, answered, reply, replies}
+use Rattle.prog_reply.specs.Reply.{reply}
+use Rattle.prog_reply.specs.laws.Length.{short-reply}
+use Rattle.prog_replies.specs.Input.{ends-line, in-first, parted, replies}
 use Rattle.prog_replies.specs.Pieces.{plain, Answers}
 use Rattle.prog_replies.specs.laws.Pieces.{by-first}
-
-short-words : (a : Access) (t : Bool) → length (access-word a ++ (bytes " " ++ log-word t)) ≤ 17
-short-words access.None true = omega arith
-short-words access.None false = omega arith
-short-words access.Read true = omega arith
-short-words access.Read false = omega arith
-short-words access.Write true = omega arith
-short-words access.Write false = omega arith
-
-short-answer : (a : Answer) → length (answer-text a) ≤ 17
-unfolding answer-text decimal-digits digits-in
-short-answer (Answered d) = short-words (d .access) (d .trap)
-short-answer NotTable = omega arith
-short-answer BadLevel = omega arith
-
-short-line : (table : List ℕ) (l : Line) → length (answered table l) ≤ 17
-short-line table refused = omega arith
-short-line table (question q) = short-answer (decide table q)
-
-short-reply : (table l : List ℕ) → length (reply table l) ≤ 18
-unfolding reply
-short-reply table l = let z = length-append (answered table (asks l)) (10 ∷ []) in let y = short-line table (asks l) in omega arith
 
 pub short-replies : (table : List ℕ) (ls : List (List ℕ)) → length (replies table ls) ≤ 18 * length ls
 unfolding replies

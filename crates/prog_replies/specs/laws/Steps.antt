@@ -11,7 +11,8 @@ use borrow.Author.Tests.{eqb-true}
 use Rattle.bytes.specs.Bytes.{slice, indexOf, indexAfter}
 use Rattle.prog_text.specs.Put.{Put}
 use Rattle.prog_text.specs.laws.Put.{reached-fits, put-put, put-as}
-use Rattle.prog_replies.specs.Input.{Parted, parted, reply, replies}
+use Rattle.prog_reply.specs.Reply.{reply}
+use Rattle.prog_replies.specs.Input.{Parted, parted, replies}
 use Rattle.prog_replies.specs.Pieces.{plain, Begun, Answers, Line-span}
 use Rattle.prog_replies.specs.laws.Pieces.{plain-parted, plain-line, plain-append, rest-plain, parted-append, replies-append}
 use Rattle.prog_replies.specs.laws.Begun.{begun-none}

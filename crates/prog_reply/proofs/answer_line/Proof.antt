@@ -1,11 +1,11 @@
-use Rattle.prog_replies.specs.laws.Answer.{refused-answer, asked, question-answer}
+use Rattle.prog_reply.specs.laws.Answer.{refused-answer, asked, question-answer}
 use Rattle.prog_text.specs.laws.Put.{put-as}
 use native.Mathlib.Omega.{arith}
 use borrow.Author.Needs.{needs}
-use Rattle.prog_replies.proofs.answer_line.Statement.{statement}
-use Rattle.prog_replies.proofs.answer_line.Tie as tie
-use Rattle.prog_replies.proofs.answer_line.Reads as reads
-use Rattle.prog_replies.proofs.answer_line.Lts as lts
+use Rattle.prog_reply.proofs.answer_line.Statement.{statement}
+use Rattle.prog_reply.proofs.answer_line.Tie as tie
+use Rattle.prog_reply.proofs.answer_line.Reads as reads
+use Rattle.prog_reply.proofs.answer_line.Lts as lts
 use Rattle.ask_checked.proofs.decide_checked.Reads as decide-checked-reads
 use Rattle.prog_line.proofs.group.Reads as group-reads
 use Rattle.prog_line.proofs.part.Reads as part-reads
@@ -14,63 +14,48 @@ use Rattle.prog_line.proofs.readings.Reads as readings-reads
 use Rattle.prog_words.proofs.answer_text.Reads as answer-text-reads
 use Rattle.prog_words.proofs.refused_text.Reads as refused-text-reads
 
--- src/lib.rt:24:11
 question-requires : tie.Need-question-requires
 question-requires c κs = search needs
 
--- src/lib.rt:25:51
 enum-told : tie.Need-enum-told
 enum-told c = search needs
 
--- src/lib.rt:25:26
 refused-text-requires : tie.Need-refused-text-requires
 refused-text-requires c κs = search needs
 
--- src/lib.rt:27:13
 enum-known-user : tie.Need-enum-known-user
 enum-known-user c = search needs
 
--- src/lib.rt:32:17
 group-requires : tie.Need-group-requires
 group-requires c κs = let o = asked (c .before .before .before .before .before .before .before .args .line .now) (c .before .before .before .question .result) (c .before .before .before .question .ensures) _ _ _ _ (c .before .user .given .1) .order in (let z = o .a-group in omega arith, let z = o .a-user in let y = o .a-host in let w = o .within in omega arith)
 
--- src/lib.rt:33:17
 part-requires : tie.Need-part-requires
 part-requires c κs = let o = asked (c .before .before .before .before .before .before .before .before .args .line .now) (c .before .before .before .before .question .result) (c .before .before .before .before .question .ensures) _ _ _ _ (c .before .before .user .given .1) .order in (let z = o .a-user in omega arith, let y = o .a-host in let w = o .within in omega arith)
 
--- src/lib.rt:34:17
 part-requires-2 : tie.Need-part-requires-2
 part-requires-2 c κs = let o = asked (c .before .before .before .before .before .before .before .before .before .args .line .now) (c .before .before .before .before .before .question .result) (c .before .before .before .before .before .question .ensures) _ _ _ _ (c .before .before .before .user .given .1) .order in (let y = o .a-host in omega arith, let w = o .within in omega arith)
 
--- src/lib.rt:36:48
 add-readings : tie.Need-add-readings
 add-readings c = let z = asked (c .before .before .before .before .before .before .before .before .before .before .args .line .now) (c .before .before .before .before .before .before .question .result) (c .before .before .before .before .before .before .question .ensures) _ _ _ _ (c .before .before .before .before .user .given .1) .order .within in omega arith
 
--- src/lib.rt:36:17
 readings-requires : tie.Need-readings-requires
 readings-requires c κs = let z = asked (c .before .before .before .before .before .before .before .before .before .before .before .args .line .now) (c .before .before .before .before .before .before .before .question .result) (c .before .before .before .before .before .before .before .question .ensures) _ _ _ _ (c .before .before .before .before .before .user .given .1) .order .within in omega arith
 
--- src/lib.rt:37:17
 decide-checked-requires : tie.Need-decide-checked-requires
 decide-checked-requires c κs = search needs
 
--- src/lib.rt:38:13
 answer-text-requires : tie.Need-answer-text-requires
 answer-text-requires c κs = search needs
 
--- src/lib.rt:20:1
 same-length : tie.Need-same-length
 same-length c = search needs
 
--- src/lib.rt:20:1
 returns : tie.Need-returns
 returns c = put-as (refused-answer (c .before .before .before .before .before .before .before .before .before .before .args .line .now) (c .before .before .before .before .before .before .question .result) (c .before .before .before .before .before .before .question .ensures) (c .before .before .before .before .before .before .before .before .before .before .args .table .now) (c .before .before .before .before .enum-told .given .1)) (c .before .before .refused-text .ensures)
 
--- src/lib.rt:20:1
 same-length-2 : tie.Need-same-length-2
 same-length-2 c = search needs
 
--- src/lib.rt:20:1
 returns-2 : tie.Need-returns-2
 returns-2 c = put-as (question-answer (c .before .before .before .before .before .before .before .before .before .before .before .before .before .before .before .before .before .args .line .now) (c .before .before .before .before .before .before .before .before .before .before .before .before .before .question .result) (c .before .before .before .before .before .before .before .before .before .before .before .before .before .question .ensures) _ _ _ _ (c .before .before .before .before .before .before .before .before .before .before .before .user .given .1) (c .before .before .before .before .before .before .before .before .before .before .before .before .before .before .before .before .before .args .table .now) _ _ _ _ _ _ (c .before .before .before .before .before .before .before .before .before .group .ensures) (c .before .before .before .before .before .before .before .before .part .ensures) (c .before .before .before .before .before .before .before .part2 .ensures) (c .before .before .before .before .before .readings .ensures) (c .before .before .before .before .decide-checked .ensures)) (c .before .before .answer-text .ensures)
 

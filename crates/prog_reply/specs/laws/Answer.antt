@@ -16,7 +16,7 @@ use Rattle.prog_line.specs.Line.{group-of, readings-named, asks}
 use Rattle.prog_line.specs.Parts.{cut, behind}
 use Rattle.prog_line.specs.Meaning.{as-readings, Asked, Asks-as}
 use Rattle.prog_words.specs.Words.{answer-text, refused-line}
-use Rattle.prog_replies.specs.Input.{answered}
+use Rattle.prog_reply.specs.Reply.{answered}
 
 -- readings that are allowed are those
 are : (t : Bool) (rs xs : List Reading) → as-readings t rs ≡ some xs → rs ≡ xs

@@ -1,12 +1,12 @@
-use Rattle.prog_replies.specs.Input.{reply}
+use Rattle.prog_reply.specs.Reply.{reply}
 use Rattle.prog_text.specs.laws.Put.{put-within, put-put}
 use borrow.Author.Needs.{needs}
-use Rattle.prog_replies.proofs.reply.Statement.{statement}
-use Rattle.prog_replies.proofs.reply.Tie as tie
-use Rattle.prog_replies.proofs.reply.Reads as reads
-use Rattle.prog_replies.proofs.reply.Lts as lts
+use Rattle.prog_reply.proofs.reply.Statement.{statement}
+use Rattle.prog_reply.proofs.reply.Tie as tie
+use Rattle.prog_reply.proofs.reply.Reads as reads
+use Rattle.prog_reply.proofs.reply.Lts as lts
 use Rattle.prog_text.proofs.put.Reads as put-reads
-use Rattle.prog_replies.proofs.answer_line.Reads as answer-line-reads
+use Rattle.prog_reply.proofs.answer_line.Reads as answer-line-reads
 
 answer-line-requires : tie.Need-answer-line-requires
 answer-line-requires c κs = search needs
