@@ -1,5 +1,5 @@
 // The library for gateways, which are written in C: what they call are the functions of include/hrazvanut.h, and these call the ones here and
-// in abi_ask, abi_register and abi_reading. Here: those that load.
+// in the other crates abi_*. Here: those that load.
 ghost use mathlib.Core.Path.{_≡_};
 ghost use Rattle.spec_load.specs.Load.{load};
 ghost use Rattle.spec_load.specs.Listing.{listing};

@@ -1,7 +1,7 @@
 use Rattle.api_register.specs.laws.Tells.{added-so}
 use borrow.Author.Needs.{needs}
-use Rattle.abi_register.proofs.hrazvanut_abi_add_checked.Statement.{statement}
-use Rattle.abi_register.proofs.hrazvanut_abi_add_checked.Tie as tie
+use Rattle.abi_add.proofs.hrazvanut_abi_add_checked.Statement.{statement}
+use Rattle.abi_add.proofs.hrazvanut_abi_add_checked.Tie as tie
 
 add-checked-requires : tie.Need-add-checked-requires
 add-checked-requires c κs = search needs

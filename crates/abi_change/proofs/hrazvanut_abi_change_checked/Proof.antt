@@ -1,7 +1,7 @@
 use Rattle.api_register.specs.laws.Tells.{changed-so}
 use borrow.Author.Needs.{needs}
-use Rattle.abi_register.proofs.hrazvanut_abi_change_checked.Statement.{statement}
-use Rattle.abi_register.proofs.hrazvanut_abi_change_checked.Tie as tie
+use Rattle.abi_change.proofs.hrazvanut_abi_change_checked.Statement.{statement}
+use Rattle.abi_change.proofs.hrazvanut_abi_change_checked.Tie as tie
 
 change-checked-requires : tie.Need-change-checked-requires
 change-checked-requires c κs = search needs

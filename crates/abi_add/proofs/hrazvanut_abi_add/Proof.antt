@@ -1,7 +1,7 @@
 use Rattle.api_register.specs.laws.Tells.{added-so}
 use borrow.Author.Needs.{needs}
-use Rattle.abi_register.proofs.hrazvanut_abi_add.Statement.{statement}
-use Rattle.abi_register.proofs.hrazvanut_abi_add.Tie as tie
+use Rattle.abi_add.proofs.hrazvanut_abi_add.Statement.{statement}
+use Rattle.abi_add.proofs.hrazvanut_abi_add.Tie as tie
 
 add-requires : tie.Need-add-requires
 add-requires c κs = search needs

@@ -1,7 +1,7 @@
 use Rattle.api_register.specs.laws.Tells.{changed-so}
 use borrow.Author.Needs.{needs}
-use Rattle.abi_register.proofs.hrazvanut_abi_change.Statement.{statement}
-use Rattle.abi_register.proofs.hrazvanut_abi_change.Tie as tie
+use Rattle.abi_change.proofs.hrazvanut_abi_change.Statement.{statement}
+use Rattle.abi_change.proofs.hrazvanut_abi_change.Tie as tie
 
 change-requires : tie.Need-change-requires
 change-requires c κs = search needs
