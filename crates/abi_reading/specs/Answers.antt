@@ -1,19 +1,14 @@
--- What setting a reading and removing a client in C answer, and what they leave of the slices that they are lent.
+-- What setting a reading in C answers, and what it leaves of the slices that it is lent.
 use mathlib.Core.Path.{_≡_}
 use mathlib.Core.List.{List}
 use Prim.Native.Nat.{ℕ}
 use Rattle.spec_calc.specs.declared.Reading.{Reading}
 use Rattle.spec_register.specs.declared.Changed.{Changed}
 use Rattle.spec_places.specs.Storage.{Lent}
-use Rattle.spec_places.specs.Calls.{told-removed, places-removed, told-set, left-set}
+use Rattle.spec_places.specs.Calls.{told-set, left-set}
 use Rattle.api_register.specs.Numbers.{Tells-changed}
 
--- in each: what is lent, and the call's words; then this as it is left, the lent word before and after, and the number
-pub record Removes (b : List ℕ) (p : ℕ) (places word word′ : List ℕ) (r : ℕ) : Type 0 where
-  pub told : Tells-changed (told-removed b p) word word′ r
-  pub left : places ≡ places-removed b p
-
--- the answer and the storage that a call is to give; then the storage as it is left
+-- the answer and the storage that a call is to give; then the storage as it is left, the lent word before and after, and the number
 pub record Gives (answer : Changed) (left after : Lent) (word word′ : List ℕ) (r : ℕ) : Type 0 where
   pub told : Tells-changed answer word word′ r
   pub leaves : after ≡ left

@@ -1,19 +1,10 @@
-// The library's functions for C that set a register's readings, remove its clients and tell a right. include/hrazvanut.h calls them.
+// The library's functions for C that set a register's reading. include/hrazvanut.h calls them.
 ghost use mathlib.Core.Path.{_≡_};
 ghost use mathlib.Core.Bool.{true};
 ghost use Rattle.spec_calc.specs.States.{reading};
 ghost use Rattle.spec_table.specs.Check.{is-table};
-ghost use Rattle.spec_places.specs.Storage.{lent, right-in};
-ghost use Rattle.api_numbers.specs.Numbers.{right-number};
-ghost use Rattle.abi_reading.specs.Answers.{Removes, Sets};
-
-#[no_mangle]
-pub extern "C" fn hrazvanut_abi_remove(places: &mut [u8], place: usize, changed: &mut [u64]) -> u64
-    ensures { λ r. ⌜ Removes (now (places .entry)) place (now (places .exit)) (now (changed .entry)) (now (changed .exit)) r ⌝ }
-{
-    let removed = register::remove(places, place);
-    api_register::tell_changed(removed, changed)
-}
+ghost use Rattle.spec_places.specs.Storage.{lent};
+ghost use Rattle.abi_reading.specs.Answers.{Sets};
 
 #[no_mangle]
 pub extern "C" fn hrazvanut_abi_set(
@@ -38,7 +29,7 @@ pub extern "C" fn hrazvanut_abi_set(
     api_register::tell_changed(c, changed)
 }
 
-// Asks of its caller: hrazvanut_abi_is_table has said 1 of the same bytes.
+// Asks of its caller: hrazvanut_abi_is_table has said 1 of the same bytes, or an accepted load left them.
 #[no_mangle]
 pub extern "C" fn hrazvanut_abi_set_checked(
     places: &mut [u8],
@@ -61,11 +52,4 @@ pub extern "C" fn hrazvanut_abi_set_checked(
     let x = calc_readings::reading(state, value);
     let c = reg_set::set_checked(places, states, values, table, group, letter, x);
     api_register::tell_changed(c, changed)
-}
-
-#[no_mangle]
-pub extern "C" fn hrazvanut_abi_right(places: &[u8], place: usize) -> u8
-    ensures { λ r. ⌜ r ≡ right-number (right-in (now (places .entry)) place) ⌝ }
-{
-    api_numbers::right_number(register::right(places, place))
 }

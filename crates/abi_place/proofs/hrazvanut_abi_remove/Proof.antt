@@ -1,7 +1,7 @@
 use Rattle.api_register.specs.laws.Tells.{changed-so}
 use borrow.Author.Needs.{needs}
-use Rattle.abi_reading.proofs.hrazvanut_abi_remove.Statement.{statement}
-use Rattle.abi_reading.proofs.hrazvanut_abi_remove.Tie as tie
+use Rattle.abi_place.proofs.hrazvanut_abi_remove.Statement.{statement}
+use Rattle.abi_place.proofs.hrazvanut_abi_remove.Tie as tie
 
 remove-requires : tie.Need-remove-requires
 remove-requires c κs = search needs

@@ -1,8 +1,8 @@
 use Rattle.api_numbers.specs.Numbers.{right-number}
 use mathlib.Core.Path.{_∙_, ap}
 use borrow.Author.Needs.{needs}
-use Rattle.abi_reading.proofs.hrazvanut_abi_right.Statement.{statement}
-use Rattle.abi_reading.proofs.hrazvanut_abi_right.Tie as tie
+use Rattle.abi_place.proofs.hrazvanut_abi_right.Statement.{statement}
+use Rattle.abi_place.proofs.hrazvanut_abi_right.Tie as tie
 
 right-requires : tie.Need-right-requires
 right-requires c κs = search needs
