@@ -25,7 +25,7 @@ pub extern "C" fn hrazvanut_abi_set(
         ⌝ }
 {
     let x = calc_readings::reading(state, value);
-    let c = register::set(places, states, values, table, group, letter, x);
+    let c = reading::set(places, states, values, table, group, letter, x);
     api_register::tell_changed(c, changed)
 }
 

@@ -1,15 +1,12 @@
-// A gateway's clients, added, changed and removed; readings set; the right of each place. Any bytes are taken.
+// A gateway's clients, added, changed and removed; the right of each place. Any bytes are taken.
 use reg_refuse::Room;
-use spec_calc::Reading;
 use spec_register::Added;
 use spec_register::Changed;
-use spec_register::Refused;
 use spec_rule::Decision;
 ghost use mathlib.Core.Path.{_≡_};
 ghost use Rattle.spec_register.specs.Register.{client-of};
 ghost use Rattle.spec_places.specs.Storage.{lent, right-in};
-ghost use Rattle.spec_places.specs.Calls.{told-added, places-added, told-changed, places-changed, told-removed, places-removed, told-set, left-set};
-ghost use Rattle.reg_set.specs.Set.{Given};
+ghost use Rattle.spec_places.specs.Calls.{told-added, places-added, told-changed, places-changed, told-removed, places-removed};
 
 // Adds a client at the lowest free place. Over bytes that are no table its right is NONE.
 pub fn add(
@@ -92,32 +89,6 @@ pub fn remove(places: &mut [u8], place: usize) -> Changed
         Room::At(p) => Changed::Places(reg_enter::free(places, p)),
         Room::Refused(x) => Changed::Refused(x),
     }
-}
-
-// Sets one reading of the access group of a name, and says which rights have changed. Refused: 34, 20, 22.
-pub fn set(
-    places: &mut [u8],
-    states: &mut [u8],
-    values: &mut [f64],
-    table: &[u8],
-    group: &[u8],
-    letter: u32,
-    r: Reading,
-) -> Changed
-    ensures { λ c.
-        ⌜ Given
-        (told-set (lent (now (table .entry)) (now (places .entry)) (now (states .entry)) (now (values .entry))) (now (group .entry)) letter r)
-        (left-set (lent (now (table .entry)) (now (places .entry)) (now (states .entry)) (now (values .entry))) (now (group .entry)) letter r)
-        c
-        (lent (now (table .entry)) (now (places .exit)) (now (states .exit)) (now (values .exit))) ⌝ }
-{
-    if !reg_bytes::is_register(places, states, values) {
-        return Changed::Refused(Refused::NotRegister);
-    }
-    if !table::is_table(table) {
-        return Changed::Refused(Refused::NotTable);
-    }
-    reg_set::set_checked(places, states, values, table, group, letter, r)
 }
 
 // The right of a place: a look at one byte.

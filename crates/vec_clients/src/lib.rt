@@ -56,7 +56,7 @@ fn set(places: &mut [u8], states: &mut [u8], values: &mut [f64], table: &[u8], l
     let g = text(word(line, 1), &mut group);
     let letter = number(word(line, 2));
     let reading = vec_calls::reading(word(line, 3));
-    vec_answers::put_changed(register::set(
+    vec_answers::put_changed(reading::set(
         places,
         states,
         values,

@@ -3,8 +3,8 @@ use borrow.Author.Tests.{not-true, not-false}
 use borrow.Author.Needs.{needs}
 use Rattle.reg_set.specs.laws.Set.{set-short, set-no-table}
 use Rattle.spec_places.specs.Storage.{lent}
-use Rattle.register.proofs.set.Statement.{statement}
-use Rattle.register.proofs.set.Tie as tie
+use Rattle.reading.proofs.set.Statement.{statement}
+use Rattle.reading.proofs.set.Tie as tie
 
 is-register-requires : tie.Need-is-register-requires
 is-register-requires c κs = search needs
