@@ -1,8 +1,8 @@
 use mathlib.Core.Path.{_∙_, ap}
 use Rattle.api_numbers.specs.Numbers.{found-number}
 use borrow.Author.Needs.{needs}
-use Rattle.abi_ask.proofs.hrazvanut_abi_find_input.Statement.{statement}
-use Rattle.abi_ask.proofs.hrazvanut_abi_find_input.Tie as tie
+use Rattle.abi_table.proofs.hrazvanut_abi_find_input.Statement.{statement}
+use Rattle.abi_table.proofs.hrazvanut_abi_find_input.Tie as tie
 
 find-input-requires : tie.Need-find-input-requires
 find-input-requires c κs = search needs

@@ -1,8 +1,8 @@
 use mathlib.Core.Path.{_∙_, ap, sym}
 use Rattle.api_numbers.specs.Numbers.{yes}
 use borrow.Author.Needs.{needs}
-use Rattle.abi_ask.proofs.hrazvanut_abi_allowed.Statement.{statement}
-use Rattle.abi_ask.proofs.hrazvanut_abi_allowed.Tie as tie
+use Rattle.abi_calc.proofs.hrazvanut_abi_allowed.Statement.{statement}
+use Rattle.abi_calc.proofs.hrazvanut_abi_allowed.Tie as tie
 
 allowed-requires : tie.Need-allowed-requires
 allowed-requires c κs = search needs

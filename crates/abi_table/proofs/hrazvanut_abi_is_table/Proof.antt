@@ -1,8 +1,8 @@
 use mathlib.Core.Path.{_∙_, ap, sym}
 use Rattle.api_numbers.specs.Numbers.{yes}
 use borrow.Author.Needs.{needs}
-use Rattle.abi_ask.proofs.hrazvanut_abi_is_table.Statement.{statement}
-use Rattle.abi_ask.proofs.hrazvanut_abi_is_table.Tie as tie
+use Rattle.abi_table.proofs.hrazvanut_abi_is_table.Statement.{statement}
+use Rattle.abi_table.proofs.hrazvanut_abi_is_table.Tie as tie
 
 is-table-requires : tie.Need-is-table-requires
 is-table-requires c κs = search needs
