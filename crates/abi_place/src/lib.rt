@@ -8,7 +8,7 @@ ghost use Rattle.abi_place.specs.Answers.{Removes};
 pub extern "C" fn hrazvanut_abi_remove(places: &mut [u8], place: usize, changed: &mut [u64]) -> u64
     ensures { λ r. ⌜ Removes (now (places .entry)) place (now (places .exit)) (now (changed .entry)) (now (changed .exit)) r ⌝ }
 {
-    let removed = register::remove(places, place);
+    let removed = place::remove(places, place);
     api_register::tell_changed(removed, changed)
 }
 
@@ -16,5 +16,5 @@ pub extern "C" fn hrazvanut_abi_remove(places: &mut [u8], place: usize, changed:
 pub extern "C" fn hrazvanut_abi_right(places: &[u8], place: usize) -> u8
     ensures { λ r. ⌜ r ≡ right-number (right-in (now (places .entry)) place) ⌝ }
 {
-    api_numbers::right_number(register::right(places, place))
+    api_numbers::right_number(place::right(places, place))
 }

@@ -126,7 +126,7 @@ pub fn enter(
     )
 }
 
-// A place made free. Inner: register calls it, with a place that reg_refuse has given.
+// A place made free. Inner: place calls it, with a place that reg_refuse has given.
 pub fn free(places: &mut [u8], p: usize) -> u64
     requires { ⌜ Placed (now places) p ⌝ }
     ensures { λ r. ⌜ Left (now (places .entry)) (freed (now (places .entry)) p) (now (places .exit)) r ⌝ }

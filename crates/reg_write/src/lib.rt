@@ -50,7 +50,7 @@ pub fn put_kept(places: &mut [u8], p: usize, number: u8, right: u8, flags: &[u8]
     byte_write::put_text(places, at + 2, &flags[..count], false);
 }
 
-// A place made free. Inner: register calls it, with a place that has a client.
+// A place made free. Inner: reg_enter calls it, with a place that has a client.
 pub fn free(places: &mut [u8], p: usize)
     requires { ⌜ Placed (now places) p ⌝ }
     ensures { λ r. ⌜ now (places .exit) ≡ freed (now (places .entry)) p ⌝ }

@@ -16,7 +16,7 @@ fn letter(a: Access) -> u8 {
 }
 
 fn put_right(places: &[u8], p: usize) {
-    let right = register::right(places, p);
+    let right = place::right(places, p);
     let access = right.access;
     let trap = if right.trap { b't' } else { b'-' };
     put(&[b' ', letter(access), trap]);

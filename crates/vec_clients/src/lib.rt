@@ -48,7 +48,7 @@ fn change(places: &mut [u8], states: &[u8], values: &[f64], table: &[u8], line: 
 }
 
 fn remove(places: &mut [u8], line: &[u8]) {
-    vec_answers::put_changed(register::remove(places, number(word(line, 1)) as usize));
+    vec_answers::put_changed(place::remove(places, number(word(line, 1)) as usize));
 }
 
 fn set(places: &mut [u8], states: &mut [u8], values: &mut [f64], table: &[u8], line: &[u8]) {

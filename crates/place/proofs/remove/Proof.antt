@@ -1,7 +1,7 @@
 use Rattle.reg_refuse.specs.laws.Told.{remove-placed, removed-here, not-removed}
 use borrow.Author.Needs.{needs}
-use Rattle.register.proofs.remove.Statement.{statement}
-use Rattle.register.proofs.remove.Tie as tie
+use Rattle.place.proofs.remove.Statement.{statement}
+use Rattle.place.proofs.remove.Tie as tie
 
 room-to-remove-requires : tie.Need-room-to-remove-requires
 room-to-remove-requires c κs = search needs

@@ -4,8 +4,8 @@ use Rattle.spec_places.specs.Storage.{decoded}
 use borrow.Author.Tests.{not-true, not-false, leb-true}
 use mathlib.Core.Path.{sym, ap, _∙_}
 use borrow.Author.Needs.{needs}
-use Rattle.register.proofs.right.Statement.{statement}
-use Rattle.register.proofs.right.Tie as tie
+use Rattle.place.proofs.right.Statement.{statement}
+use Rattle.place.proofs.right.Tie as tie
 
 has-places-requires : tie.Need-has-places-requires
 has-places-requires c κs = search needs
