@@ -66,11 +66,11 @@ pub fn serve(table: &[u8], fd: i32, size: usize)
     let most = at_most(size);
     match answer_pieces(table, fd, &mut piece[..most], &mut buffer) {
         Ended::Whole(count) => {
-            let n = prog_replies::finish(table, &buffer, count, &mut out);
+            let n = prog_end::finish(table, &buffer, count, &mut out);
             prog_output::put(&out[..n]);
         }
         Ended::Cut(count) => {
-            let n = prog_replies::cut(count, &mut out);
+            let n = prog_end::cut(count, &mut out);
             prog_output::put(&out[..n]);
         }
         Ended::Unwritten => {}

@@ -2,10 +2,10 @@ use native.Mathlib.Omega.{arith}
 use mathlib.Core.Path.{refl, sym}
 use lib.ListN.{length}
 use Rattle.prog_text.specs.laws.Put.{reached-fits, put-within, put-put}
-use Rattle.prog_replies.specs.laws.History.{cuts-none, cuts-line}
+use Rattle.prog_end.specs.laws.End.{cuts-none, cuts-line}
 use borrow.Author.Needs.{needs}
-use Rattle.prog_replies.proofs.cut.Statement.{statement}
-use Rattle.prog_replies.proofs.cut.Tie as tie
+use Rattle.prog_end.proofs.cut.Statement.{statement}
+use Rattle.prog_end.proofs.cut.Tie as tie
 
 refused-text-requires : tie.Need-refused-text-requires
 refused-text-requires c κs = search needs

@@ -3,16 +3,16 @@ use lib.ListN.{length}
 use native.Mathlib.Omega.{arith}
 use mathlib.Core.Path.{refl, sym, ap, _∙_}
 use mathlib.Core.List.{append-nil}
 use Rattle.prog_replies.specs.laws.Begun.{reply-begun, nothing-begun, line-begun}
 use Rattle.prog_reply.specs.Reply.{reply}
 use Rattle.prog_replies.specs.Input.{replies}
 use Rattle.prog_text.specs.laws.Put.{reached-fits, put-as}
-use Rattle.prog_replies.specs.laws.History.{finishes}
+use Rattle.prog_end.specs.laws.End.{finishes}
 use borrow.Author.Needs.{needs}
-use Rattle.prog_replies.proofs.finish.Statement.{statement}
-use Rattle.prog_replies.proofs.finish.Tie as tie
-use Rattle.prog_replies.proofs.finish.Reads as reads
-use Rattle.prog_replies.proofs.finish.Lts as lts
+use Rattle.prog_end.proofs.finish.Statement.{statement}
+use Rattle.prog_end.proofs.finish.Tie as tie
+use Rattle.prog_end.proofs.finish.Reads as reads
+use Rattle.prog_end.proofs.finish.Lts as lts
 use Rattle.prog_reply.proofs.reply.Reads as reply-reads
 
 returns : tie.Need-returns
