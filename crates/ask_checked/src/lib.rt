@@ -76,7 +76,7 @@ pub fn decide_checked(
             trap: false,
         }),
         Index::At(i) => {
-            let h = calc_truth::inputs_of(rs);
+            let h = calc_inputs::inputs_of(rs);
             let values = h.values;
             let goods = h.good;
             let d = decision_of_group(table, i, user, host, wide(level), &values, &goods);

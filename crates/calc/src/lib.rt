@@ -1,5 +1,5 @@
 // Whether a calculation is allowed, its value, and whether it is true.
-use calc_truth::Inputs;
+use calc_inputs::Inputs;
 use calc_value::Computed;
 use spec_calc::Reading;
 use spec_calc::Worth;
@@ -26,7 +26,7 @@ pub fn allowed(s: &[u8]) -> bool
 pub fn value(s: &[u8], rs: [Reading; 21]) -> Worth
     ensures { λ r. ⌜ r ≡ worth rs (tree-of (now (s .entry))) ⌝ }
 {
-    let inputs = calc_truth::inputs_of(rs);
+    let inputs = calc_inputs::inputs_of(rs);
     let good = inputs.good;
     let values = inputs.values;
     match calc_value::compute(s, &values) {
@@ -54,5 +54,5 @@ fn holds_for(s: &[u8], inputs: Inputs) -> bool
 pub fn holds(s: &[u8], rs: [Reading; 21]) -> bool
     ensures { λ r. ⌜ r ≡ true-tree rs (tree-of (now (s .entry))) ⌝ }
 {
-    holds_for(s, calc_truth::inputs_of(rs))
+    holds_for(s, calc_inputs::inputs_of(rs))
 }

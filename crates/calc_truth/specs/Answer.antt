@@ -11,7 +11,7 @@ use Rattle.spec_calc.specs.Scanner.{Start, blank, figure, wrong, sign}
 use Rattle.spec_calc.specs.Scanner.{start}
 use Rattle.spec_calc.specs.Expression.{Tree}
 use Rattle.spec_calc.specs.Value.{letters, near-one}
-use Rattle.calc_truth.specs.declared.Inputs.{Inputs}
+use Rattle.calc_inputs.specs.declared.Inputs.{Inputs}
 use Rattle.calc_value.specs.declared.Computed.{Computed}
 use Rattle.calc_value.specs.declared.Computed.the-variants as outcome
 use Rattle.calc_value.specs.Parse.{value-with}

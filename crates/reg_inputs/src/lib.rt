@@ -1,5 +1,5 @@
 // The inputs of a group's calculations, straight from the states and values of a register: no reading is made and taken apart again.
-use calc_truth::Inputs;
+use calc_inputs::Inputs;
 ghost use mathlib.Core.Path.{_≡_};
 ghost use mathlib.Core.List.{map};
 ghost use Prim.Native.Nat.{_<_};

@@ -68,7 +68,7 @@ fn set_reading(
 {
     let at = i * 21 + wide(letter);
     states[at] = state_of(r);
-    values[at] = calc_truth::value_of(r);
+    values[at] = calc_inputs::value_of(r);
     reg_renew::renew(places, states, values, table, i)
 }
 

@@ -4,7 +4,7 @@ use native.Mathlib.Omega.{arith}
 use Rattle.spec_calc.specs.Value.{heard, good}
 use Rattle.spec_calc.specs.States.{readings}
 use Rattle.reg_inputs.specs.laws.Inputs.{at, many}
-use Rattle.calc_truth.specs.laws.Answers.{Filled-to, filled-none, filled-more, filled-all}
+use Rattle.calc_inputs.specs.laws.Filled.{Filled-to, filled-none, filled-more, filled-all}
 use borrow.Author.Needs.{needs}
 use Rattle.reg_inputs.proofs.inputs_at.Statement.{statement}
 use Rattle.reg_inputs.proofs.inputs_at.Tie as tie

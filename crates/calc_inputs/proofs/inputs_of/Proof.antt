@@ -1,10 +1,10 @@
 use Prim.Native.Nat.{_-_}
 use mathlib.Core.Path.{refl}
 use native.Mathlib.Omega.{arith}
-use Rattle.calc_truth.specs.laws.Answers.{Filled-to, filled-none, filled-more, filled-all}
+use Rattle.calc_inputs.specs.laws.Filled.{Filled-to, filled-none, filled-more, filled-all}
 use borrow.Author.Needs.{needs}
-use Rattle.calc_truth.proofs.inputs_of.Statement.{statement}
-use Rattle.calc_truth.proofs.inputs_of.Tie as tie
+use Rattle.calc_inputs.proofs.inputs_of.Statement.{statement}
+use Rattle.calc_inputs.proofs.inputs_of.Tie as tie
 
 abbrev Inv-loop : tie.InvT-loop
 Inv-loop rs values₀ good₀ i₀ values good i = Filled-to rs values good i

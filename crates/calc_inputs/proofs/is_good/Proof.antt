@@ -1,6 +1,6 @@
 use borrow.Author.Needs.{needs}
-use Rattle.calc_truth.proofs.is_good.Statement.{statement}
-use Rattle.calc_truth.proofs.is_good.Tie as tie
+use Rattle.calc_inputs.proofs.is_good.Statement.{statement}
+use Rattle.calc_inputs.proofs.is_good.Tie as tie
 
 enum-known-r : tie.Need-enum-known-r
 enum-known-r c = search needs
