@@ -1,8 +1,5 @@
-// The lines of a register's script: which call a line is, and its words as texts, numbers and readings.
-use spec_calc::Reading;
-ghost use Prim.Native.Nat.{_≤_};
-ghost use lib.ListN.{length};
-ghost use Rattle.io.specs.Counts.{Counts};
+// The lines of a register's script: which call a line is. vec_words says what its words are.
+use vec_words::word;
 
 // Room for every text of a line; the longest file of rules that a load reads, and one byte.
 pub const MOST_TEXT: usize = 16385;
@@ -15,42 +12,6 @@ pub enum Call {
     Remove,
     Set,
     Nothing,
-}
-
-// ---- words, parted by single spaces
-
-// The offset behind the next space, or the end.
-fn behind(line: &[u8], from: usize) -> usize
-    requires { ⌜ from ≤ length (now line) ⌝ }
-    ensures { λ r. ⌜ r ≤ length (now (line .entry)) ⌝ }
-{
-    let end = bytes::scan::find(line, from, line.len(), b' ');
-    if end < line.len() { end + 1 } else { end }
-}
-
-fn start(line: &[u8], n: usize) -> usize
-    ensures { λ r. ⌜ r ≤ length (now (line .entry)) ⌝ }
-{
-    let mut at = 0;
-    let mut left = n;
-    while 0 < left {
-        at = behind(line, at);
-        left -= 1;
-    }
-    at
-}
-
-// The n-th word from 0 on; an empty one where there are fewer.
-pub fn word<'a>(line: &'a [u8], n: usize) -> &'a [u8] {
-    let from = start(line, n);
-    let end = bytes::scan::find(line, from, line.len(), b' ');
-    &line[from..end]
-}
-
-// Whether no word follows the n-th.
-fn is_last(line: &[u8], n: usize) -> bool {
-    let from = start(line, n);
-    bytes::scan::find(line, from, line.len(), b' ') == line.len()
 }
 
 // ---- forms
@@ -120,7 +81,7 @@ fn have_kinds(line: &[u8], kinds: &[u8]) -> bool {
 
 fn has_form(line: &[u8], name: &[u8], kinds: &[u8]) -> bool {
     byte_compare::equal(word(line, 0), name)
-        && is_last(line, kinds.len())
+        && vec_words::is_last(line, kinds.len())
         && have_kinds(line, kinds)
 }
 
@@ -142,57 +103,4 @@ pub fn call_of(line: &[u8]) -> Call {
         return Call::Set;
     }
     Call::Nothing
-}
-
-// ---- what words of a form say
-
-fn least(a: usize, b: usize) -> usize
-    ensures { λ r. ⌜ (r ≤ a) × (r ≤ b) ⌝ }
-{
-    if a < b { a } else { b }
-}
-
-// The bytes of a text, as many as have room.
-pub fn text(s: &[u8], out: &mut [u8]) -> usize
-    ensures { λ r. ⌜ Counts r (now (out .exit)) ⌝ }
-{
-    let end = least(s.len() / 2, out.len());
-    let mut n = 0;
-    while n < end {
-        out[n] = vec_bits::byte(vec_bits::peek(s, 2 * n), vec_bits::peek(s, 2 * n + 1));
-        n += 1;
-    }
-    n
-}
-
-fn digit(b: u8) -> u32
-    ensures { λ r. ⌜ r ≤ 9 ⌝ }
-{
-    match b {
-        b'0'..=b'9' => (b - b'0') as u32,
-        _ => 0,
-    }
-}
-
-pub fn number(s: &[u8]) -> u32 {
-    let mut n: u32 = 0;
-    let mut i = 0;
-    while i < s.len() {
-        n = n % 100_000_000 * 10 + digit(s[i]);
-        i += 1;
-    }
-    n
-}
-
-pub fn reading(s: &[u8]) -> Reading {
-    if byte_compare::equal(s, b"-") {
-        return Reading::NeverHeard;
-    }
-    if byte_compare::equal(s, b"inv") {
-        return Reading::Invalid;
-    }
-    if byte_compare::equal(s, b"nan") {
-        return Reading::Value(0.0 / 0.0);
-    }
-    Reading::Value(vec_bits::from_bits(vec_bits::bits(s)))
 }

@@ -1,28 +1,13 @@
-// Checks and loads each file that a line of the file index names: what the checker prints, what the load answers, and what it leaves in the lent bytes.
+// Checks and loads the file that each line of the file index names: what the checker prints, what the load answers, and what it leaves in the lent bytes.
 use prog_output::put;
+use vec_words::word;
 
-// A line of the index: the four digits of a file.
+// A line of the index: a file, how many bytes are lent, and the file of its table where there is one.
 fn judge(line: &[u8]) {
-    if line.len() < 4 {
-        return;
-    }
-    let name = [line[0], line[1], line[2], line[3]];
-    let path = [name[0], name[1], name[2], name[3], b'.', b'a', b'c', b'f'];
-    let table = [
-        name[0],
-        name[1],
-        name[2],
-        name[3],
-        b'.',
-        b't',
-        b'a',
-        b'b',
-        b'l',
-        b'e',
-    ];
-    put(&name);
+    put(line);
     put(b"\n");
-    vec_load::check_and_load(&path, 35108, &table);
+    let room = vec_words::number(word(line, 1)) as usize;
+    vec_load::check_and_load(word(line, 0), room, word(line, 2));
 }
 
 fn judge_all(s: &[u8]) {
@@ -35,7 +20,7 @@ fn judge_all(s: &[u8]) {
 }
 
 fn main() {
-    let mut buf = io::buffer();
+    let mut buf = io::large_buffer();
     let n = prog_input::read(b"index", &mut buf);
     judge_all(&buf[..n]);
 }

@@ -1,9 +1,9 @@
 // The calls of a register's script that load nothing, made, and their answers printed.
 use vec_calls::Call;
 use vec_calls::MOST_TEXT;
-use vec_calls::number;
-use vec_calls::text;
-use vec_calls::word;
+use vec_words::number;
+use vec_words::text;
+use vec_words::word;
 
 fn add(places: &mut [u8], states: &[u8], values: &[f64], table: &[u8], line: &[u8]) {
     let mut group = [0u8; MOST_TEXT];
@@ -55,7 +55,7 @@ fn set(places: &mut [u8], states: &mut [u8], values: &mut [f64], table: &[u8], l
     let mut group = [0u8; MOST_TEXT];
     let g = text(word(line, 1), &mut group);
     let letter = number(word(line, 2));
-    let reading = vec_calls::reading(word(line, 3));
+    let reading = vec_words::reading(word(line, 3));
     vec_answers::put_changed(reading::set(
         places,
         states,

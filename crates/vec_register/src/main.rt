@@ -4,7 +4,7 @@ use vec_calls::Call;
 
 fn load(places: &mut [u8], states: &mut [u8], table: &mut [u8], line: &[u8]) {
     let mut rules = [0u8; vec_calls::MOST_TEXT];
-    let n = vec_calls::text(vec_calls::word(line, 1), &mut rules);
+    let n = vec_words::text(vec_words::word(line, 1), &mut rules);
     vec_answers::put_reloaded(reload::reload(places, states, &rules[..n], table));
 }
 
@@ -16,24 +16,25 @@ fn make(places: &mut [u8], states: &mut [u8], values: &mut [f64], table: &mut [u
     }
 }
 
-// Makes the calls of a script, and prints behind each answer the rights then.
-fn make_all(places: &mut [u8], states: &mut [u8], values: &mut [f64], table: &mut [u8], s: &[u8]) {
-    let mut at = 0;
-    while at < s.len() {
-        let end = bytes::scan::find(s, at, s.len(), b'\n');
-        make(places, states, values, table, &s[at..end]);
-        vec_answers::put_rights(places);
-        at = end + 1;
-    }
-}
-
-// A script begins with an empty register over a zeroed buffer.
+// Makes the calls of a script on an empty register over a zeroed buffer, and prints behind each answer the rights then.
 fn run(script: &[u8]) {
     let mut places = [0u8; 28672];
     let mut states = [0u8; 1344];
     let mut values = [0.0; 1344];
     let mut table = [0u8; 35108];
-    make_all(&mut places, &mut states, &mut values, &mut table, script);
+    let mut at = 0;
+    while at < script.len() {
+        let end = bytes::scan::find(script, at, script.len(), b'\n');
+        make(
+            &mut places,
+            &mut states,
+            &mut values,
+            &mut table,
+            &script[at..end],
+        );
+        vec_answers::put_rights(&places);
+        at = end + 1;
+    }
 }
 
 // A line of the index: a script's file.
