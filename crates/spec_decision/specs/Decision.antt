@@ -1,10 +1,11 @@
--- The answer to a question on a table. 01, "The question".
+-- The answer to a question on a table. 01, "The question"; 02, ticket 2.
 use mathlib.Core.Bool.{Bool, false, cond}
 use mathlib.Core.List.{List, []}
 use mathlib.Core.Option.{Option, none, some}
 use Prim.Native.Nat.{ℕ}
 use Rattle.spec_rule.specs.declared.Access.{Access}
 use Rattle.spec_rule.specs.declared.Access.the-variants as access
+use Rattle.spec_rule.specs.Roles.{roles-fit}
 use Rattle.spec_rule.specs.Question.{Question}
 use Rattle.spec_rule.specs.Rule.{Rule}
 use Rattle.spec_rule.specs.Decision.{decision-by}
@@ -15,7 +16,7 @@ use Rattle.spec_table.specs.View.{view}
 use Rattle.spec_table.specs.Check.{is-table}
 use Rattle.spec_table.specs.Policy.{name, rules-of}
 use Rattle.spec_decision.specs.declared.Answer.{Answer}
-use Rattle.spec_decision.specs.declared.Answer.the-variants.{Answered, NotTable, BadLevel}
+use Rattle.spec_decision.specs.declared.Answer.the-variants.{Answered, NotTable, BadLevel, BadRoles}
 
 -- 01: 20 "not a table", of a question and of a look-up
 abbrev pub not-table-number : ℕ
@@ -25,22 +26,29 @@ not-table-number = 20
 abbrev pub bad-level-number : ℕ
 bad-level-number = 21
 
--- 01's number of a refusal
+-- 02, ticket 2: "26 more than 16 roles or one too long"
+abbrev pub bad-roles-number : ℕ
+bad-roles-number = 26
+
+-- the papers' number of a refusal
 abbrev pub number : Answer → Option ℕ
 number (Answered d) = none
 number NotTable = some not-table-number
 number BadLevel = some bad-level-number
+number BadRoles = some bad-roles-number
 
--- the access of an answer. 20, 21: "NONE, no trap"
+-- the access of an answer. 01 of 20 and 21: "NONE, no trap"; 26 is answered as 21 is
 abbrev pub access-in : Answer → Access
 access-in (Answered d) = d .access
 access-in NotTable = access.None
 access-in BadLevel = access.None
+access-in BadRoles = access.None
 
 abbrev pub trap-in : Answer → Bool
 trap-in (Answered d) = d .trap
 trap-in NotTable = false
 trap-in BadLevel = false
+trap-in BadRoles = false
 
 -- "without DEFAULT the answer is NONE, no trap": no group, no rules
 abbrev pub rules-in : Content → Option (List ℕ) → List Rule
@@ -51,9 +59,10 @@ rules-in c (some row) = rules-of c row
 abbrev pub rules-for : Content → List ℕ → List Rule
 rules-for c g = rules-in c (answering (name c access-groups) g (c .records access-groups))
 
-abbrev pub answered : Question → List Rule → Answer
-answered q rs = Answered (decision-by q rs)
+-- what a question is answered by some rules. 02: 26 "after 21"
+abbrev pub answer-by : Question → List Rule → Answer
+answer-by q rs = cond (a-level (q .level)) (cond (roles-fit (q .roles)) (Answered (decision-by q rs)) BadRoles) BadLevel
 
 -- "20 comes before 21 and 22."
 unfoldable pub decide : List ℕ → Question → Answer
-decide b q = cond (is-table b) (cond (a-level (q .level)) (answered q (rules-for (view b) (q .group))) BadLevel) NotTable
+decide b q = cond (is-table b) (answer-by q (rules-for (view b) (q .group))) NotTable

@@ -1,4 +1,6 @@
 pub mod Groups
 pub mod LookUp
-pub mod Privilege
+pub mod Answer
 pub mod Refused
+pub mod Roles
+pub mod Privilege

@@ -3,6 +3,7 @@ pub enum Answer {
     Answered(spec_rule::Decision),
     NotTable,
     BadLevel,
+    BadRoles,
 }
 
 // What the look-up finds: the part of the table that holds the name, or a refusal.

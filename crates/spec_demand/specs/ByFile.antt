@@ -1,19 +1,17 @@
 -- The answer to a question, and an input's name, by what a file says, with no table between.
-use mathlib.Core.Bool.{cond}
 use mathlib.Core.List.{List, [], map}
 use mathlib.Core.Option.{Option, none, some, Option·map}
 use Prim.Native.Nat.{ℕ}
 use lib.Dec.{eqb}
 use Rattle.spec_lists.specs.Select.{first}
 use Rattle.spec_rule.specs.Question.{Question}
-use Rattle.spec_rule.specs.Answering.{a-level, answering}
+use Rattle.spec_rule.specs.Answering.{answering}
 use Rattle.spec_file.specs.Contents.{Link, Rule-text, Asg, File}
 use Rattle.spec_file.specs.Meaning.{rule-in}
 use Rattle.spec_decision.specs.declared.Answer.{Answer}
-use Rattle.spec_decision.specs.declared.Answer.the-variants.{BadLevel}
 use Rattle.spec_decision.specs.declared.Found.{Found}
 use Rattle.spec_decision.specs.declared.Found.the-variants.{Part, NotTable, NoInput}
-use Rattle.spec_decision.specs.Decision.{answered}
+use Rattle.spec_decision.specs.Decision.{answer-by}
 use Rattle.spec_decision.specs.LookUp.{part-in}
 use Rattle.spec_edition.specs.Machine.{rules-later}
 
@@ -23,7 +21,7 @@ rules-by-file f g = rules-later (answering (λ a. a .name) g (f .asgs))
 
 -- the answer to a question by the rules of a file
 abbrev pub answer-by-file : File → Question → Answer
-answer-by-file f q = cond (a-level (q .level)) (answered q (map (rule-in f) (rules-by-file f (q .group)))) BadLevel
+answer-by-file f q = answer-by q (map (rule-in f) (rules-by-file f (q .group)))
 
 -- the inputs of the group that answers, if one does
 abbrev pub inputs-in : Option Asg → List Link

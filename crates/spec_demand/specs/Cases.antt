@@ -1,7 +1,8 @@
--- 01, "Proved and run cases": those that are proved, together as a single list. Each is computed from its text by the definitions.
+-- 01, "Proved and run cases": those that are proved, together as a single list; and 001's example of a role. Each is computed from its text by the
+-- definitions.
 use mathlib.Core.Path.{_≡_}
 use mathlib.Core.Bool.{Bool, true, false}
-use mathlib.Core.List.{List, _∷_}
+use mathlib.Core.List.{List, [], _∷_, map}
 use mathlib.Core.Option.{some}
 use Prim.Native.Nat.{ℕ, _+_}
 use Prim.Native.String.{String}
@@ -15,11 +16,11 @@ use Rattle.spec_calc.specs.Symbol.{decimal}
 use Rattle.spec_calc.specs.Reader.{run}
 use Rattle.spec_rule.specs.declared.Access.the-variants as access
 use Rattle.spec_rule.specs.Decision.{with-trap}
-use Rattle.spec_rule.specs.Question.{question-of, Question}
+use Rattle.spec_rule.specs.Question.{Question, asking, question-of}
 use Rattle.spec_rule.specs.Rule.{calculation-holds}
 use Rattle.spec_load.specs.Load.{load}
 use Rattle.spec_decision.specs.declared.Answer.{Answer}
-use Rattle.spec_decision.specs.declared.Answer.the-variants.{Answered, BadLevel}
+use Rattle.spec_decision.specs.declared.Answer.the-variants.{Answered, BadLevel, BadRoles}
 use Rattle.spec_decision.specs.Decision.{decide}
 
 -- every letter never heard; A alone heard
@@ -67,3 +68,43 @@ pub record Proved-cases : Type 0 where
   pub higher-level : asked "ASG(DEFAULT) {RULE(0,WRITE)}" (ann "" 1 silent) ≡ Answered (with-trap access.None false)
   -- "a group never defined, without DEFAULT, gives NONE"
   pub no-group : asked "ASG(lift) {RULE(1,WRITE)}" (ann "door" 0 silent) ≡ Answered (with-trap access.None false)
+
+-- 001's user group "special", and a rule that names it
+abbrev pub special : String
+special = "UAG(special) {someone, \"role/op\"} ASG(DEFAULT) {RULE(1,WRITE) {UAG(special)}}"
+
+-- what a user with some roles gets by a file, at a level
+abbrev pub with-the-roles : String → String → List (List ℕ) → ℕ → Answer
+with-the-roles file user roles level = asked file (asking [] (bytes user) (bytes "pc1") roles level silent)
+
+abbrev pub given : String → String → List String → Answer
+given file user roles = with-the-roles file user (map bytes roles) 0
+
+abbrev pub write : Answer
+write = Answered (with-trap access.Write false)
+
+abbrev pub none : Answer
+none = Answered (with-trap access.None false)
+
+pub record Role-cases : Type 0 where
+  -- 001: "The "special" UAG will match CA or PVA clients with the username "someone"."
+  pub by-user : given special "someone" [] ≡ write
+  -- "It will also match a PVA client if the client provided username is a member of the "op" group"
+  pub by-role : given special "ann" ("dev" ∷ "op" ∷ []) ≡ write
+  pub other-role : given special "ann" ("dev" ∷ []) ≡ none
+  -- 02: "Such a member no longer matches a user name"
+  pub no-user-name : given special "role/op" [] ≡ none
+  -- "one of whose roles equals the rest of it"
+  pub not-the-prefix : given special "ann" ("role/op" ∷ []) ≡ none
+  pub no-role-by-name : given special "ann" ("someone" ∷ []) ≡ none
+  -- byte for byte: `Role/op` is a user's name
+  pub another-prefix : given "UAG(u) {\"Role/op\"} ASG(DEFAULT) {RULE(1,WRITE) {UAG(u)}}" "Role/op" [] ≡ write
+  -- an empty role
+  pub empty-role : given "UAG(u) {\"role/\"} ASG(DEFAULT) {RULE(1,WRITE) {UAG(u)}}" "ann" ("" ∷ []) ≡ write
+  -- host groups have no roles
+  pub no-host-role : given "HAG(h) {\"role/op\"} ASG(DEFAULT) {RULE(1,WRITE) {HAG(h)}}" "ann" ("op" ∷ []) ≡ none
+  -- "up to 16 roles, each at most 60 bytes"; "Refusals: 26 more than 16 roles or one too long, after 21."
+  pub sixteen : with-the-roles special "someone" (replicate 16 (replicate 60 0)) 0 ≡ write
+  pub seventeen : with-the-roles special "someone" (replicate 17 []) 0 ≡ BadRoles
+  pub too-long : with-the-roles special "someone" (replicate 61 0 ∷ []) 0 ≡ BadRoles
+  pub level-first : with-the-roles special "someone" (replicate 17 []) 2 ≡ BadLevel

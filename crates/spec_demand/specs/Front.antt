@@ -2,7 +2,7 @@
 -- that they name; docs/REVIEW.md says which sentence of the papers each of those states.
 use mathlib.Core.Path.{_≡_, refl}
 use mathlib.Core.Bool.{true, false}
-use mathlib.Core.List.{List, [], _++_, map, List·Memᴰ}
+use mathlib.Core.List.{List, [], _∷_, _++_, map, List·Memᴰ}
 use mathlib.Core.Logic.{_↔_, _⊎_}
 use mathlib.Core.Option.{Option, none, some}
 use Prim.Native.Nat.{ℕ, _≤_, _<_}
@@ -15,16 +15,16 @@ use Rattle.spec_rule.specs.declared.Decision.{Decision}
 use Rattle.spec_load.specs.declared.Loaded.the-variants as loaded
 use Rattle.spec_register.specs.declared.Added.the-variants as added
 use Rattle.spec_load.specs.declared.Listed.the-variants as listed
-use Rattle.spec_decision.specs.declared.Answer.the-variants.{Answered, NotTable, BadLevel}
+use Rattle.spec_decision.specs.declared.Answer.the-variants.{Answered, NotTable, BadLevel, BadRoles}
 use Rattle.spec_decision.specs.declared.Found.{Found}
 use Rattle.spec_decision.specs.declared.Found.the-variants as found
 use Rattle.spec_demand.specs.Vocabulary.{Every, Token, Spelled, Ascending, Stands-in, greatest-letter, Tagged, Reading, Tree, Parses, tree-of, Gone-bad}
-use Rattle.spec_demand.specs.Vocabulary.{Question, reading-instead, rank, greatest-level, Refusal}
+use Rattle.spec_demand.specs.Vocabulary.{Question, reading-instead, with-roles, Roles-fit, Valid, rank, greatest-level, Refusal}
 use Rattle.spec_demand.specs.Vocabulary.{refusal-number, place, file-of, Context, contexts, Applies}
 use Rattle.spec_demand.specs.Vocabulary.{Text-reads, Caused, Acceptable, Refusable, Warned, warnings, Given, Table, is-table, total-of, view, table-of}
 use Rattle.spec_demand.specs.Vocabulary.{greatest-table, written, without-room, load, warnings-written, listing, look-up, look-up-number, part-in}
 use Rattle.spec_demand.specs.Vocabulary.{number, access-in, trap-in, decide, By-table, By-file, Edition, Later, Says-no, Names-input, Finds-input}
-use Rattle.spec_demand.specs.Vocabulary.{Call, after-call, is-accepted, No-accepted-load, Told, refusal-of, Proved-cases}
+use Rattle.spec_demand.specs.Vocabulary.{Call, after-call, is-accepted, No-accepted-load, Told, refusal-of, Proved-cases, Role-cases}
 use Rattle.spec_demand.specs.Vocabulary.{Memory, Storage, bytes-in, Step, calls-of, Made, Nobody-else-writes}
 use Rattle.spec_demand.specs.Vocabulary.{no-access, Answers, Numbered, groups-of, group-name, Client, most-clients, client-at, readings-at, Sized}
 use Rattle.spec_demand.specs.Vocabulary.{question-now, Gateway, Register-call, add, change, remove, set-reading, load-again, after}
@@ -48,7 +48,7 @@ pub record Total : Type 0 where
   pub listing-refusals :
       (skip : ℕ) (numbers places s : List ℕ) (r : Refusal) (p : ℕ) → listing skip numbers places s .answer ≡ listed.Refused r p
       → (1 ≤ refusal-number r) × (refusal-number r ≤ 10) × (p ≤ length s)
-  pub question-refusals : (b : List ℕ) (q : Question) (n : ℕ) → number (decide b q) ≡ some n → (n ≡ 20) ⊎ (n ≡ 21)
+  pub question-refusals : (b : List ℕ) (q : Question) (n : ℕ) → number (decide b q) ≡ some n → (n ≡ 20) ⊎ (n ≡ 21) ⊎ (n ≡ 26)
   pub look-up-refusals :
       (b g : List ℕ) (letter n : ℕ) → look-up-number (look-up b g letter) ≡ some n → ((n ≡ 20) ⊎ (n ≡ 22)) × (part-in (look-up b g letter) b ≡ [])
   -- every call of the library but a register's, a load among them, if it is refused; of a register's see register-refused
@@ -103,13 +103,14 @@ pub record Exact : Type 0 where
   pub table-stands :
       (s : List ℕ) (xs : List Tagged) → Acceptable s xs → (rest : List ℕ)
       → Table (table-of (file-of xs) ++ rest) × (length (table-of (file-of xs)) ≤ greatest-table)
-  -- ---- Which answers: 20, then 21, then the decision of 001's three steps, by any table and by the file of a loaded one.
+  -- ---- Which answers: 20, then 21, then 26, then the decision of 001's three steps, by any table and by the file of a loaded one.
   pub not-table : (b : List ℕ) (q : Question) → (decide b q ≡ NotTable) ↔ (Table b → ⊥)
   pub bad-level : (b : List ℕ) (q : Question) → (decide b q ≡ BadLevel) ↔ (Table b × (greatest-level < q .level))
-  pub by-table : (b : List ℕ) (q : Question) (d : Decision) → (decide b q ≡ Answered d) ↔ (Table b × (q .level ≤ greatest-level) × By-table (view b) q d)
+  pub bad-roles : (b : List ℕ) (q : Question) → (decide b q ≡ BadRoles) ↔ (Table b × (q .level ≤ greatest-level) × (Roles-fit (q .roles) → ⊥))
+  pub by-table : (b : List ℕ) (q : Question) (d : Decision) → (decide b q ≡ Answered d) ↔ (Table b × Valid q × By-table (view b) q d)
   pub by-file :
       (s : List ℕ) (xs : List Tagged) → Acceptable s xs → (rest : List ℕ) (q : Question) (d : Decision)
-      → (decide (table-of (file-of xs) ++ rest) q ≡ Answered d) ↔ ((q .level ≤ greatest-level) × By-file (file-of xs) q d)
+      → (decide (table-of (file-of xs) ++ rest) q ≡ Answered d) ↔ (Valid q × By-file (file-of xs) q d)
   -- The look-up: 20, then the part that holds the name of the letter's first input, or 22. Of a loaded table it is the name that the file gives.
   pub no-table-found : (b g : List ℕ) (letter : ℕ) → (look-up b g letter ≡ found.NotTable) ↔ (Table b → ⊥)
   pub part-found : (b g : List ℕ) (letter at n : ℕ) → (look-up b g letter ≡ found.Part at n) ↔ (Table b × Finds-input b g letter (found.Part at n))
@@ -144,6 +145,7 @@ demand-2 =
       table-stands = proved.stands;
       not-table = proved.not-table-is;
       bad-level = proved.bad-level-is;
+      bad-roles = proved.bad-roles-is;
       by-table = proved.by-table-is;
       by-file = proved.by-file-is;
       no-table-found = proved.no-table-found-is;
@@ -318,3 +320,15 @@ register-on-table = proved.register-on-table
 -- "Demand 3 is read for each standing client": from the text to the right that is read from the storage.
 pub demand-3-of-clients : Never-more-to-clients
 demand-3-of-clients = proved.never-more-to-clients
+
+-- REQUEST 2. Roles: "a UAG member beginning `role/` matches a client one of whose roles equals the rest of it. [..] Demands 2 and 3 take the roles as part
+-- of the question." So they do above: which members match a client is Matches-client, in By-table and By-file.
+-- "Removing a role from a valid question never raises its access.": on any bytes, whichever of its roles is removed; and the question stays valid
+pub removing-a-role-never-raises :
+    (b : List ℕ) (q : Question) → Valid q → (before : List (List ℕ)) (role : List ℕ) (behind : List (List ℕ)) → q .roles ≡ before ++ (role ∷ behind)
+    → let less = with-roles q (before ++ behind) in Valid less × (rank (access-in (decide b less)) ≤ rank (access-in (decide b q)))
+removing-a-role-never-raises b q v before role behind e = proved.role-removed q v before role behind e b
+
+-- 001's example of a role, what its member does not match, and the limits
+pub role-cases : Role-cases
+role-cases = proved.role-cases

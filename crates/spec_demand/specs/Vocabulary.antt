@@ -8,7 +8,8 @@ pub use Rattle.spec_calc.specs.declared.Reading.{Reading}
 pub use Rattle.spec_calc.specs.Expression.{Tree, Parses}
 pub use Rattle.spec_calc.specs.Readings.{Gone-bad}
 pub use Rattle.spec_calc.specs.Reader.{tree-of}
-pub use Rattle.spec_rule.specs.Question.{Question, reading-instead}
+pub use Rattle.spec_rule.specs.Roles.{Roles-fit}
+pub use Rattle.spec_rule.specs.Question.{Question, reading-instead, with-roles, Valid}
 pub use Rattle.spec_rule.specs.Rule.{rank}
 pub use Rattle.spec_rule.specs.Answering.{greatest-level}
 pub use Rattle.spec_file.specs.declared.Refusal.{Refusal}
@@ -29,7 +30,7 @@ pub use Rattle.spec_decision.specs.Privilege.{By-table, By-file}
 pub use Rattle.spec_edition.specs.Edition.{Edition, Later, Says-no}
 pub use Rattle.spec_demand.specs.Calls.{Call, after-call, is-accepted, No-accepted-load, Told, refusal-of}
 pub use Rattle.spec_demand.specs.Memory.{Memory, Storage, bytes-in, Step, calls-of, Made, Nobody-else-writes}
-pub use Rattle.spec_demand.specs.Cases.{Proved-cases}
+pub use Rattle.spec_demand.specs.Cases.{Proved-cases, Role-cases}
 pub use Rattle.spec_rule.specs.Decision.{no-access}
 pub use Rattle.spec_rule.specs.Privilege.{Answers}
 pub use Rattle.spec_decision.specs.Groups.{Numbered, groups-of, group-name}

@@ -9,8 +9,7 @@ use Rattle.spec_grammar.specs.declared.Role.the-variants.{UnknownPredicate}
 use Rattle.spec_grammar.specs.Sentence.{Tagged}
 use Rattle.spec_rule.specs.declared.Access.{Access}
 use Rattle.spec_rule.specs.declared.Access.the-variants as access
-use Rattle.spec_rule.specs.Question.{Question}
-use Rattle.spec_rule.specs.Answering.{greatest-level}
+use Rattle.spec_rule.specs.Question.{Question, Valid}
 use Rattle.spec_rule.specs.Privilege.{Some, Answers, Asks, Greatest}
 use Rattle.spec_file.specs.Contents.{has-role, place, Rule-text, Asg, File, file-of}
 use Rattle.spec_file.specs.Meaning.{rule-in}
@@ -27,13 +26,13 @@ pub record Passes-later (e : Edition) (q : Question) (f : File) (r : Rule-text) 
 
 -- the access a that the edition e gives the question q by what the tokens xs say
 pub data Later (e : Edition) (xs : List Tagged) (q : Question) : Access → Type 0 where
-  -- "A question refused for its own parts, as by 21, gets NONE."
-  refused : (q .level ≤ greatest-level → ⊥) → Later e xs q access.None
+  -- "A question refused for its own parts, as by 21, gets NONE.": by 26 too
+  refused : (Valid q → ⊥) → Later e xs q access.None
   -- "Else the ASG is found as under The question"; "The access is the greatest passing permission, else NONE."
   by-group :
-      {g : Asg} {a : Access} → q .level ≤ greatest-level → Answers (λ h. h .name) (q .group) (file-of xs .asgs) (some g)
+      {g : Asg} {a : Access} → Valid q → Answers (λ h. h .name) (q .group) (file-of xs .asgs) (some g)
       → Greatest (λ b. Some (λ r. Passes-later e q (file-of xs) r × (r .permission ≡ b)) (g .rules)) a → Later e xs q a
-  by-no-group : q .level ≤ greatest-level → Answers (λ h. h .name) (q .group) (file-of xs .asgs) none → Later e xs q access.None
+  by-no-group : Valid q → Answers (λ h. h .name) (q .group) (file-of xs .asgs) none → Later e xs q access.None
 
 -- the edition says no, at a question, to each unknown predicate of what the tokens xs say
 abbrev pub Says-no : Edition → Question → List Tagged → Type 0

@@ -6,9 +6,9 @@ use Rattle.spec_lists.specs.Select.{all, select}
 use Rattle.spec_grammar.specs.Sentence.{Tagged}
 use Rattle.spec_rule.specs.declared.Access.{Access}
 use Rattle.spec_rule.specs.declared.Access.the-variants as access
-use Rattle.spec_rule.specs.Question.{Question}
+use Rattle.spec_rule.specs.Question.{Question, valid}
 use Rattle.spec_rule.specs.Rule.{asks, greatest}
-use Rattle.spec_rule.specs.Answering.{a-level, answering}
+use Rattle.spec_rule.specs.Answering.{answering}
 use Rattle.spec_file.specs.Contents.{Rule-text, Asg, File, file-of}
 use Rattle.spec_file.specs.Meaning.{rule-in}
 use Rattle.spec_edition.specs.Edition.{Edition}
@@ -25,6 +25,6 @@ access-by-rules e f q rs = greatest (map (λ r. r .permission) (select (passes-l
 
 abbrev pub access-later : Edition → List Tagged → Question → Access
 access-later e xs q =
-    cond (a-level (q .level))
+    cond (valid q)
     (access-by-rules e (file-of xs) q (rules-later (answering (λ a. a .name) (q .group) (file-of xs .asgs))))
     access.None

@@ -20,7 +20,7 @@ abbrev pub readings-of : Register → Option ℕ → List Reading
 readings-of r none = never-heard
 readings-of r (some i) = readings-at r i
 
--- "a question with the answering group's readings"
+-- "a question with the answering group's readings"; 02, ticket 2: the register's clients have no roles
 abbrev pub question-now : List ℕ → Register → Client → Question
 question-now b r c = question-of (c .group) (c .user) (c .host) (c .level) (readings-of r (answering-number b (c .group)))
 

@@ -15,7 +15,7 @@ default-name = bytes "DEFAULT"
 abbrev pub greatest-level : ℕ
 greatest-level = 1
 
--- 21: "level neither 0 nor 1"
+-- 0 or 1; else 21, "level neither 0 nor 1"
 abbrev pub a-level : ℕ → Bool
 a-level n = leb n greatest-level
 

@@ -1,6 +1,7 @@
+pub mod Answering
+pub mod Roles
 pub mod Question
 pub mod Rule
-pub mod Answering
 pub mod Decision
 pub mod Kept
 pub mod Privilege

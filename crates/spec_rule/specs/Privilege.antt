@@ -14,6 +14,7 @@ use Rattle.spec_calc.specs.Value.{reading, good, letters, value, lower-bound, u
 use Rattle.spec_rule.specs.declared.Access.{Access}
 use Rattle.spec_rule.specs.declared.Access.the-variants as access
 use Rattle.spec_rule.specs.declared.Decision.{Decision}
+use Rattle.spec_rule.specs.Roles.{role-prefix}
 use Rattle.spec_rule.specs.Question.{Question}
 use Rattle.spec_rule.specs.Rule.{Rule}
 use Rattle.spec_rule.specs.Decision.{no-access}
@@ -47,9 +48,16 @@ module _ {G : Type 0} (name : G → List ℕ) where
 
 -- ---- "2. Each RULE is checked for the following:"
 
--- a name is among the members of one of some groups, or no group is named
-abbrev pub Belongs : List ℕ → List (List (List ℕ)) → Type 0
-Belongs n groups = (groups ≡ []) ⊎ Some (Some (λ member. member ≡ n)) groups
+-- no group is named, or a member of one of them matches
+abbrev pub Belongs : (List ℕ → Type 0) → List (List (List ℕ)) → Type 0
+Belongs Matches groups = (groups ≡ []) ⊎ Some (Some Matches) groups
+
+-- which members of a user group match a client. 001: "In additional to client usernames, UAG definitions may contained items beginning with "role/" which
+-- are matched against the list of groups of which the client username is a member." 02: "a UAG member beginning `role/` matches a client one of whose roles
+-- equals the rest of it. [..] Such a member no longer matches a user name"
+pub data Matches-client (user : List ℕ) (roles : List (List ℕ)) (member : List ℕ) : Type 0 where
+  by-user : ((rest : List ℕ) → member ≡ role-prefix ++ rest → ⊥) → member ≡ user → Matches-client user roles member
+  by-role : Some (λ role. member ≡ role-prefix ++ role) roles → Matches-client user roles member
 
 -- "If any of the INP fields associated with this calculation are in INVALID alarm severity the calculation is considered false. The actual test for
 -- TRUE is .99 <result <1.01."
@@ -65,10 +73,10 @@ pub record Asks (q : Question) (r : Rule) : Type 0 where
   -- "The field's level must be less than or equal to the level for this RULE."
   pub level : q .level ≤ r .level
   -- "If UAG is defined, the user must belong to one of the specified UAGs. If UAG is not defined all users are accepted."
-  pub user : Belongs (q .user) (r .uags)
+  pub user : Belongs (Matches-client (q .user) (q .roles)) (r .uags)
   -- "If HAG is defined, the user's host must belong to one one of the HAGs. If HAG is not defined all hosts are accepted."
   -- 01: "its ASCII letters lowered first, stored bytes as they are"
-  pub host : Belongs (lowered (q .host)) (r .hags)
+  pub host : Belongs (λ member. member ≡ lowered (q .host)) (r .hags)
   -- "If CALC is specified, the calculation must yield the value 1, i.e. TRUE."
   pub calculation : (s : List ℕ) → r .calculation ≡ some s → Yields-true (q .readings) s
 

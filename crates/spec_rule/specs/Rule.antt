@@ -4,6 +4,7 @@ use mathlib.Core.List.{List, [], _∷_, map}
 use mathlib.Core.Option.{Option, none, some}
 use Prim.Native.Nat.{ℕ}
 use lib.Dec.{leb, eqb}
+use lib.ListN.{length, take, drop}
 use Rattle.spec_lists.specs.Text.{same, lowered}
 use Rattle.spec_lists.specs.Select.{any, select, first}
 use Rattle.spec_calc.specs.declared.Reading.{Reading}
@@ -12,6 +13,7 @@ use Rattle.spec_calc.specs.Value.{worth, true-worth}
 use Rattle.spec_calc.specs.Reader.{tree-of}
 use Rattle.spec_rule.specs.declared.Access.{Access}
 use Rattle.spec_rule.specs.declared.Access.the-variants as access
+use Rattle.spec_rule.specs.Roles.{role-prefix}
 use Rattle.spec_rule.specs.Question.{Question}
 
 -- a rule and what it asks, of a file or of a table
@@ -34,10 +36,22 @@ rank access.Write = 2
 -- ---- Functions that decide what Privilege.antt states. Nobody has to believe them: laws/Privilege.antt proves that they agree with it.
 
 -- 01: "the user is a member of one of its UAGs (or it names none)"; "Several UAG lists in one rule count as one."
--- A predicate says which members match, one for users and one for hosts.
+-- A predicate says which members match: `matches-question` for users, equality with the lowered name for hosts.
 abbrev pub belongs : (List ℕ → Bool) → List (List (List ℕ)) → Bool
 belongs matches [] = true
 belongs matches (g ∷ gs) = any (λ members. any matches members) (g ∷ gs)
+
+-- the text begins with those bytes
+abbrev pub begins : List ℕ → List ℕ → Bool
+begins p s = same p (take (length p) s)
+
+-- which members of a user group match. 02: "a UAG member beginning `role/` matches a client one of whose roles equals the rest of it. [..] Such a member no
+-- longer matches a user name"
+abbrev pub matches-client : List ℕ → List (List ℕ) → List ℕ → Bool
+matches-client user roles member = cond (begins role-prefix member) (any (same (drop (length role-prefix) member)) roles) (same user member)
+
+abbrev pub matches-question : Question → List ℕ → Bool
+matches-question q = matches-client (q .user) (q .roles)
 
 -- the tree that a text says, if it says one, is true of the readings
 abbrev pub true-tree : List Reading → Option Tree → Bool
@@ -52,7 +66,7 @@ calculation-holds rs (some s) = true-tree rs (tree-of s)
 abbrev pub asks : Rule → Question → Bool
 asks r q =
     leb (q .level) (r .level)
-    && (belongs (same (q .user)) (r .uags)
+    && (belongs (matches-question q) (r .uags)
     && (belongs (same (lowered (q .host))) (r .hags) && calculation-holds (q .readings) (r .calculation)))
 
 -- 01: "A rule passes if it isn't switched off, the field's level is at most the rule's, [..]"
@@ -64,7 +78,7 @@ passes q r = not (r .switched-off) && asks r q
 abbrev pub stands : Question → Rule → Bool
 stands q r =
     not (r .switched-off)
-    && (leb (q .level) (r .level) && (belongs (same (q .user)) (r .uags) && belongs (same (lowered (q .host))) (r .hags)))
+    && (leb (q .level) (r .level) && (belongs (matches-question q) (r .uags) && belongs (same (lowered (q .host))) (r .hags)))
 
 abbrev pub greater : Access → Access → Access
 greater a b = cond (leb (rank a) (rank b)) b a

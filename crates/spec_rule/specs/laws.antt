@@ -3,4 +3,7 @@ pub mod Passing
 pub mod Decision
 pub mod Kept
 pub mod Such
+pub mod Matching
+pub mod Roles
+pub mod Fewer
 pub mod Privilege

@@ -1,20 +1,20 @@
 -- Refused questions and look-ups: when they are, and what they answer.
-use mathlib.Core.Path.{_≡_, refl, ap}
+use mathlib.Core.Path.{_≡_, refl, sym, ap}
 use mathlib.Core.Bool.{Bool, true, false, cond}
 use mathlib.Core.List.{List, []}
 use mathlib.Core.Logic.{_↔_, _⊎_, inl, inr}
 use mathlib.Core.Option.{Option, none, some}
-use Prim.Native.Nat.{ℕ, _<_}
+use Prim.Native.Nat.{ℕ, _≤_, _<_}
 use native.Mathlib.Omega.{arith}
 use lib.Dec.{eqb, leb}
-use borrow.Author.Tests.{leb-true, leb-false, lt-leb, ne-eqb}
+use borrow.Author.Tests.{leb-true, ne-eqb}
 use Rattle.spec_lists.specs.Every.{Every}
 use Rattle.spec_lists.specs.laws.Every.{every-implies, every-take, every-drop, none-first}
 use Rattle.spec_token.specs.Word.{greatest-letter}
-use Rattle.spec_rule.specs.declared.Decision.{Decision}
+use Rattle.spec_rule.specs.declared.Access.the-variants as access
+use Rattle.spec_rule.specs.Roles.{Roles-fit}
 use Rattle.spec_rule.specs.Question.{Question}
-use Rattle.spec_rule.specs.Decision.{decision-by}
-use Rattle.spec_rule.specs.Answering.{a-level, greatest-level, answering}
+use Rattle.spec_rule.specs.Answering.{greatest-level, answering}
 use Rattle.spec_rule.specs.laws.Such.{all-every}
 use Rattle.spec_file.specs.Limit.{access-groups, inputs}
 use Rattle.spec_table.specs.View.{view}
@@ -23,20 +23,33 @@ use Rattle.spec_table.specs.Check.{is-table}
 use Rattle.spec_table.specs.Policy.{name}
 use Rattle.spec_table.specs.laws.Table.{table-is}
 use Rattle.spec_decision.specs.declared.Answer.{Answer}
-use Rattle.spec_decision.specs.declared.Answer.the-variants.{Answered, NotTable, BadLevel}
+use Rattle.spec_decision.specs.declared.Answer.the-variants.{Answered, NotTable, BadLevel, BadRoles}
 use Rattle.spec_decision.specs.declared.Found.{Found}
 use Rattle.spec_decision.specs.declared.Found.the-variants as found
-use Rattle.spec_decision.specs.Decision.{number, answered, rules-for, decide}
+use Rattle.spec_decision.specs.Decision.{number, access-in, trap-in, answer-by, rules-for, decide}
 use Rattle.spec_decision.specs.LookUp as found-by
 use Rattle.spec_decision.specs.LookUp.{part-in, input-of, named-part, look-up}
+use Rattle.spec_decision.specs.laws.Answer.{never-no-table, by-level-is, by-roles-is}
 
-pub refused-question-numbered : (b : List ℕ) (q : Question) (n : ℕ) → number (decide b q) ≡ some n → (n ≡ 20) ⊎ (n ≡ 21)
+pub refused-question-numbered : (b : List ℕ) (q : Question) (n : ℕ) → number (decide b q) ≡ some n → (n ≡ 20) ⊎ (n ≡ 21) ⊎ (n ≡ 26)
 refused-question-numbered b q n e = by (decide b q) e
   where
-    by : (a : Answer) → number a ≡ some n → (n ≡ 20) ⊎ (n ≡ 21)
+    by : (a : Answer) → number a ≡ some n → (n ≡ 20) ⊎ (n ≡ 21) ⊎ (n ≡ 26)
     by (Answered d) h = let z : _≡_ {A = ℕ} 0 1 = cc in absurd (omega arith)
     by NotTable h = inl (cc)
-    by BadLevel h = inr (cc)
+    by BadLevel h = inr (inl (cc))
+    by BadRoles h = inr (inr (cc))
+
+-- "NONE, no trap"
+pub refused-grants-nothing :
+    (b : List ℕ) (q : Question) (n : ℕ) → number (decide b q) ≡ some n → (access-in (decide b q) ≡ access.None) × (trap-in (decide b q) ≡ false)
+refused-grants-nothing b q n e = by (decide b q) e
+  where
+    by : (a : Answer) → number a ≡ some n → (access-in a ≡ access.None) × (trap-in a ≡ false)
+    by (Answered d) h = let z : _≡_ {A = ℕ} 0 1 = cc in absurd (omega arith)
+    by NotTable h = (refl, refl)
+    by BadLevel h = (refl, refl)
+    by BadRoles h = (refl, refl)
 
 -- 20, 22: "the empty part"
 pub refused-look-up-empty :
@@ -49,43 +62,46 @@ refused-look-up-empty b g letter n e = by (look-up b g letter) e
     by found.NotTable h = (inl (cc), refl)
     by found.NoInput h = (inr (cc), refl)
 
--- ---- when a question is refused: "20 comes before 21"
+-- ---- when a question is refused: 20, then 21, then 26
 
 pub not-table-is : (b : List ℕ) (q : Question) → (decide b q ≡ NotTable) ↔ (Table b → ⊥)
 unfolding decide
-not-table-is b q = (λ e t. sound e (table-is b .1 t), λ n. complete (is-table b) refl n)
+not-table-is b q = (λ e t. never-no-table q (rules-for (view b) (q .group)) (rw (table-is b .1 t) at e), λ n. complete (is-table b) refl n)
   where
-    levelled : Answer
-    levelled = cond (a-level (q .level)) (answered q (rules-for (view b) (q .group))) BadLevel
-
-    never : (t : Bool) (d : Decision) → cond t (Answered d) BadLevel ≡ NotTable → ⊥
-    never true d e = let z : _≡_ {A = ℕ} 0 1 = cc in omega arith
-    never false d e = let z : _≡_ {A = ℕ} 0 1 = cc in omega arith
-
-    sound : cond (is-table b) levelled NotTable ≡ NotTable → is-table b ≡ true → ⊥
-    sound e t = never (a-level (q .level)) (decision-by q (rules-for (view b) (q .group))) (rw t at e)
-
-    complete : (t : Bool) → is-table b ≡ t → (Table b → ⊥) → cond t levelled NotTable ≡ NotTable
+    complete : (t : Bool) → is-table b ≡ t → (Table b → ⊥) → cond t (answer-by q (rules-for (view b) (q .group))) NotTable ≡ NotTable
     complete true e n = absurd (n (table-is b .0 e))
     complete false e n = refl
 
-pub bad-level-is : (b : List ℕ) (q : Question) → (decide b q ≡ BadLevel) ↔ (Table b × (greatest-level < q .level))
-unfolding decide
-bad-level-is b q = (λ e. sound (is-table b) refl e, λ h. rw (table-is b .1 (h .0), lt-leb (q .level) greatest-level (h .1)))
-  where
-    by-rules : Decision
-    by-rules = decision-by q (rules-for (view b) (q .group))
+module _ (b : List ℕ) (q : Question) where
+  -- an answer but 20 is that of a table's rules
+  pub of-table : (a : Answer) → (a ≡ NotTable → ⊥) → (decide b q ≡ a) ↔ (Table b × (answer-by q (rules-for (view b) (q .group)) ≡ a))
+  unfolding decide
+  of-table a n = (λ e. sound (is-table b) refl e, λ h. rw (table-is b .1 (h .0)) (h .1))
+    where
+      by-rules : Answer
+      by-rules = answer-by q (rules-for (view b) (q .group))
 
-    over : (t : Bool) → a-level (q .level) ≡ t → cond t (Answered by-rules) BadLevel ≡ BadLevel → greatest-level < q .level
-    over true l e = let z : _≡_ {A = ℕ} 0 1 = cc in absurd (omega arith)
-    over false l e = leb-false (q .level) greatest-level l
+      sound : (t : Bool) → is-table b ≡ t → cond t by-rules NotTable ≡ a → Table b × (by-rules ≡ a)
+      sound true t e = (table-is b .0 t, e)
+      sound false t e = absurd (n (sym e))
 
-    sound :
-        (t : Bool) → is-table b ≡ t
-        → cond t (cond (a-level (q .level)) (Answered by-rules) BadLevel) NotTable ≡ BadLevel
-        → Table b × (greatest-level < q .level)
-    sound true t e = (table-is b .0 t, over (a-level (q .level)) refl e)
-    sound false t e = let z : _≡_ {A = ℕ} 0 1 = cc in absurd (omega arith)
+  level-not-table : BadLevel ≡ NotTable → ⊥
+  level-not-table e = let z : _≡_ {A = ℕ} 0 1 = cc in omega arith
+
+  roles-not-table : BadRoles ≡ NotTable → ⊥
+  roles-not-table e = let z : _≡_ {A = ℕ} 0 1 = cc in omega arith
+
+  pub bad-level-is : (decide b q ≡ BadLevel) ↔ (Table b × (greatest-level < q .level))
+  bad-level-is =
+      let t = of-table BadLevel level-not-table in
+      let l = by-level-is q (rules-for (view b) (q .group)) in
+      (λ e. (t .0 e .0, l .0 (t .0 e .1)), λ h. t .1 (h .0, l .1 (h .1)))
+
+  pub bad-roles-is : (decide b q ≡ BadRoles) ↔ (Table b × (q .level ≤ greatest-level) × (Roles-fit (q .roles) → ⊥))
+  bad-roles-is =
+      let t = of-table BadRoles roles-not-table in
+      let f = by-roles-is q (rules-for (view b) (q .group)) in
+      (λ e. let h = f .0 (t .0 e .1) in (t .0 e .0, h .0, h .1), λ h. t .1 (h .0, f .1 (h .1, h .2)))
 
 -- ---- the look-up of a letter
 

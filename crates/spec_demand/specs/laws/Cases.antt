@@ -19,7 +19,7 @@ use Rattle.spec_table.specs.Check.{is-table}
 use Rattle.spec_table.specs.Written.{table-of}
 use Rattle.spec_load.specs.Load.{load}
 use Rattle.spec_decision.specs.Decision.{decide}
-use Rattle.spec_demand.specs.Cases.{Proved-cases}
+use Rattle.spec_demand.specs.Cases.{Proved-cases, Role-cases}
 
 pub proved-cases : Proved-cases
 unfolding load verdict scan table-of layout is-table view decide tree-of run reduce symbols-in value ne lt le eq add sub mul div neg ofBits ofInt
@@ -37,4 +37,23 @@ proved-cases =
       lower-level = refl;
       higher-level = refl;
       no-group = refl;
+    }
+
+pub role-cases : Role-cases
+unfolding load verdict scan table-of layout is-table view decide tree-of
+role-cases =
+    record {
+      by-user = refl;
+      by-role = refl;
+      other-role = refl;
+      no-user-name = refl;
+      not-the-prefix = refl;
+      no-role-by-name = refl;
+      another-prefix = refl;
+      empty-role = refl;
+      no-host-role = refl;
+      sixteen = refl;
+      seventeen = refl;
+      too-long = refl;
+      level-first = refl;
     }

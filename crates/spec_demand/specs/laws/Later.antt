@@ -1,6 +1,6 @@
 -- From a file's text to the access at every question, against every later edition.
 use mathlib.Core.Path.{_≡_, refl, sym, ap, subst, _∙_}
-use mathlib.Core.Bool.{Bool, true, false, cond}
+use mathlib.Core.Bool.{Bool, true, false, cond, _&&_}
 use mathlib.Core.List.{List, [], _∷_, map}
 use mathlib.Core.Option.{Option, none, some}
 use Prim.Native.Nat.{ℕ, _≤_}
@@ -19,6 +19,7 @@ use Rattle.spec_calc.specs.declared.Reading.{Reading}
 use Rattle.spec_calc.specs.Readings.{Gone-bad}
 use Rattle.spec_rule.specs.declared.Access.{Access}
 use Rattle.spec_rule.specs.declared.Access.the-variants as access
+use Rattle.spec_rule.specs.Roles.{roles-fit}
 use Rattle.spec_rule.specs.Question.{Question, reading-instead}
 use Rattle.spec_rule.specs.Rule.{rank}
 use Rattle.spec_rule.specs.Answering.{a-level, answering, named, or-default, default-name}
@@ -30,8 +31,8 @@ use Rattle.spec_file.specs.laws.Theorem.{accepted-is}
 use Rattle.spec_table.specs.Written.{table-of}
 use Rattle.spec_table.specs.laws.Accepted.{fits}
 use Rattle.spec_load.specs.Load.{load}
-use Rattle.spec_decision.specs.declared.Answer.the-variants.{BadLevel}
-use Rattle.spec_decision.specs.Decision.{answered, access-in, decide}
+use Rattle.spec_decision.specs.Decision.{access-in, decide}
+use Rattle.spec_decision.specs.laws.Answer.{tested}
 use Rattle.spec_edition.specs.Edition.{Says-no, Edition, Later}
 use Rattle.spec_edition.specs.Machine.{rules-later, access-by-rules, access-later}
 use Rattle.spec_edition.specs.laws.Agreement.{later-is}
@@ -96,24 +97,26 @@ module _ (e : Edition) (q : Question) where
 module _ (e : Edition) (xs : List Tagged) (q : Question) where
   never-above-by-file :
       (rs : List Reading) → Gone-bad (q .readings) rs → rank (access-in (answer-by-file (file-of xs) (reading-instead q rs))) ≤ rank (access-later e xs q)
-  never-above-by-file rs g = by (a-level (q .level))
+  never-above-by-file rs g = by (a-level (q .level)) (roles-fit (q .roles))
     where
       by :
-          (b : Bool)
-          → rank (access-in (cond b (answered (reading-instead q rs) (map (rule-in (file-of xs)) (rules-by-file (file-of xs) (q .group)))) BadLevel))
-          ≤ rank (cond b (access-by-rules e (file-of xs) q (rules-by-file (file-of xs) (q .group))) access.None)
-      by true = access-never-above e (file-of xs) q rs g (rules-by-file (file-of xs) (q .group))
-      by false = le-refl 0
+          (l f : Bool)
+          → rank (access-in (tested (reading-instead q rs) (map (rule-in (file-of xs)) (rules-by-file (file-of xs) (q .group))) l f))
+          ≤ rank (cond (l && f) (access-by-rules e (file-of xs) q (rules-by-file (file-of xs) (q .group))) access.None)
+      by true true = access-never-above e (file-of xs) q rs g (rules-by-file (file-of xs) (q .group))
+      by true false = le-refl 0
+      by false f = le-refl 0
 
   alike-by-file : Says-no e q xs → access-in (answer-by-file (file-of xs) q) ≡ access-later e xs q
-  alike-by-file h = by (a-level (q .level))
+  alike-by-file h = by (a-level (q .level)) (roles-fit (q .roles))
     where
       by :
-          (b : Bool)
-          → access-in (cond b (answered q (map (rule-in (file-of xs)) (rules-by-file (file-of xs) (q .group)))) BadLevel)
-          ≡ cond b (access-by-rules e (file-of xs) q (rules-by-file (file-of xs) (q .group))) access.None
-      by true = access-alike e (file-of xs) q (rules-by-file (file-of xs) (q .group)) (denied e q xs h (q .group))
-      by false = refl
+          (l f : Bool)
+          → access-in (tested q (map (rule-in (file-of xs)) (rules-by-file (file-of xs) (q .group))) l f)
+          ≡ cond (l && f) (access-by-rules e (file-of xs) q (rules-by-file (file-of xs) (q .group))) access.None
+      by true true = access-alike e (file-of xs) q (rules-by-file (file-of xs) (q .group)) (denied e q xs h (q .group))
+      by true false = refl
+      by false f = refl
 
 -- ---- from the load to the question
 

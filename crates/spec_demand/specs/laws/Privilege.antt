@@ -3,15 +3,14 @@ use mathlib.Core.Path.{_≡_, refl, sym, ap, _∙_}
 use mathlib.Core.List.{List, _++_, map}
 use mathlib.Core.Logic.{_↔_}
 use mathlib.Core.Option.{none, some}
-use Prim.Native.Nat.{ℕ, _≤_}
+use Prim.Native.Nat.{ℕ}
 use native.Mathlib.Omega.{arith}
 use lib.Dec.{eqb}
 use Rattle.spec_lists.specs.Select.{first}
 use Rattle.spec_grammar.specs.Sentence.{Tagged}
 use Rattle.spec_rule.specs.declared.Decision.{Decision}
-use Rattle.spec_rule.specs.Question.{Question}
+use Rattle.spec_rule.specs.Question.{Question, Valid}
 use Rattle.spec_rule.specs.Decision.{decision-by}
-use Rattle.spec_rule.specs.Answering.{greatest-level}
 use Rattle.spec_rule.specs.laws.Privilege.{determined-is}
 use Rattle.spec_file.specs.Contents.{File, file-of}
 use Rattle.spec_file.specs.Meaning.{rule-in}
@@ -24,7 +23,7 @@ use Rattle.spec_decision.specs.Decision.{decide}
 use Rattle.spec_decision.specs.LookUp.{number, part-in, look-up, Names-input}
 use Rattle.spec_decision.specs.Privilege.{By-file}
 use Rattle.spec_decision.specs.laws.LookUp.{first-input-is}
-use Rattle.spec_decision.specs.laws.Privilege.{asked-is}
+use Rattle.spec_decision.specs.laws.Answer.{by-rules-is}
 use Rattle.spec_edition.specs.Machine.{rules-later}
 use Rattle.spec_demand.specs.ByFile.{rules-by-file, answer-by-file, inputs-in, input-by-file, name-found}
 use Rattle.spec_demand.specs.laws.Exact.{answers-by-file, inputs-by-file}
@@ -33,14 +32,14 @@ module _ (f : File) (q : Question) (d : Decision) where
   steps : (decision-by q (map (rule-in f) (rules-by-file f (q .group))) ≡ d) ↔ By-file f q d
   steps = determined-is (λ a. a .name) (λ a. map (rule-in f) (a .rules)) (λ o. map (rule-in f) (rules-later o)) refl (λ g. refl) (f .asgs) q d
 
-  answer-is : (answer-by-file f q ≡ Answered d) ↔ ((q .level ≤ greatest-level) × By-file f q d)
+  answer-is : (answer-by-file f q ≡ Answered d) ↔ (Valid q × By-file f q d)
   answer-is =
-      let a = asked-is (decision-by q (map (rule-in f) (rules-by-file f (q .group)))) d (q .level) in
+      let a = by-rules-is q (map (rule-in f) (rules-by-file f (q .group))) d in
       (λ e. (a .0 e .0, steps .0 (a .0 e .1)), λ h. a .1 (h .0, steps .1 (h .1)))
 
 pub by-file-is :
     (s : List ℕ) (xs : List Tagged) → Acceptable s xs → (rest : List ℕ) (q : Question) (d : Decision)
-    → (decide (table-of (file-of xs) ++ rest) q ≡ Answered d) ↔ ((q .level ≤ greatest-level) × By-file (file-of xs) q d)
+    → (decide (table-of (file-of xs) ++ rest) q ≡ Answered d) ↔ (Valid q × By-file (file-of xs) q d)
 by-file-is s xs a rest q d =
     let e = answers-by-file s xs a rest q in
     let i = answer-is (file-of xs) q d in

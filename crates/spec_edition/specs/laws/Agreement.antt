@@ -4,19 +4,18 @@ use mathlib.Core.Bool.{Bool, true, false, cond, false≢true}
 use mathlib.Core.List.{List}
 use mathlib.Core.Logic.{_↔_}
 use mathlib.Core.Option.{Option, none, some}
-use Prim.Native.Nat.{_≤_}
-use borrow.Author.Tests.{leb-true, le-leb}
 use Rattle.spec_lists.specs.Select.{all}
 use Rattle.spec_lists.specs.laws.Both.{both}
 use Rattle.spec_lists.specs.laws.Every.{every-all}
 use Rattle.spec_grammar.specs.Sentence.{Tagged}
 use Rattle.spec_rule.specs.declared.Access.{Access}
 use Rattle.spec_rule.specs.declared.Access.the-variants as access
-use Rattle.spec_rule.specs.Question.{Question}
+use Rattle.spec_rule.specs.Question.{Question, Valid, valid}
 use Rattle.spec_rule.specs.Rule.{asks}
-use Rattle.spec_rule.specs.Answering.{greatest-level, a-level, answering}
+use Rattle.spec_rule.specs.Answering.{answering}
 use Rattle.spec_rule.specs.Privilege.{Some, Answers, Greatest}
 use Rattle.spec_rule.specs.laws.Such.{all-every}
+use Rattle.spec_rule.specs.laws.Roles.{valid-is}
 use Rattle.spec_rule.specs.laws.Privilege.{asks-is, greatest-is, one-greatest, answering-is}
 use Rattle.spec_file.specs.Contents.{Rule-text, Asg, File, file-of}
 use Rattle.spec_file.specs.Meaning.{rule-in}
@@ -41,25 +40,25 @@ module _ (e : Edition) (xs : List Tagged) (q : Question) where
   given : (g : Asg) → Greatest (λ b. Some (λ r. Passes-later e q (file-of xs) r × (r .permission ≡ b)) (g .rules)) (by-rules (some g))
   given g = greatest-is (Passes-later e q (file-of xs)) (λ r. r .permission) (passes-later e (file-of xs) q) (passes-later-is e q (file-of xs)) (g .rules)
 
-  by-answering : q .level ≤ greatest-level → (o : Option Asg) → Answers (λ a. a .name) (q .group) (file-of xs .asgs) o → Later e xs q (by-rules o)
+  by-answering : Valid q → (o : Option Asg) → Answers (λ a. a .name) (q .group) (file-of xs .asgs) o → Later e xs q (by-rules o)
   by-answering l none w = by-no-group l w
   by-answering l (some g) w = by-group l w (given g)
 
   gives-later : Later e xs q (access-later e xs q)
-  gives-later = go (a-level (q .level)) refl
+  gives-later = go (valid q) refl
     where
-      go : (b : Bool) → a-level (q .level) ≡ b → Later e xs q (cond b (by-rules found) access.None)
-      go true h = by-answering (leb-true (q .level) greatest-level h) found (answering-is (λ a. a .name) (q .group) (file-of xs .asgs) found .0 refl)
-      go false h = refused (λ l. false≢true (sym h ∙ le-leb (q .level) greatest-level l))
+      go : (b : Bool) → valid q ≡ b → Later e xs q (cond b (by-rules found) access.None)
+      go true h = by-answering (valid-is q .0 h) found (answering-is (λ a. a .name) (q .group) (file-of xs .asgs) found .0 refl)
+      go false h = refused (λ v. false≢true (sym h ∙ valid-is q .1 v))
 
-  asked-for : {o : Option Asg} → q .level ≤ greatest-level → Answers (λ a. a .name) (q .group) (file-of xs .asgs) o → access-later e xs q ≡ by-rules o
-  asked-for {o = o} l w = rw (le-leb (q .level) greatest-level l) (ap by-rules (answering-is (λ a. a .name) (q .group) (file-of xs .asgs) o .1 w))
+  asked-for : {o : Option Asg} → Valid q → Answers (λ a. a .name) (q .group) (file-of xs .asgs) o → access-later e xs q ≡ by-rules o
+  asked-for {o = o} l w = rw (valid-is q .1 l) (ap by-rules (answering-is (λ a. a .name) (q .group) (file-of xs .asgs) o .1 w))
 
   later-complete : {a : Access} → Later e xs q a → access-later e xs q ≡ a
-  later-complete (refused n) = go (a-level (q .level)) refl
+  later-complete (refused n) = go (valid q) refl
     where
-      go : (b : Bool) → a-level (q .level) ≡ b → cond b (by-rules found) access.None ≡ access.None
-      go true h = absurd (n (leb-true (q .level) greatest-level h))
+      go : (b : Bool) → valid q ≡ b → cond b (by-rules found) access.None ≡ access.None
+      go true h = absurd (n (valid-is q .0 h))
       go false h = refl
   later-complete (by-group {g = g} l w m) = asked-for l w ∙ one-greatest (given g) m
   later-complete (by-no-group l w) = asked-for l w

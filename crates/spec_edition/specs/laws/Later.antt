@@ -4,10 +4,7 @@ use mathlib.Core.Bool.{Bool, true, false, cond, not, _&&_, false≢true}
 use mathlib.Core.List.{List, [], _∷_, map}
 use mathlib.Core.Option.{Option, none, some}
 use Prim.Native.Nat.{ℕ, _≤_}
-use native.Mathlib.Omega.{arith}
-use native.Mathlib.Nat.{le-refl}
 use lib.Dec.{leb}
-use borrow.Author.Tests.{leb-true, leb-false}
 use Rattle.spec_lists.specs.Text.{same, lowered}
 use Rattle.spec_lists.specs.Select.{all, nonempty, select, prepend-if}
 use Rattle.spec_lists.specs.laws.Both.{both}
@@ -20,7 +17,8 @@ use Rattle.spec_calc.specs.Reader.{tree-of}
 use Rattle.spec_rule.specs.declared.Access.{Access}
 use Rattle.spec_rule.specs.declared.Access.the-variants as access
 use Rattle.spec_rule.specs.Question.{Question, reading-instead}
-use Rattle.spec_rule.specs.Rule.{Rule, rank, belongs, true-tree, calculation-holds, asks, passes, greater, greatest, access-by}
+use Rattle.spec_rule.specs.Rule.{Rule, rank, belongs, matches-question, true-tree, calculation-holds, asks, passes, greater, greatest, access-by}
+use Rattle.spec_rule.specs.laws.Fewer.{greatest-fewer}
 use Rattle.spec_file.specs.Contents.{Rule-text, File}
 use Rattle.spec_file.specs.Meaning.{rule-in}
 use Rattle.spec_edition.specs.Edition.{Edition}
@@ -38,7 +36,7 @@ calculation-worse rs qs g (some s) e = tree-true rs qs g (tree-of s) e
 
 pub asks-worse : (r : Rule) (q : Question) (qs : List Reading) → Gone-bad (q .readings) qs → asks r (reading-instead q qs) ≡ true → asks r q ≡ true
 asks-worse r q qs g e =
-    let user = belongs (same (q .user)) (r .uags) in
+    let user = belongs (matches-question q) (r .uags) in
     let host = belongs (same (lowered (q .host))) (r .hags) in
     let calculation = calculation-holds qs (r .calculation) in
     let x = both (leb (q .level) (r .level)) (user && (host && calculation)) e in
@@ -69,56 +67,13 @@ module _ (e : Edition) (f : File) (q : Question) where
 
 -- ---- the access
 
-greater-left : (a b : Access) → rank a ≤ rank (greater a b)
-greater-left a b = go (leb (rank a) (rank b)) refl
-  where
-    go : (t : Bool) → leb (rank a) (rank b) ≡ t → rank a ≤ rank (cond t b a)
-    go true h = leb-true (rank a) (rank b) h
-    go false h = le-refl (rank a)
-
-greater-right : (a b : Access) → rank b ≤ rank (greater a b)
-greater-right a b = go (leb (rank a) (rank b)) refl
-  where
-    go : (t : Bool) → leb (rank a) (rank b) ≡ t → rank b ≤ rank (cond t b a)
-    go true h = le-refl (rank b)
-    go false h = let k = leb-false (rank a) (rank b) h in omega arith
-
-greater-least : (a b : Access) (n : ℕ) → rank a ≤ n → rank b ≤ n → rank (greater a b) ≤ n
-greater-least a b n x y = go (leb (rank a) (rank b))
-  where
-    go : (t : Bool) → rank (cond t b a) ≤ n
-    go true = y
-    go false = x
-
 module _ (e : Edition) (f : File) (q : Question) where
   -- never above the edition's
   pub access-never-above :
       (qs : List Reading) → Gone-bad (q .readings) qs → (rs : List Rule-text)
       → rank (access-by (reading-instead q qs) (map (rule-in f) rs)) ≤ rank (access-by-rules e f q rs)
-  access-never-above qs g [] = le-refl 0
-  access-never-above qs g (r ∷ rs) =
-      go (passes (reading-instead q qs) (rule-in f r)) (passes-later e f q r) (passes-worse e f q qs g r) (access-never-above qs g rs)
-    where
-      ours : List Access
-      ours = map (λ x. x .permission) (select (passes (reading-instead q qs)) (map (rule-in f) rs))
-
-      theirs : List Access
-      theirs = map (λ x. x .permission) (select (passes-later e f q) rs)
-
-      go :
-          (a b : Bool) → (a ≡ true → b ≡ true) → rank (greatest ours) ≤ rank (greatest theirs)
-          → rank (greatest (map (λ x. x .permission) (prepend-if a (rule-in f r) (select (passes (reading-instead q qs)) (map (rule-in f) rs)))))
-          ≤ rank (greatest (map (λ x. x .permission) (prepend-if b r (select (passes-later e f q) rs))))
-      go true true h l =
-          greater-least
-          (r .permission)
-          (greatest ours)
-          (rank (greater (r .permission) (greatest theirs)))
-          (greater-left (r .permission) (greatest theirs))
-          (let k = greater-right (r .permission) (greatest theirs) in omega arith)
-      go true false h l = absurd (false≢true (h refl))
-      go false true h l = let k = greater-right (r .permission) (greatest theirs) in omega arith
-      go false false h l = l
+  access-never-above qs g =
+      greatest-fewer (λ r. r .permission) (rule-in f) (passes (reading-instead q qs)) (passes-later e f q) (passes-worse e f q qs g)
 
   -- equal to the edition's, where that says no to every unknown predicate
   pub access-alike :

@@ -1,18 +1,37 @@
--- Comparing two texts byte by byte, the first through a change of each byte.
-use mathlib.Core.Path.{_≡_, refl, ap, _∙_}
-use mathlib.Core.Bool.{Bool, true, false, _&&_}
+-- Comparing two texts: what it says of them; and byte by byte, the first through a change of each byte.
+use mathlib.Core.Path.{_≡_, refl, sym, ap, _∙_}
+use mathlib.Core.Bool.{Bool, true, false, _&&_, false≢true}
 use mathlib.Core.List.{List, [], _∷_, map}
+use mathlib.Core.Logic.{_↔_}
 use Prim.Native.Nat.{ℕ, suc, _+_, _<_}
 use native.Mathlib.Numerals.{add-one}
 use lib.Dec.{eqb}
 use lib.ListN.{length, drop, getD}
 use lib.Seq.{drop-cons, drop-length}
-use borrow.Author.Tests.{eq-eqb, ne-eqb}
+use borrow.Author.Tests.{eqb-true, eq-eqb, ne-eqb}
 use Rattle.spec_lists.specs.Text.{same}
+use Rattle.spec_lists.specs.laws.Both.{both}
 
-pub unchanged : (a : List ℕ) → map (λ x. x) a ≡ a
+pub same-true : (s t : List ℕ) → same s t ≡ true → s ≡ t
+same-true [] [] e = refl
+same-true [] (c ∷ t) e = absurd (false≢true e)
+same-true (b ∷ s) [] e = absurd (false≢true e)
+same-true (b ∷ s) (c ∷ t) e =
+    let h = both (eqb b c) (same s t) e in
+    let x = eqb-true b c (h .0) in
+    let y = same-true s t (h .1) in
+    cc
+
+pub same-self : (s : List ℕ) → same s s ≡ true
+same-self [] = refl
+same-self (b ∷ s) = rw (eq-eqb b b refl, same-self s)
+
+pub same-is : (s t : List ℕ) → (same s t ≡ true) ↔ (t ≡ s)
+same-is s t = (λ h. sym (same-true s t h), λ e. rw e (same-self s))
+
+pub unchanged : {A : Type 0} (a : List A) → map (λ x. x) a ≡ a
 unchanged [] = refl
-unchanged (x ∷ a) = ap (λ (l : List ℕ). x ∷ l) (unchanged a)
+unchanged {A} (x ∷ a) = ap (λ (l : List A). x ∷ l) (unchanged a)
 
 module _ (f : ℕ → ℕ) where
   pub same-length : (a b : List ℕ) → (length a ≡ length b → ⊥) → same (map f a) b ≡ false

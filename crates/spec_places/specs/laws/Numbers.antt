@@ -9,6 +9,7 @@ use Rattle.spec_calc.specs.declared.Reading.{Reading}
 use Rattle.spec_rule.specs.declared.Access.{Access}
 use Rattle.spec_rule.specs.declared.Access.the-variants as access
 use Rattle.spec_rule.specs.declared.Decision.{Decision}
+use Rattle.spec_rule.specs.Roles.{roles-fit}
 use Rattle.spec_rule.specs.Question.{Question}
 use Rattle.spec_rule.specs.Rule.{Rule}
 use Rattle.spec_rule.specs.Decision.{with-trap, no-access, decision-by, then}
@@ -57,12 +58,12 @@ decoded-code q rules =
     go access.Write true = refl
     go access.Write false = refl
 
--- a table answers a question that asks for a level by the rules of the answering group's number
+-- a table answers a question that asks for a level, with roles that fit, by the rules of the answering group's number
 pub decided-by :
-    (t : List ℕ) (q : Question) → is-table t ≡ true → a-level (q .level) ≡ true
+    (t : List ℕ) (q : Question) → is-table t ≡ true → a-level (q .level) ≡ true → roles-fit (q .roles) ≡ true
     → decided (decide t q) ≡ decision-by q (rules-by t (answering-number t (q .group)))
 unfolding decide
-decided-by t q i a = rw (i, a) (ap (decision-by q) (rules-numbered t (q .group)))
+decided-by t q i a f = rw (i, a, f) (ap (decision-by q) (rules-numbered t (q .group)))
 
 -- bytes that are no table refuse it
 pub undecided : (t : List ℕ) (q : Question) → is-table t ≡ false → decided (decide t q) ≡ no-access
@@ -119,5 +120,5 @@ kept-decides t r rs c a same-readings = on (is-table t) refl
         (same-readings n (number-few t g i (answering-stands t (c .group) g e)))
 
     on : (b : Bool) → is-table t ≡ b → decoded (getD (kept t rs c) 1 0) ≡ decided (decide t (question-now t r c))
-    on true i = rw i (by i (group-answering t (c .group)) refl ∙ sym (decided-by t (question-now t r c) i a))
+    on true i = rw i (by i (group-answering t (c .group)) refl ∙ sym (decided-by t (question-now t r c) i a refl))
     on false i = rw i (sym (undecided t (question-now t r c) i))

@@ -12,15 +12,16 @@ use Rattle.spec_calc.specs.declared.Reading.{Reading}
 use Rattle.spec_rule.specs.declared.Decision.{Decision}
 use Rattle.spec_rule.specs.Privilege.{Answers}
 use Rattle.spec_rule.specs.Question.{Question}
+use Rattle.spec_rule.specs.laws.Roles.{no-roles-fit}
 use Rattle.spec_rule.specs.Answering.{greatest-level}
 use Rattle.spec_rule.specs.Decision.{no-access}
 use Rattle.spec_rule.specs.laws.Privilege.{answering-is}
 use Rattle.spec_table.specs.Table.{Table}
 use Rattle.spec_decision.specs.declared.Answer.{Answer}
-use Rattle.spec_decision.specs.declared.Answer.the-variants.{Answered, NotTable, BadLevel}
+use Rattle.spec_decision.specs.declared.Answer.the-variants.{Answered, NotTable, BadLevel, BadRoles}
 use Rattle.spec_decision.specs.Decision.{decide}
 use Rattle.spec_decision.specs.Groups.{Numbered, groups-of, group-name, group-named}
-use Rattle.spec_decision.specs.laws.Refused.{not-table-is, bad-level-is}
+use Rattle.spec_decision.specs.laws.Refused.{not-table-is, bad-level-is, bad-roles-is}
 use Rattle.spec_load.specs.declared.Loaded.{Loaded}
 use Rattle.spec_load.specs.declared.Loaded.the-variants as loaded
 use Rattle.spec_load.specs.Load.{load}
@@ -151,3 +152,4 @@ right-answers t cs p c h table = by (decide (g .table) q) refl
     by (Answered d) e = ap Answered (sym (right-is-answer g p c d h e))
     by NotTable e = absurd (not-table-is (g .table) q .0 e table)
     by BadLevel e = absurd (omega (arith, bad-level-is (g .table) q .0 e .1, clients-fit t cs p c h .1))
+    by BadRoles e = absurd (bad-roles-is (g .table) q .0 e .2 no-roles-fit)

@@ -6,7 +6,7 @@ use lib.Dec.{leb}
 use borrow.Author.Tests.{le-leb, lt-leb}
 use Rattle.spec_lists.specs.Text.{same, lowered}
 use Rattle.spec_rule.specs.Question.{Question}
-use Rattle.spec_rule.specs.Rule.{Rule, belongs, calculation-holds, passes, stands}
+use Rattle.spec_rule.specs.Rule.{Rule, belongs, matches-question, calculation-holds, passes, stands}
 
 under : (a b : Bool) → b ≡ false → a && b ≡ false
 under true b e = e
@@ -23,7 +23,7 @@ module _ (q : Question) (r : Rule) where
   level-test = leb (q .level) (r .level)
 
   abbrev user-test : Bool
-  user-test = belongs (same (q .user)) (r .uags)
+  user-test = belongs (matches-question q) (r .uags)
 
   abbrev host-test : Bool
   host-test = belongs (same (lowered (q .host))) (r .hags)

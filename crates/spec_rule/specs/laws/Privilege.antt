@@ -12,6 +12,7 @@ use borrow.Author.Tests.{leb-true, le-leb, eqb-true, eq-eqb, not-true}
 use Rattle.spec_lists.specs.Text.{same, lowered}
 use Rattle.spec_lists.specs.Select.{all, any, select, prepend-if, first, first-if}
 use Rattle.spec_lists.specs.laws.Both.{both}
+use Rattle.spec_lists.specs.laws.Same.{same-true, same-self, same-is}
 use Rattle.spec_lists.specs.laws.Every.{every-all}
 use Rattle.spec_calc.specs.declared.Reading.{Reading}
 use Rattle.spec_calc.specs.Expression.{Tree}
@@ -22,41 +23,25 @@ use Rattle.spec_rule.specs.declared.Access.{Access}
 use Rattle.spec_rule.specs.declared.Access.the-variants as access
 use Rattle.spec_rule.specs.declared.Decision.{Decision}
 use Rattle.spec_rule.specs.Question.{Question}
-use Rattle.spec_rule.specs.Rule.{Rule, rank, belongs, true-tree, calculation-holds, asks, passes, greater, greatest, gives-write, trap-of, trap-by}
+use Rattle.spec_rule.specs.Rule.{Rule, rank, belongs, matches-question, true-tree, calculation-holds, asks, passes, greater, greatest, gives-write, trap-of, trap-by}
 use Rattle.spec_rule.specs.Decision.{with-trap, decision-by}
 use Rattle.spec_rule.specs.Answering.{default-name, named, or-default, answering}
 use Rattle.spec_rule.specs.Privilege.{Some, here, further, First-such, None-named, Answers, by-name, by-default, by-none, Belongs, Yields-true, Asks, Passes}
 use Rattle.spec_rule.specs.Privilege.{Gives, Greatest, Chosen, Determined, by-group, by-no-group}
+use Rattle.spec_rule.specs.laws.Matching.{matches-client-is}
 use Rattle.spec_rule.specs.laws.Such.{all-every, any-some, some-any, first-such, such-first, no-first, none-such}
-
--- ---- texts
-
-same-sound : (a b : List ℕ) → same a b ≡ true → b ≡ a
-same-sound [] [] e = refl
-same-sound [] (y ∷ b) e = absurd (false≢true e)
-same-sound (x ∷ a) [] e = absurd (false≢true e)
-same-sound (x ∷ a) (y ∷ b) e =
-    let h = both (eqb x y) (same a b) e in
-    ap₂ (λ (n : ℕ) (l : List ℕ). n ∷ l) (sym (eqb-true x y (h .0))) (same-sound a b (h .1))
-
-same-self : (a : List ℕ) → same a a ≡ true
-same-self [] = refl
-same-self (x ∷ a) = rw (eq-eqb x x refl, same-self a)
-
-same-is : (a b : List ℕ) → (same a b ≡ true) ↔ (b ≡ a)
-same-is a b = (same-sound a b, λ e. rw e (same-self a))
 
 -- ---- a rule passes
 
-module _ (n : List ℕ) where
-  belongs-sound : (groups : List (List (List ℕ))) → belongs (same n) groups ≡ true → Belongs n groups
+module _ {Matches : List ℕ → Type 0} (matches : List ℕ → Bool) (decides : (m : List ℕ) → (matches m ≡ true) ↔ Matches m) where
+  belongs-sound : (groups : List (List (List ℕ))) → belongs matches groups ≡ true → Belongs Matches groups
   belongs-sound [] e = inl refl
-  belongs-sound (g ∷ gs) e = inr (any-some (any (same n)) (λ members. (any-some (same n) (same-is n) members, some-any (same n) (same-is n))) (g ∷ gs) e)
+  belongs-sound (g ∷ gs) e = inr (any-some (any matches) (λ members. (any-some matches decides members, some-any matches decides)) (g ∷ gs) e)
 
-  belongs-complete : (groups : List (List (List ℕ))) → Belongs n groups → belongs (same n) groups ≡ true
+  belongs-complete : (groups : List (List (List ℕ))) → Belongs Matches groups → belongs matches groups ≡ true
   belongs-complete [] b = refl
   belongs-complete (g ∷ gs) (inl e) = let z : _≡_ {A = ℕ} 0 1 = cc in absurd (omega arith)
-  belongs-complete (g ∷ gs) (inr s) = some-any (any (same n)) (λ members. (any-some (same n) (same-is n) members, some-any (same n) (same-is n))) s
+  belongs-complete (g ∷ gs) (inr s) = some-any (any matches) (λ members. (any-some matches decides members, some-any matches decides)) s
 
 module _ (rs : List Reading) where
   true-split : (t : Tree) → holds rs t ≡ true → (all (λ i. good (reading rs i)) (letters t) ≡ true) × (near-one (value rs t) ≡ true)
@@ -89,7 +74,7 @@ module _ (rs : List Reading) where
 module _ (q : Question) (r : Rule) where
   asks-sound : asks r q ≡ true → Asks q r
   asks-sound e =
-      let u = belongs (same (q .user)) (r .uags) in
+      let u = belongs (matches-question q) (r .uags) in
       let h = belongs (same (lowered (q .host))) (r .hags) in
       let c = calculation-holds (q .readings) (r .calculation) in
       let y = both (leb (q .level) (r .level)) (u && (h && c)) e in
@@ -97,8 +82,8 @@ module _ (q : Question) (r : Rule) where
       let w = both h c (z .1) in
       record {
         level = leb-true (q .level) (r .level) (y .0);
-        user = belongs-sound (q .user) (r .uags) (z .0);
-        host = belongs-sound (lowered (q .host)) (r .hags) (w .0);
+        user = belongs-sound (matches-question q) (matches-client-is (q .user) (q .roles)) (r .uags) (z .0);
+        host = belongs-sound (same (lowered (q .host))) (same-is (lowered (q .host))) (r .hags) (w .0);
         calculation = calculation-sound (q .readings) (r .calculation) (w .1);
       }
 
@@ -106,8 +91,8 @@ module _ (q : Question) (r : Rule) where
   asks-complete p =
       rw (
         le-leb (q .level) (r .level) (p .level),
-        belongs-complete (q .user) (r .uags) (p .user),
-        belongs-complete (lowered (q .host)) (r .hags) (p .host),
+        belongs-complete (matches-question q) (matches-client-is (q .user) (q .roles)) (r .uags) (p .user),
+        belongs-complete (same (lowered (q .host))) (same-is (lowered (q .host))) (r .hags) (p .host),
         calculation-complete (q .readings) (r .calculation) (p .calculation),
       )
 
@@ -280,7 +265,7 @@ module _ (q : Question) where
 
 module _ {G : Type 0} (name : G → List ℕ) where
   pub named-is : (n : List ℕ) (g : G) → (same (name g) n ≡ true) ↔ (name g ≡ n)
-  named-is n g = (λ e. sym (same-sound (name g) n e), λ e. rw e (same-self n))
+  named-is n g = (same-true (name g) n, λ e. rw e (same-self n))
 
   module _ (gs : List G) where
     in-default : (n : List ℕ) → (n ≡ []) ⊎ None-named name n gs → Answers name n gs (named name default-name gs)

@@ -12,6 +12,7 @@ use Rattle.spec_lists.specs.Text.{bytes, same, one-of, among, within, digit}
 use Rattle.spec_lists.specs.Select.{nonempty, all, any, run, after}
 use Rattle.spec_lists.specs.Every.{Every, nil, cons}
 use Rattle.spec_lists.specs.laws.Both.{both}
+use Rattle.spec_lists.specs.laws.Same.{same-true}
 use Rattle.spec_token.specs.declared.Kind.{Kind}
 use Rattle.spec_token.specs.declared.Kind.the-variants.{Uag, Hag, Asg, Rule, Calc, Inp, Int, Float, String}
 use Rattle.spec_token.specs.Word as word
@@ -29,16 +30,6 @@ one-of-each {P} b (cons {x = c} {xs = cs} h e) o = go (eqb b c) refl o (one-of-e
     go : (t : Bool) → eqb b c ≡ t → t || one-of cs b ≡ true → (one-of cs b ≡ true → P b) → P b
     go true t o f = subst P (sym (eqb-true b c t)) h
     go false t o f = f o
-
-same-is : (s t : List ℕ) → same s t ≡ true → s ≡ t
-same-is [] [] e = refl
-same-is [] (c ∷ t) e = absurd (false≢true e)
-same-is (b ∷ s) [] e = absurd (false≢true e)
-same-is (b ∷ s) (c ∷ t) e =
-    let h = both (eqb b c) (same s t) e in
-    let x = eqb-true b c (h .0) in
-    let y = same-is s t (h .1) in
-    cc
 
 -- ---- 001's forms
 
@@ -117,7 +108,7 @@ four [] l e h = absurd (omega arith)
 four (a ∷ []) l e h = absurd (omega arith)
 four (a ∷ b ∷ []) l e h = absurd (omega arith)
 four (a ∷ b ∷ c ∷ []) l e h = absurd (omega arith)
-four (a ∷ b ∷ c ∷ d ∷ []) l e h = record { letter = d; spelled = ap (λ (s : List ℕ). s ++ (d ∷ [])) (same-is (a ∷ b ∷ c ∷ []) (bytes "INP") e); range = h }
+four (a ∷ b ∷ c ∷ d ∷ []) l e h = record { letter = d; spelled = ap (λ (s : List ℕ). s ++ (d ∷ [])) (same-true (a ∷ b ∷ c ∷ []) (bytes "INP") e); range = h }
 four (a ∷ b ∷ c ∷ d ∷ x ∷ s) l e h = absurd (omega arith)
 
 input-word : (w : List ℕ) → inp w ≡ true → Input-word w
@@ -145,7 +136,7 @@ module _
     (t : f w ≡ true)
   where
     other-word : (v : List ℕ) → f v ≡ false → same w v ≡ true → ⊥
-    other-word v n e = false≢true (cc (ap f (same-is w v e)))
+    other-word v n e = false≢true (cc (ap f (same-true w v e)))
 
     no-input : inp w ≡ true → ⊥
     no-input e = let i = input-word w e in false≢true (cc (ap f (i .spelled), no-inp (i .letter)))
@@ -214,11 +205,11 @@ kind-sound w =
         (a b c d e f g h : Bool) → same w (bytes "UAG") ≡ a → same w (bytes "HAG") ≡ b → same w (bytes "ASG") ≡ c → same w (bytes "RULE") ≡ d
         → same w (bytes "CALC") ≡ e → inp w ≡ f → int w ≡ g → float w ≡ h
         → Of-kind w (cond a Uag (cond b Hag (cond c Asg (cond d Rule (cond e Calc (cond f Inp (cond g Int (cond h Float String))))))))
-    go true b c d e f g h p q r s t u v x = formed (uag (same-is w (bytes "UAG") p))
-    go false true c d e f g h p q r s t u v x = formed (hag (same-is w (bytes "HAG") q))
-    go false false true d e f g h p q r s t u v x = formed (asg (same-is w (bytes "ASG") r))
-    go false false false true e f g h p q r s t u v x = formed (rule (same-is w (bytes "RULE") s))
-    go false false false false true f g h p q r s t u v x = formed (calc (same-is w (bytes "CALC") t))
+    go true b c d e f g h p q r s t u v x = formed (uag (same-true w (bytes "UAG") p))
+    go false true c d e f g h p q r s t u v x = formed (hag (same-true w (bytes "HAG") q))
+    go false false true d e f g h p q r s t u v x = formed (asg (same-true w (bytes "ASG") r))
+    go false false false true e f g h p q r s t u v x = formed (rule (same-true w (bytes "RULE") s))
+    go false false false false true f g h p q r s t u v x = formed (calc (same-true w (bytes "CALC") t))
     go false false false false false true g h p q r s t u v x = let i = input-word w u in formed (word.inp (i .spelled) (i .range))
     go false false false false false false true h p q r s t u v x = formed (word.int (digits-are (unsigned w) v))
     go false false false false false false false true p q r s t u v x = formed (word.float (float-is w x))
