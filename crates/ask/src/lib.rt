@@ -5,7 +5,7 @@ use spec_decision::Found;
 use table_read::Index;
 use table_read::Section;
 ghost use mathlib.Core.Path.{_≡_};
-ghost use Rattle.spec_rule.specs.Question.{question-of};
+ghost use Rattle.spec_rule.specs.Question.{lent-question};
 ghost use Rattle.spec_decision.specs.Decision.{decide};
 ghost use Rattle.spec_decision.specs.LookUp.{look-up, part-in};
 
@@ -15,13 +15,15 @@ pub fn decide(
     group: &[u8],
     user: &[u8],
     host: &[u8],
+    roles: &[u8],
+    lengths: &[u8],
     level: u32,
     rs: [Reading; 21],
 ) -> Answer
-    ensures { λ r. ⌜ r ≡ decide (now (table .entry)) (question-of (now (group .entry)) (now (user .entry)) (now (host .entry)) level rs) ⌝ }
+    ensures { λ r. ⌜ r ≡ decide (now (table .entry)) (lent-question (now (group .entry)) (now (user .entry)) (now (host .entry)) (now (roles .entry)) (now (lengths .entry)) level rs) ⌝ }
 {
     if table::is_table(table) {
-        ask_checked::decide_checked(table, group, user, host, level, rs)
+        ask_checked::decide_checked(table, group, user, host, roles, lengths, level, rs)
     } else {
         Answer::NotTable
     }

@@ -21,9 +21,9 @@ abbrev pub group-rules : List ℕ → ℕ → List Rule
 group-rules b i = rules-of (view b) (row (view b) access-groups i)
 
 -- what they give every question whose readings have these values
-abbrev pub By-group : List ℕ → ℕ → List ℕ → List ℕ → ℕ → List Float → List Bool → Decision → Type 0
-By-group b i user host level values goods r =
-    (rs : List Reading) → Inputs-are values goods rs → r ≡ decision-by (question user host level rs) (group-rules b i)
+abbrev pub By-group : List ℕ → ℕ → List ℕ → List ℕ → List (List ℕ) → ℕ → List Float → List Bool → Decision → Type 0
+By-group b i user host roles level values goods r =
+    (rs : List Reading) → Inputs-are values goods rs → r ≡ decision-by (question user host roles level rs) (group-rules b i)
 
 -- the number of the input that has the letter, in the group that answers
 abbrev pub Finds-letter : List ℕ → List ℕ → ℕ → Index → Type 0

@@ -10,7 +10,8 @@ use table_read::Section;
 ghost use mathlib.Core.Path.{_≡_};
 ghost use mathlib.Core.Bool.{true};
 ghost use lib.ListN.{length};
-ghost use Rattle.spec_rule.specs.Question.{question-of};
+ghost use Rattle.spec_rule.specs.Roles.{cut-roles};
+ghost use Rattle.spec_rule.specs.Question.{lent-question};
 ghost use Rattle.spec_file.specs.Limit.{access-groups};
 ghost use Rattle.spec_table.specs.Check.{is-table};
 ghost use Rattle.spec_decision.specs.Decision.{decide};
@@ -31,12 +32,14 @@ fn decision_of_group(
     group: usize,
     user: &[u8],
     host: &[u8],
+    roles: &[u8],
+    lengths: &[u8],
     level: usize,
     values: &[f64; 21],
     goods: &[bool; 21],
 ) -> Decision
     requires { ⌜ Stored (now table) access-groups group × (length (now values) ≡ 21) ⌝ }
-    ensures { λ r. ⌜ By-group (now (table .entry)) group (now (user .entry)) (now (host .entry)) level (now (values .entry)) (now (goods .entry)) r ⌝ }
+    ensures { λ r. ⌜ By-group (now (table .entry)) group (now (user .entry)) (now (host .entry)) (cut-roles (now (roles .entry)) (now (lengths .entry))) level (now (values .entry)) (now (goods .entry)) r ⌝ }
 {
     let start = table_read::field(table, Section::AccessGroups, group, 4);
     let n = table_read::field(table, Section::AccessGroups, group, 5);
@@ -46,7 +49,18 @@ fn decision_of_group(
     };
     let mut i = 0;
     while i < n {
-        so_far = ask_rule::with_rule(table, start + i, user, host, level, values, goods, so_far);
+        so_far = ask_rule::with_rule(
+            table,
+            start + i,
+            user,
+            host,
+            roles,
+            lengths,
+            level,
+            values,
+            goods,
+            so_far,
+        );
         i += 1;
     }
     so_far
@@ -61,14 +75,19 @@ pub fn decide_checked(
     group: &[u8],
     user: &[u8],
     host: &[u8],
+    roles: &[u8],
+    lengths: &[u8],
     level: u32,
     rs: [Reading; 21],
 ) -> Answer
     requires { ⌜ is-table (now table) ≡ true ⌝ }
-    ensures { λ r. ⌜ r ≡ decide (now (table .entry)) (question-of (now (group .entry)) (now (user .entry)) (now (host .entry)) level rs) ⌝ }
+    ensures { λ r. ⌜ r ≡ decide (now (table .entry)) (lent-question (now (group .entry)) (now (user .entry)) (now (host .entry)) (now (roles .entry)) (now (lengths .entry)) level rs) ⌝ }
 {
     if 1 < level {
         return Answer::BadLevel;
+    }
+    if !ask_roles::fit(roles, lengths) {
+        return Answer::BadRoles;
     }
     match table_read::answering_group(table, group) {
         Index::Missing => Answer::Answered(Decision {
@@ -79,7 +98,17 @@ pub fn decide_checked(
             let h = calc_inputs::inputs_of(rs);
             let values = h.values;
             let goods = h.good;
-            let d = decision_of_group(table, i, user, host, wide(level), &values, &goods);
+            let d = decision_of_group(
+                table,
+                i,
+                user,
+                host,
+                roles,
+                lengths,
+                wide(level),
+                &values,
+                &goods,
+            );
             Answer::Answered(d)
         }
     }

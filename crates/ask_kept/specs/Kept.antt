@@ -16,7 +16,7 @@ use Rattle.ask_checked.specs.Group.{group-rules}
 
 -- the bytes that keep which rules of the i-th group stand for a client
 abbrev pub client-bits : List ℕ → ℕ → List ℕ → List ℕ → ℕ → List ℕ
-client-bits b i user host level = stand-bits (question user host level []) (group-rules b i)
+client-bits b i user host level = stand-bits (question user host [] level []) (group-rules b i)
 
 -- the truths of the i-th group's calculations stand at the start of a list, of every readings that have these values; what stands behind them stays
 abbrev pub Calculated : List ℕ → ℕ → List Float → List Bool → List Bool → List Bool → Type 0

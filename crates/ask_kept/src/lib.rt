@@ -3,18 +3,29 @@ use spec_rule::Access;
 use spec_rule::Decision;
 use table_read::Section;
 ghost use mathlib.Core.Path.{_≡_};
+ghost use mathlib.Core.List.{[]};
 ghost use Prim.Native.Nat.{_+_, _≤_};
 ghost use lib.ListN.{length};
 ghost use lib.Seq.{sets};
+ghost use Rattle.spec_rule.specs.Rule.{stands};
 ghost use Rattle.spec_rule.specs.Kept.{bit};
 ghost use Rattle.spec_file.specs.Limit.{access-groups, rules, most};
 ghost use Rattle.table_read.specs.Stored.{Stored};
+ghost use Rattle.ask_rule.specs.Rules.{rule-at, question};
 ghost use Rattle.ask_kept.specs.Kept.{client-bits, Calculated, decision-kept, With-kept};
 
 fn bit_of(b: bool) -> u8
     ensures { λ r. ⌜ r ≡ bit b ⌝ }
 {
     if b { 1 } else { 0 }
+}
+
+// Whether a rule stands for a client of a register, who has no roles.
+fn stands_for(table: &[u8], rule: usize, user: &[u8], host: &[u8], level: usize) -> bool
+    requires { ⌜ Stored (now table) rules rule ⌝ }
+    ensures { λ r. ⌜ r ≡ stands (question (now (user .entry)) (now (host .entry)) [] level []) (rule-at (now (table .entry)) rule) ⌝ }
+{
+    ask_rule::stands_rule(table, rule, user, host, b"", b"", level)
 }
 
 // Keeps which rules of an access group stand for a client: a byte for each, in order. Inner: a caller knows the group from a search in a checked
@@ -35,7 +46,7 @@ pub fn keep(
     let n = table_read::field(table, Section::AccessGroups, group, 5);
     let mut i = 0;
     while i < n {
-        kept[at + i] = bit_of(ask_rule::stands_rule(table, start + i, user, host, level));
+        kept[at + i] = bit_of(stands_for(table, start + i, user, host, level));
         i += 1;
     }
 }

@@ -6,6 +6,7 @@ use Prim.Native.Nat.{ℕ, _<_}
 use lib.ListN.{length}
 use Rattle.spec_lists.specs.Text.{same, lowered}
 use Rattle.spec_lists.specs.Runs.{Run, part}
+use Rattle.spec_rule.specs.Rule.{matches-client}
 use Rattle.spec_file.specs.Limit.{Section, user-groups, host-groups, rules, references}
 use Rattle.spec_table.specs.View.{view}
 use Rattle.spec_table.specs.Check.{run-at, number-field, undefined-number}
@@ -17,10 +18,10 @@ abbrev pub groups : GroupKind → Section
 groups Users = user-groups
 groups Hosts = host-groups
 
--- which members match a name. 01: "the host likewise (its ASCII letters lowered first, stored bytes as they are)"
-abbrev pub matches : GroupKind → List ℕ → List ℕ → Bool
-matches Users n = same n
-matches Hosts n = same (lowered n)
+-- which members match a name, or a user's roles. 01: "the host likewise (its ASCII letters lowered first, stored bytes as they are)"
+abbrev pub matches : GroupKind → List ℕ → List (List ℕ) → List ℕ → Bool
+matches Users n roles = matches-client n roles
+matches Hosts n roles = same (lowered n)
 
 -- which word of a rule begins its references
 abbrev pub references-word : GroupKind → ℕ

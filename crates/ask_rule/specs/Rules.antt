@@ -7,7 +7,7 @@ use lib.Ieee.{Float}
 use Rattle.spec_calc.specs.declared.Reading.{Reading}
 use Rattle.spec_calc.specs.Value.{heard, good}
 use Rattle.spec_rule.specs.declared.Decision.{Decision}
-use Rattle.spec_rule.specs.Question.{question-of, Question}
+use Rattle.spec_rule.specs.Question.{Question, question-of, with-roles}
 use Rattle.spec_rule.specs.Rule.{Rule, calculation-holds, passes}
 use Rattle.spec_rule.specs.Decision.{decision-by}
 use Rattle.spec_file.specs.Limit.{rules}
@@ -19,8 +19,8 @@ abbrev pub rule-at : List ℕ → ℕ → Rule
 rule-at b i = rule-of (view b) (row (view b) rules i)
 
 -- a question as its rules see it: none of them asks for the group's name
-abbrev pub question : List ℕ → List ℕ → ℕ → List Reading → Question
-question u h l rs = question-of [] u h l rs
+abbrev pub question : List ℕ → List ℕ → List (List ℕ) → ℕ → List Reading → Question
+question u h roles l rs = with-roles (question-of [] u h l rs) roles
 
 -- the values of some readings, and which of them are good
 abbrev pub Inputs-are : List Float → List Bool → List Reading → Type 0
@@ -34,12 +34,12 @@ Calculates b i values goods r =
     (rs : List Reading) → Inputs-are values goods rs → r ≡ calculation-holds rs (rule-at b i .calculation)
 
 -- whether the i-th rule passes
-abbrev pub Passes : List ℕ → ℕ → List ℕ → List ℕ → ℕ → List Float → List Bool → Bool → Type 0
-Passes b i user host level values goods r =
-    (rs : List Reading) → Inputs-are values goods rs → r ≡ passes (question user host level rs) (rule-at b i)
+abbrev pub Passes : List ℕ → ℕ → List ℕ → List ℕ → List (List ℕ) → ℕ → List Float → List Bool → Bool → Type 0
+Passes b i user host roles level values goods r =
+    (rs : List Reading) → Inputs-are values goods rs → r ≡ passes (question user host roles level rs) (rule-at b i)
 
 -- what the i-th rule gives behind others that give the decision d
-abbrev pub With-rule : List ℕ → ℕ → List ℕ → List ℕ → ℕ → List Float → List Bool → Decision → Decision → Type 0
-With-rule b i user host level values goods d r =
-    (rs : List Reading) → Inputs-are values goods rs → (others : List Rule) → d ≡ decision-by (question user host level rs) others
-    → r ≡ decision-by (question user host level rs) (others ++ (rule-at b i ∷ []))
+abbrev pub With-rule : List ℕ → ℕ → List ℕ → List ℕ → List (List ℕ) → ℕ → List Float → List Bool → Decision → Decision → Type 0
+With-rule b i user host roles level values goods d r =
+    (rs : List Reading) → Inputs-are values goods rs → (others : List Rule) → d ≡ decision-by (question user host roles level rs) others
+    → r ≡ decision-by (question user host roles level rs) (others ++ (rule-at b i ∷ []))

@@ -5,6 +5,7 @@ use table_read::Section;
 ghost use mathlib.Core.Path.{_≡_};
 ghost use mathlib.Core.List.{[]};
 ghost use lib.ListN.{length};
+ghost use Rattle.spec_rule.specs.Roles.{cut-roles};
 ghost use Rattle.spec_rule.specs.Rule.{stands};
 ghost use Rattle.spec_file.specs.Limit.{rules};
 ghost use Rattle.table_read.specs.Stored.{Stored};
@@ -28,9 +29,17 @@ pub fn calculation_true(table: &[u8], rule: usize, values: &[f64; 21], goods: &[
 }
 
 // What a rule asks that does not depend on readings. Inner: the caller knows the rule from the run of its group.
-pub fn stands_rule(table: &[u8], rule: usize, user: &[u8], host: &[u8], level: usize) -> bool
+pub fn stands_rule(
+    table: &[u8],
+    rule: usize,
+    user: &[u8],
+    host: &[u8],
+    roles: &[u8],
+    lengths: &[u8],
+    level: usize,
+) -> bool
     requires { ⌜ Stored (now table) rules rule ⌝ }
-    ensures { λ r. ⌜ r ≡ stands (question (now (user .entry)) (now (host .entry)) level []) (rule-at (now (table .entry)) rule) ⌝ }
+    ensures { λ r. ⌜ r ≡ stands (question (now (user .entry)) (now (host .entry)) (cut-roles (now (roles .entry)) (now (lengths .entry))) level []) (rule-at (now (table .entry)) rule) ⌝ }
 {
     let flags = table_read::field(table, Section::Rules, rule, 0);
     if ask_grant::is_set(flags / 16) {
@@ -39,10 +48,10 @@ pub fn stands_rule(table: &[u8], rule: usize, user: &[u8], host: &[u8], level: u
     if flags % 2 < level {
         return false;
     }
-    if !ask_member::belongs_to(table, GroupKind::Users, rule, user) {
+    if !ask_member::belongs_to(table, GroupKind::Users, rule, user, roles, lengths) {
         return false;
     }
-    ask_member::belongs_to(table, GroupKind::Hosts, rule, host)
+    ask_member::belongs_to(table, GroupKind::Hosts, rule, host, roles, lengths)
 }
 
 fn passes_rule(
@@ -50,14 +59,16 @@ fn passes_rule(
     rule: usize,
     user: &[u8],
     host: &[u8],
+    roles: &[u8],
+    lengths: &[u8],
     level: usize,
     values: &[f64; 21],
     goods: &[bool; 21],
 ) -> bool
     requires { ⌜ Stored (now table) rules rule × (length (now values) ≡ 21) ⌝ }
-    ensures { λ r. ⌜ Passes (now (table .entry)) rule (now (user .entry)) (now (host .entry)) level (now (values .entry)) (now (goods .entry)) r ⌝ }
+    ensures { λ r. ⌜ Passes (now (table .entry)) rule (now (user .entry)) (now (host .entry)) (cut-roles (now (roles .entry)) (now (lengths .entry))) level (now (values .entry)) (now (goods .entry)) r ⌝ }
 {
-    if stands_rule(table, rule, user, host, level) {
+    if stands_rule(table, rule, user, host, roles, lengths, level) {
         calculation_true(table, rule, values, goods)
     } else {
         false
@@ -71,19 +82,31 @@ pub fn with_rule(
     rule: usize,
     user: &[u8],
     host: &[u8],
+    roles: &[u8],
+    lengths: &[u8],
     level: usize,
     values: &[f64; 21],
     goods: &[bool; 21],
     earlier: Decision,
 ) -> Decision
     requires { ⌜ Stored (now table) rules rule × (length (now values) ≡ 21) ⌝ }
-    ensures { λ r. ⌜ With-rule (now (table .entry)) rule (now (user .entry)) (now (host .entry)) level (now (values .entry)) (now (goods .entry)) earlier r ⌝ }
+    ensures { λ r. ⌜ With-rule (now (table .entry)) rule (now (user .entry)) (now (host .entry)) (cut-roles (now (roles .entry)) (now (lengths .entry))) level (now (values .entry)) (now (goods .entry)) earlier r ⌝ }
 {
     let offered = ask_grant::granted_by(table_read::field(table, Section::Rules, rule, 0));
     if ask_grant::is_at_least(earlier, offered) {
         return earlier;
     }
-    if passes_rule(table, rule, user, host, level, values, goods) {
+    if passes_rule(
+        table,
+        rule,
+        user,
+        host,
+        roles,
+        lengths,
+        level,
+        values,
+        goods,
+    ) {
         offered
     } else {
         earlier

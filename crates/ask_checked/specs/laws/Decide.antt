@@ -1,14 +1,15 @@
 -- The answer to a question, from the group that a search finds and from what its rules give.
-use mathlib.Core.Path.{_≡_, refl, sym, ap, _∙_}
+use mathlib.Core.Path.{_≡_, sym, ap, _∙_}
 use mathlib.Core.Bool.{true, false}
 use mathlib.Core.List.{List, [], _∷_, _++_}
-use mathlib.Core.Option.{Option, none, some}
+use mathlib.Core.Option.{Option, some}
 use Prim.Native.Nat.{ℕ, _+_, _≤_, _<_}
 use native.Mathlib.Omega.{arith}
 use lib.ListN.{length, take}
 use borrow.Author.Tests.{le-leb, lt-leb}
 use Rattle.spec_rule.specs.declared.Access.the-variants as access
 use Rattle.spec_rule.specs.declared.Decision.{Decision}
+use Rattle.spec_rule.specs.Roles.{roles-fit}
 use Rattle.spec_rule.specs.Question.{Question}
 use Rattle.spec_rule.specs.Decision.{no-access, decision-by}
 use Rattle.spec_rule.specs.laws.Walk.{taken-on, taken-all}
@@ -19,7 +20,7 @@ use Rattle.spec_table.specs.Policy.{rule-of, row}
 use Rattle.spec_table.specs.laws.Standing.{stands, rules-within}
 use Rattle.spec_decision.specs.declared.Answer.{Answer}
 use Rattle.spec_decision.specs.declared.Answer.the-variants as answer
-use Rattle.spec_decision.specs.Decision.{rules-in, answered, decide}
+use Rattle.spec_decision.specs.Decision.{rules-in, decide}
 use Rattle.spec_decision.specs.Groups.{answering-number}
 use Rattle.table_fields.specs.Field.{Word}
 use Rattle.table_read.specs.declared.Index.{Index}
@@ -71,17 +72,26 @@ module _ (b : List ℕ) (q : Question) where
     unfolding decide
     decide-bad l = rw (h, lt-leb (q .level) 1 l)
 
-    pub decide-none : {r : Index} → q .level ≤ 1 → r ≡ index-of (answering-number b (q .group)) → r ≡ Missing → decide b q ≡ answer.Answered no-access
-    unfolding decide
-    decide-none l f e =
-        let z : group-for b (q .group) ≡ none = finds-none (finds-answering b (q .group) f) e in
-        rw (h, le-leb (q .level) 1 l) (ap (λ (o : Option (List ℕ)). answered q (rules-in (view b) o)) z)
+    module _ (l : q .level ≤ 1) where
+      pub decide-roles : roles-fit (q .roles) ≡ false → decide b q ≡ answer.BadRoles
+      unfolding decide
+      decide-roles n = rw (h, le-leb (q .level) 1 l, n)
 
-    pub decide-by :
-        {r : Index} {d : Decision} {l : ℕ} (i : ℕ) → l ≡ q .level → q .level ≤ 1 → r ≡ index-of (answering-number b (q .group)) → r ≡ At i
-        → d ≡ decision-by (question (q .user) (q .host) l (q .readings)) (group-rules b i)
-        → decide b q ≡ answer.Answered d
-    unfolding decide
-    decide-by i x l f e w =
-        let z : group-for b (q .group) ≡ some (row (view b) access-groups i) = finds-at i (finds-answering b (q .group) f) e .0 in
-        rw (h, le-leb (q .level) 1 l) (ap (λ (o : Option (List ℕ)). answered q (rules-in (view b) o)) z ∙ ap answer-of (sym (rw x at w)))
+      module _ (fit : roles-fit (q .roles) ≡ true) {r : Index} (f : r ≡ index-of (answering-number b (q .group))) where
+        abbrev given : Option (List ℕ) → Answer
+        given o = answer.Answered (decision-by q (rules-in (view b) o))
+
+        decided : {o : Option (List ℕ)} → group-for b (q .group) ≡ o → decide b q ≡ given o
+        unfolding decide
+        decided z = rw (h, le-leb (q .level) 1 l, fit) (ap given z)
+
+        pub decide-none : r ≡ Missing → decide b q ≡ answer.Answered no-access
+        decide-none e = decided (finds-none (finds-answering b (q .group) f) e)
+
+        pub decide-by :
+            {d : Decision} {n : ℕ} {roles : List (List ℕ)} (i : ℕ) → n ≡ q .level → q .roles ≡ roles → r ≡ At i
+            → d ≡ decision-by (question (q .user) (q .host) roles n (q .readings)) (group-rules b i)
+            → decide b q ≡ answer.Answered d
+        decide-by i x y e w =
+            let z : group-for b (q .group) ≡ some (row (view b) access-groups i) = finds-at i (finds-answering b (q .group) f) e .0 in
+            decided z ∙ ap answer-of (sym (rw (x, ← y) at w))

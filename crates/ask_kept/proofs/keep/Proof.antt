@@ -29,11 +29,11 @@ field-requires-2 c κs = (c .before .before .before .before .before .pre .0, ome
 loop-holds : tie.Need-loop-holds Inv-loop μ-loop
 loop-holds c = let a = c .before .before .before .before .before .before .args in (omega arith, refl, ap (λ k. sets (a .kept .now) k (client-bits (a .table .now) (a .group) (a .user .now) (a .host .now) (a .level))) (let z : a .at ≡ a .at + 0 = omega arith in z))
 
-add-stands-rule : tie.Need-add-stands-rule Inv-loop μ-loop
-add-stands-rule c = omega (arith, c .before .before .before .field .ensures .small, c .before .before .field2 .ensures .small)
+add-stands-for : tie.Need-add-stands-for Inv-loop μ-loop
+add-stands-for c = omega (arith, c .before .before .before .field .ensures .small, c .before .before .field2 .ensures .small)
 
-stands-rule-requires : tie.Need-stands-rule-requires Inv-loop μ-loop
-stands-rule-requires c κs = rule-stored (c .before .before .before .before .before .before .before .before .args .table .now) (c .before .before .before .before .before .before .before .before .args .group) (c .before .before .before .before .before .before .before .before .pre .0) (c .before .loop .i) (c .before .before .before .field .ensures) (c .before .before .field2 .ensures) (omega arith)
+stands-for-requires : tie.Need-stands-for-requires Inv-loop μ-loop
+stands-for-requires c κs = rule-stored (c .before .before .before .before .before .before .before .before .args .table .now) (c .before .before .before .before .before .before .before .before .args .group) (c .before .before .before .before .before .before .before .before .pre .0) (c .before .loop .i) (c .before .before .before .field .ensures) (c .before .before .field2 .ensures) (omega arith)
 
 bit-of-requires : tie.Need-bit-of-requires Inv-loop μ-loop
 bit-of-requires c κs = search needs
@@ -51,13 +51,13 @@ loop-less : tie.Need-loop-less Inv-loop μ-loop
 loop-less c = search needs
 
 loop-again : tie.Need-loop-again Inv-loop μ-loop
-loop-again c = let a = c .before .before .before .before .before .before .before .before .before .before .args in let q = question (a .user .now) (a .host .now) (a .level) [] in (omega arith, length-set (c .before .before .before .loop .kept) (a .at + c .before .before .before .loop .i) (c .bit-of .result) ∙ c .before .before .before .loop .inv .1, stores-turn (a .table .now) (a .group) (c .before .before .before .before .before .before .before .before .before .before .pre .0) (c .before .before .before .before .before .field .ensures) (c .before .before .before .before .field2 .ensures) (λ r. bit (stands q r)) (c .before .before .before .loop .kept) (a .at + c .before .before .before .loop .i) (c .before .before .before .loop .i) (omega arith) (omega arith) (c .bit-of .ensures ∙ ap bit (c .before .stands-rule .ensures)) (c .before .before .before .loop .inv .2))
+loop-again c = let a = c .before .before .before .before .before .before .before .before .before .before .args in let q = question (a .user .now) (a .host .now) [] (a .level) [] in (omega arith, length-set (c .before .before .before .loop .kept) (a .at + c .before .before .before .loop .i) (c .bit-of .result) ∙ c .before .before .before .loop .inv .1, stores-turn (a .table .now) (a .group) (c .before .before .before .before .before .before .before .before .before .before .pre .0) (c .before .before .before .before .before .field .ensures) (c .before .before .before .before .field2 .ensures) (λ r. bit (stands q r)) (c .before .before .before .loop .kept) (a .at + c .before .before .before .loop .i) (c .before .before .before .loop .i) (omega arith) (omega arith) (c .bit-of .ensures ∙ ap bit (c .before .stands-for .ensures)) (c .before .before .before .loop .inv .2))
 
 same-length : tie.Need-same-length Inv-loop μ-loop
 same-length c = c .before .loop .inv .1
 
 returns : tie.Need-returns Inv-loop μ-loop
-returns c = let a = c .before .before .before .before .before .before .before .before .args in let q = question (a .user .now) (a .host .now) (a .level) [] in stores-done (a .table .now) (a .group) (c .before .before .before .before .before .before .before .before .pre .0) (c .before .before .before .field .ensures) (c .before .before .field2 .ensures) (λ r. bit (stands q r)) (c .before .loop .kept) (a .at + c .before .loop .i) (c .before .loop .i) (omega arith) (c .before .loop .inv .2)
+returns c = let a = c .before .before .before .before .before .before .before .before .args in let q = question (a .user .now) (a .host .now) [] (a .level) [] in stores-done (a .table .now) (a .group) (c .before .before .before .before .before .before .before .before .pre .0) (c .before .before .before .field .ensures) (c .before .before .field2 .ensures) (λ r. bit (stands q r)) (c .before .loop .kept) (a .at + c .before .loop .i) (c .before .loop .i) (omega arith) (c .before .loop .inv .2)
 
 pub keep-spec : {M : Type 1} → statement M
 keep-spec =
@@ -68,8 +68,8 @@ keep-spec =
     field-requires
     field-requires-2
     loop-holds
-    add-stands-rule
-    stands-rule-requires
+    add-stands-for
+    stands-for-requires
     bit-of-requires
     add-kept
     slice-write-kept

@@ -120,12 +120,12 @@ module _
 
 module _ (b : List ℕ) (i : ℕ) (h : Stored b access-groups i) (user host : List ℕ) (level : ℕ) where
   pub bits-count : length (client-bits b i user host level) ≡ length (group-rules b i)
-  bits-count = length-map (group-rules b i) (λ r. bit (stands (question user host level []) r))
+  bits-count = length-map (group-rules b i) (λ r. bit (stands (question user host [] level []) r))
 
   pub kept-answers :
       (kept : List ℕ) (at : ℕ) (ts : List Bool) (rs : List Reading) → at + most rules ≤ length kept → most rules ≤ length ts
       → decision-kept b i (sets kept at (client-bits b i user host level)) at (sets ts 0 (truths rs (group-rules b i)))
-      ≡ decision-by (question user host level rs) (group-rules b i)
+      ≡ decision-by (question user host [] level rs) (group-rules b i)
   kept-answers kept at ts rs l m =
       let g = group-rules b i in
       let bits = client-bits b i user host level in
@@ -140,4 +140,4 @@ module _ (b : List ℕ) (i : ℕ) (h : Stored b access-groups i) (user host : Li
       ap (λ (ks : List ℕ). kept-decision ks (sets ts 0 vs) g) x
       ∙ sym (truths-enough (length g) bits (sets ts 0 vs) g (omega arith))
       ∙ ap (λ (us : List Bool). kept-decision bits us g) y
-      ∙ kept-is (question user host level rs) g
+      ∙ kept-is (question user host [] level rs) g

@@ -64,7 +64,7 @@ module _ (t : List ℕ) (i : ℕ) (h : Stored t access-groups i) where
 
       decision-is :
           {ts : List Bool} {d : Decision} → ts ≡ truths-now t i states values → d ≡ decision-kept t i flags 0 ts
-          → d ≡ decision-by (question u host l (readings-in states values i)) (group-rules t i)
+          → d ≡ decision-by (question u host [] l (readings-in states values i)) (group-rules t i)
       decision-is y g =
           let none-true : List Bool = replicate (most rules) false in
           let n : length none-true ≡ most rules = length-replicate {A = Bool} (most rules) false in
