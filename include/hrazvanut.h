@@ -39,14 +39,18 @@
  *
  * Header and library are of one revision of the repository. A library knows no struct of this header; a function hrazvanut_abi_* whose
  * parameters or answer change gets another name, so that a header does not link with a library that means something else. */
-#define HRAZVANUT_VERSION_MAJOR 3
-#define HRAZVANUT_VERSION_MINOR 1
+#define HRAZVANUT_VERSION_MAJOR 4
+#define HRAZVANUT_VERSION_MINOR 0
 #define HRAZVANUT_VERSION (HRAZVANUT_VERSION_MAJOR * 1000 + HRAZVANUT_VERSION_MINOR)
 
 /* No file is longer, no table is longer, so many readings has a question: those of the letters A to U. */
 #define HRAZVANUT_FILE 16384
 #define HRAZVANUT_TABLE 35108
 #define HRAZVANUT_READINGS 21
+
+/* So many roles has a question at most, and so many bytes each of them. */
+#define HRAZVANUT_ROLES 16
+#define HRAZVANUT_ROLE_LENGTH 60
 
 /* So many clients has a register at most, so many access groups a table, and so many bytes are a register. */
 #define HRAZVANUT_PLACES 64
@@ -93,16 +97,20 @@ struct hrazvanut_reading {
     double value;
 };
 
-/* Who asks, for a channel of which group, at which level. A zeroed question is that of nobody, from nowhere, with no reading heard. */
+/* Who asks, for a channel of which group, at which level. A zeroed question is that of nobody, from nowhere, with no reading heard and no
+ * role. Channel Access tells no roles: its clients have none. */
 struct hrazvanut_question {
     struct hrazvanut_text group; /* empty: DEFAULT */
     struct hrazvanut_text user;
     struct hrazvanut_text host;
     uint32_t level;
     struct hrazvanut_reading readings[HRAZVANUT_READINGS]; /* by letter: A is 0 */
+    struct hrazvanut_text roles[HRAZVANUT_ROLES];          /* in any order, without `role/`; one may stand twice */
+    size_t role_count;                                     /* how many count, from the first; one left at zeros is the empty role */
 };
 
-/* Who is connected, for a channel of which group, at which level. The names are copied into the register: 60 bytes each at most. */
+/* Who is connected, for a channel of which group, at which level. The names are copied into the register: 60 bytes each at most. A client
+ * of a register has no roles. */
 struct hrazvanut_client {
     struct hrazvanut_text group; /* empty: DEFAULT */
     struct hrazvanut_text user;
@@ -140,10 +148,13 @@ enum hrazvanut_refusal HRAZVANUT_ENUM_TYPE {
     HRAZVANUT_REFUSED_NOT_TABLE = 20,
     HRAZVANUT_REFUSED_LEVEL = 21,
     HRAZVANUT_REFUSED_NO_INPUT = 22,
-    /* of a register's calls; 34 of the proved functions alone, for no struct is too short */
+    /* of a register's calls */
     HRAZVANUT_REFUSED_LONG_NAME = 23,
     HRAZVANUT_REFUSED_NO_PLACE = 24,
     HRAZVANUT_REFUSED_NO_CLIENT = 25,
+    /* of a question */
+    HRAZVANUT_REFUSED_ROLES = 26,
+    /* of a register's calls by the proved functions alone, for no struct is too short */
     HRAZVANUT_REFUSED_NOT_REGISTER = 34
 };
 
@@ -238,7 +249,8 @@ extern "C" {
  * second in bits 32 to 47, and the refusal above them: of a load the length and the number of warnings, or the place; of a list of warnings
  * their number, or the place; of a question the access in bits 0 and 1 and the trap flag in bit 2; of a look-up the place and the length.
  * An answer of 8 bits is 1 or 0. The letter i has states[i] and values[i]: past the end of states it was never heard, past the end of
- * values it is not a number.
+ * values it is not a number. The role i is the next lengths[i] bytes of roles, in which all stand one behind the other; what is left
+ * behind the last is not looked at, and lengths that go past the end are refused as too many roles are.
  *
  * A register is lent as three slices, those of its struct: of a slice that is longer the start is used, a slice that is shorter makes the
  * call refused with 34, before every other refusal, and each right NONE. The answer's first number is for a client that is added its place;
@@ -250,10 +262,11 @@ uint64_t hrazvanut_abi_list_warnings(const uint8_t *text, size_t text_length, si
 uint8_t hrazvanut_abi_is_table(const uint8_t *table, size_t table_length);
 typedef uint64_t hrazvanut_abi_question(const uint8_t *table, size_t table_length, const uint8_t *group, size_t group_length,
                                         const uint8_t *user, size_t user_length, const uint8_t *host, size_t host_length,
+                                        const uint8_t *roles, size_t roles_length, const uint8_t *lengths, size_t lengths_length,
                                         uint32_t level, const uint8_t *states, size_t states_length, const double *values,
                                         size_t values_length);
-hrazvanut_abi_question hrazvanut_abi_decide;
-hrazvanut_abi_question hrazvanut_abi_decide_checked;
+hrazvanut_abi_question hrazvanut_abi_decide_roles;
+hrazvanut_abi_question hrazvanut_abi_decide_roles_checked;
 uint64_t hrazvanut_abi_find_input(const uint8_t *table, size_t table_length, const uint8_t *group, size_t group_length, uint32_t letter);
 uint8_t hrazvanut_abi_allowed(const uint8_t *text, size_t text_length);
 typedef uint64_t hrazvanut_abi_adding(uint8_t *places, size_t places_length, const uint8_t *states, size_t states_length,
@@ -317,6 +330,34 @@ static inline void hrazvanut_abi_readings(const struct hrazvanut_reading *readin
     }
 }
 
+/* The roles of a question, copied one behind the other. */
+struct hrazvanut_abi_roles {
+    uint8_t bytes[HRAZVANUT_ROLES * HRAZVANUT_ROLE_LENGTH];
+    size_t used;
+    uint8_t lengths[HRAZVANUT_ROLES + 1];
+    size_t count;
+};
+
+/* If there are too many, or one is too long, the count is one more than a question has: the proved function refuses that, behind 20 and 21.
+ * Of too many none is read, and none from one on that is too long. */
+static inline void hrazvanut_abi_copy_roles(const struct hrazvanut_question *question, struct hrazvanut_abi_roles *to)
+{
+    size_t i;
+    to->used = 0;
+    to->count = question->role_count < HRAZVANUT_ROLES + 1 ? question->role_count : HRAZVANUT_ROLES + 1;
+    memset(to->lengths, 0, sizeof to->lengths);
+    for (i = 0; i < to->count && to->count <= HRAZVANUT_ROLES; i++) {
+        struct hrazvanut_text role = question->roles[i];
+        if (role.length > HRAZVANUT_ROLE_LENGTH) {
+            to->count = HRAZVANUT_ROLES + 1;
+        } else {
+            memcpy(to->bytes + to->used, hrazvanut_abi_bytes(role.start, role.length), role.length);
+            to->used += role.length;
+            to->lengths[i] = (uint8_t)role.length;
+        }
+    }
+}
+
 /* A question's parts, put to one of the two functions. */
 static inline struct hrazvanut_answer hrazvanut_abi_ask(hrazvanut_abi_question *decide, struct hrazvanut_table table,
                                                         const struct hrazvanut_question *question)
@@ -324,12 +365,15 @@ static inline struct hrazvanut_answer hrazvanut_abi_ask(hrazvanut_abi_question *
     struct hrazvanut_text group = question->group, user = question->user, host = question->host;
     uint8_t states[HRAZVANUT_READINGS];
     double values[HRAZVANUT_READINGS];
+    struct hrazvanut_abi_roles roles;
     struct hrazvanut_answer a;
     uint64_t answer;
     hrazvanut_abi_readings(question->readings, states, values);
+    hrazvanut_abi_copy_roles(question, &roles);
     answer = decide(hrazvanut_abi_bytes(table.start, table.length), table.length, hrazvanut_abi_bytes(group.start, group.length),
                     group.length, hrazvanut_abi_bytes(user.start, user.length), user.length, hrazvanut_abi_bytes(host.start, host.length),
-                    host.length, question->level, states, HRAZVANUT_READINGS, values, HRAZVANUT_READINGS);
+                    host.length, roles.bytes, roles.used, roles.lengths, roles.count, question->level, states, HRAZVANUT_READINGS,
+                    values, HRAZVANUT_READINGS);
     a.refusal = hrazvanut_abi_refusal(answer);
     a.access = (enum hrazvanut_access)(answer & 3);
     a.trap = (answer & 4) != 0;
@@ -431,6 +475,7 @@ static inline const char *hrazvanut_refusal_words(enum hrazvanut_refusal refusal
     case HRAZVANUT_REFUSED_LONG_NAME: return "client's name over 60 bytes";
     case HRAZVANUT_REFUSED_NO_PLACE: return "all 64 places taken";
     case HRAZVANUT_REFUSED_NO_CLIENT: return "no client at the place";
+    case HRAZVANUT_REFUSED_ROLES: return "more than 16 roles, or one over 60 bytes";
     case HRAZVANUT_REFUSED_NOT_REGISTER: return "not a register";
     }
     return "unknown refusal";
@@ -488,11 +533,13 @@ static inline bool hrazvanut_is_table(struct hrazvanut_table table)
 
 /* ---- a question */
 
-/* Who may do what with a channel of a group. A rule whose calculation names a letter with a bad reading does not match. Refused: 20 not a
- * table, then 21 a level neither 0 nor 1. */
+/* Who may do what with a channel of a group. A rule whose calculation names a letter with a bad reading does not match. A member `role/NAME`
+ * of a user group is whoever has the role NAME, and nobody by the user's name; the role of no bytes is that of the member `role/`. Every
+ * other member is the user of that name. Refused: 20 not a table, then 21 a level neither 0 nor 1, then 26 more than HRAZVANUT_ROLES roles
+ * or one of more than HRAZVANUT_ROLE_LENGTH bytes. */
 static inline struct hrazvanut_answer hrazvanut_decide(struct hrazvanut_table table, const struct hrazvanut_question *question)
 {
-    return hrazvanut_abi_ask(hrazvanut_abi_decide, table, question);
+    return hrazvanut_abi_ask(hrazvanut_abi_decide_roles, table, question);
 }
 
 /* The same, for bytes of which hrazvanut_is_table has said true and that were not written since: the one precondition of this library,
@@ -500,7 +547,7 @@ static inline struct hrazvanut_answer hrazvanut_decide(struct hrazvanut_table ta
  * that an accepted load wrote need not be checked. Of other bytes nothing is promised, not even that it stays in bounds. */
 static inline struct hrazvanut_answer hrazvanut_decide_checked(struct hrazvanut_table table, const struct hrazvanut_question *question)
 {
-    return hrazvanut_abi_ask(hrazvanut_abi_decide_checked, table, question);
+    return hrazvanut_abi_ask(hrazvanut_abi_decide_roles_checked, table, question);
 }
 
 /* ---- a look-up */
@@ -532,8 +579,8 @@ static inline bool hrazvanut_allowed(struct hrazvanut_text text)
  * the table that it answers, or the whole room, of which the bytes behind the table do not count. Load again into that same room. Then,
  * whatever calls were made, as long as nobody else writes the register or the table:
  *
- * - each client's right is what hrazvanut_decide would answer now to a question with its names and level, and the readings of the group
- *   that answers (for a group that is not defined those of DEFAULT); while the bytes are no table it is NONE without trap;
+ * - each client's right is what hrazvanut_decide would answer now to a question with its names and level, no roles, and the readings of the
+ *   group that answers (for a group that is not defined those of DEFAULT); while the bytes are no table it is NONE without trap;
  * - a client stays as last given until it is changed or removed, a reading as last set until the next accepted reload.
  *
  * A refused call changes no byte of the register or of the table. */

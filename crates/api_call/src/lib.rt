@@ -36,7 +36,9 @@ pub fn call(
     }
     let b = api_script::text_at(script, pool, i, 3);
     let c = api_script::text_at(script, pool, i, 5);
+    let roles = api_script::text_at(script, pool, i, 9);
+    let lengths = api_script::text_at(script, pool, i, 11);
     let n = api_script::level(levels, i);
     let rs = calc_readings::readings(states, values, api_script::word(script, i, 8));
-    api_calls::call_reading(what, a, b, c, skip, n, rs, lent)
+    api_calls::call_reading(what, a, b, c, roles, lengths, skip, n, rs, lent)
 }

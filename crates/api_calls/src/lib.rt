@@ -5,7 +5,7 @@ use spec_decision::Answer;
 use spec_decision::Found;
 ghost use mathlib.Core.Path.{_≡_};
 ghost use Prim.Native.Nat.{_<_};
-ghost use Rattle.spec_rule.specs.Question.{question-of};
+ghost use Rattle.spec_rule.specs.Question.{lent-question};
 ghost use Rattle.spec_decision.specs.Decision.{decide};
 ghost use Rattle.spec_decision.specs.LookUp.{look-up};
 ghost use Rattle.api_script.specs.Script.{call-of};
@@ -17,13 +17,15 @@ fn ask_checked(
     group: &[u8],
     user: &[u8],
     host: &[u8],
+    roles: &[u8],
+    lengths: &[u8],
     level: u32,
     rs: [Reading; 21],
 ) -> Answer
-    ensures { λ r. ⌜ r ≡ decide (now (lent .entry)) (question-of (now (group .entry)) (now (user .entry)) (now (host .entry)) level rs) ⌝ }
+    ensures { λ r. ⌜ r ≡ decide (now (lent .entry)) (lent-question (now (group .entry)) (now (user .entry)) (now (host .entry)) (now (roles .entry)) (now (lengths .entry)) level rs) ⌝ }
 {
     if table::is_table(lent) {
-        ask_checked::decide_checked(lent, group, user, host, level, rs)
+        ask_checked::decide_checked(lent, group, user, host, roles, lengths, level, rs)
     } else {
         Answer::NotTable
     }
@@ -46,22 +48,24 @@ fn call_on_table(
     a: &[u8],
     b: &[u8],
     c: &[u8],
+    roles: &[u8],
+    lengths: &[u8],
     skip: usize,
     n: u32,
     rs: [Reading; 21],
     lent: &[u8],
 ) -> Reply
     requires { ⌜ (1 < what) × (what < 8) ⌝ }
-    ensures { λ r. ⌜ r ≡ answer-to (now (lent .entry)) (call-of what (now (a .entry)) (now (b .entry)) (now (c .entry)) skip n rs) ⌝ }
+    ensures { λ r. ⌜ r ≡ answer-to (now (lent .entry)) (call-of what (now (a .entry)) (now (b .entry)) (now (c .entry)) (now (roles .entry)) (now (lengths .entry)) skip n rs) ⌝ }
 {
     if what == 2 {
         return Reply::Checked(table::is_table(lent));
     }
     if what == 3 {
-        return Reply::Answered(ask::decide(lent, a, b, c, n, rs));
+        return Reply::Answered(ask::decide(lent, a, b, c, roles, lengths, n, rs));
     }
     if what == 4 {
-        return Reply::Answered(ask_checked(lent, a, b, c, n, rs));
+        return Reply::Answered(ask_checked(lent, a, b, c, roles, lengths, n, rs));
     }
     if what == 5 {
         return Reply::Found(ask::find_input(lent, a, n));
@@ -79,13 +83,15 @@ fn call_on_text(
     a: &[u8],
     b: &[u8],
     c: &[u8],
+    roles: &[u8],
+    lengths: &[u8],
     skip: usize,
     n: u32,
     rs: [Reading; 21],
     lent: &[u8],
 ) -> Reply
     requires { ⌜ 7 < what ⌝ }
-    ensures { λ r. ⌜ r ≡ answer-to (now (lent .entry)) (call-of what (now (a .entry)) (now (b .entry)) (now (c .entry)) skip n rs) ⌝ }
+    ensures { λ r. ⌜ r ≡ answer-to (now (lent .entry)) (call-of what (now (a .entry)) (now (b .entry)) (now (c .entry)) (now (roles .entry)) (now (lengths .entry)) skip n rs) ⌝ }
 {
     if what == 8 {
         return Reply::Allowed(calc::allowed(a));
@@ -102,17 +108,19 @@ pub fn call_reading(
     a: &[u8],
     b: &[u8],
     c: &[u8],
+    roles: &[u8],
+    lengths: &[u8],
     skip: usize,
     n: u32,
     rs: [Reading; 21],
     lent: &[u8],
 ) -> Reply
     requires { ⌜ 1 < what ⌝ }
-    ensures { λ r. ⌜ r ≡ answer-to (now (lent .entry)) (call-of what (now (a .entry)) (now (b .entry)) (now (c .entry)) skip n rs) ⌝ }
+    ensures { λ r. ⌜ r ≡ answer-to (now (lent .entry)) (call-of what (now (a .entry)) (now (b .entry)) (now (c .entry)) (now (roles .entry)) (now (lengths .entry)) skip n rs) ⌝ }
 {
     if what < 8 {
-        call_on_table(what, a, b, c, skip, n, rs, lent)
+        call_on_table(what, a, b, c, roles, lengths, skip, n, rs, lent)
     } else {
-        call_on_text(what, a, b, c, skip, n, rs, lent)
+        call_on_text(what, a, b, c, roles, lengths, skip, n, rs, lent)
     }
 }

@@ -99,6 +99,7 @@ pub fn answer_number(a: Answer) -> u64
         }
         Answer::NotTable => packed(0, 0, 20),
         Answer::BadLevel => packed(0, 0, 21),
+        Answer::BadRoles => packed(0, 0, 26),
     }
 }
 

@@ -1,4 +1,5 @@
 // What the asker prints for a line of its input, written into lent bytes.
+use ask_checked::decide_checked;
 use prog_line::Line;
 ghost use mathlib.Core.Path.{_≡_};
 ghost use mathlib.Core.Bool.{true};
@@ -27,7 +28,7 @@ fn answer_line(table: &[u8], line: &[u8], out: &mut [u8], at: usize) -> usize
             let host_name = prog_line::part(line, host, level_at);
             let mut allowed = false;
             let rs = prog_line::readings(line, level_at + 1, &mut allowed);
-            let answer = ask_checked::decide_checked(table, group, user_name, host_name, level, rs);
+            let answer = decide_checked(table, group, user_name, host_name, b"", b"", level, rs);
             prog_words::answer_text(answer, out, at)
         }
     }

@@ -7,7 +7,7 @@ use Rattle.spec_lists.specs.Text.{bytes}
 use Rattle.spec_rule.specs.declared.Access.{Access}
 use Rattle.spec_rule.specs.declared.Access.the-variants as access
 use Rattle.spec_decision.specs.declared.Answer.{Answer}
-use Rattle.spec_decision.specs.declared.Answer.the-variants.{Answered, NotTable, BadLevel}
+use Rattle.spec_decision.specs.declared.Answer.the-variants.{Answered, NotTable, BadLevel, BadRoles}
 use Rattle.spec_decision.specs.Decision as decision
 use Rattle.prog_text.specs.Text.{decimal-digits}
 
@@ -25,11 +25,12 @@ abbrev pub refused-by : Option ℕ → List ℕ
 refused-by none = []
 refused-by (some n) = bytes "refused " ++ decimal-digits n
 
--- 01: "A line is answered by access and log word, or `refused 21`."
+-- 01: "A line is answered by access and log word, or `refused 21`." The asker's questions have no roles: it never prints `refused 26`.
 unfoldable pub answer-text : Answer → List ℕ
 answer-text (Answered d) = access-word (d .access) ++ (bytes " " ++ log-word (d .trap))
 answer-text NotTable = refused-by (decision.number NotTable)
 answer-text BadLevel = refused-by (decision.number BadLevel)
+answer-text BadRoles = refused-by (decision.number BadRoles)
 
 -- 01: "prints `refused line`"
 abbrev pub refused-line : List ℕ

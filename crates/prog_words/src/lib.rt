@@ -45,6 +45,7 @@ pub fn answer_text(a: Answer, out: &mut [u8], at: usize) -> usize
         }
         Answer::NotTable => put(b"refused 20", out, at),
         Answer::BadLevel => put(b"refused 21", out, at),
+        Answer::BadRoles => put(b"refused 26", out, at),
     }
 }
 

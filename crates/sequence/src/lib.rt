@@ -2,7 +2,7 @@
 use api_script::Asked;
 use spec_calc::Reading;
 ghost use mathlib.Core.Path.{_≡_};
-ghost use Rattle.spec_rule.specs.Question.{question-of};
+ghost use Rattle.spec_rule.specs.Question.{lent-question};
 ghost use Rattle.api_script.specs.Script.{script-of, calls};
 ghost use Rattle.api_script.specs.Replies.{lent-of, left-by-calls};
 ghost use Rattle.api_script.specs.Demand.{Never-more};
@@ -53,6 +53,8 @@ pub fn load_then_ask(
     group: &[u8],
     user: &[u8],
     host: &[u8],
+    roles: &[u8],
+    lengths: &[u8],
     level: u32,
     rs: [Reading; 21],
     lent: &mut [u8],
@@ -62,12 +64,12 @@ pub fn load_then_ask(
     ensures { λ r. ⌜
         Never-more (lent-of (now (lent .entry)) (now (numbers .entry)) (now (places .entry))) (now (text .entry))
         (calls (script-of (now (script .entry)) (now (pool .entry)) (now (levels .entry)) (now (states .entry)) (now (values .entry))))
-        (question-of (now (group .entry)) (now (user .entry)) (now (host .entry)) level rs)
+        (lent-question (now (group .entry)) (now (user .entry)) (now (host .entry)) (now (roles .entry)) (now (lengths .entry)) level rs)
         (lent-of (now (lent .exit)) (now (numbers .exit)) (now (places .exit))) r
         ⌝ }
 {
     let loaded = load::load(text, lent);
     follow(script, pool, levels, states, values, lent, numbers, places);
-    let answer = ask::decide(lent, group, user, host, level, rs);
+    let answer = ask::decide(lent, group, user, host, roles, lengths, level, rs);
     Asked { loaded, answer }
 }

@@ -57,6 +57,12 @@ text-at-requires-2 c κs = search needs
 text-at-requires-3 : tie.Need-text-at-requires-3
 text-at-requires-3 c κs = search needs
 
+text-at-requires-4 : tie.Need-text-at-requires-4
+text-at-requires-4 c κs = search needs
+
+text-at-requires-5 : tie.Need-text-at-requires-5
+text-at-requires-5 c κs = search needs
+
 level-requires : tie.Need-level-requires
 level-requires c κs = search needs
 
@@ -77,7 +83,9 @@ returns-3 c =
     let at-readings = c .before .before in
     let at-word3 = at-readings .before in
     let at-level = at-word3 .before in
-    let at-text-at3 = at-level .before in
+    let at-text-at5 = at-level .before in
+    let at-text-at4 = at-text-at5 .before in
+    let at-text-at3 = at-text-at4 .before in
     let at-text-at2 = at-text-at3 .before in
     let at-if2 = at-text-at2 .before in
     let at-if1 = at-if2 .before in
@@ -85,7 +93,7 @@ returns-3 c =
     let at-text-at = at-word2 .before in
     let at-word = at-text-at .before in
     let a = at-word .before .before .before .before .before .before .before .before .before .args in
-    other-made (script-of (a .script .now) (a .pool .now) (a .levels .now) (a .states .now) (a .values .now)) (a .i) (lent-of (a .lent .now) (a .numbers .now) (a .places .now)) (at-word .word .ensures) (at-text-at .text-at .ensures) (omega arith) (at-text-at2 .text-at2 .ensures) (at-text-at3 .text-at3 .ensures) (at-word2 .word2 .ensures) (at-level .level .ensures) (at-word3 .word3 .ensures) (at-readings .readings .ensures) (c .call-reading .ensures)
+    other-made (script-of (a .script .now) (a .pool .now) (a .levels .now) (a .states .now) (a .values .now)) (a .i) (lent-of (a .lent .now) (a .numbers .now) (a .places .now)) (at-word .word .ensures) (at-text-at .text-at .ensures) (omega arith) (at-text-at2 .text-at2 .ensures) (at-text-at3 .text-at3 .ensures) (at-text-at4 .text-at4 .ensures) (at-text-at5 .text-at5 .ensures) (at-word2 .word2 .ensures) (at-level .level .ensures) (at-word3 .word3 .ensures) (at-readings .readings .ensures) (c .call-reading .ensures)
 
 pub call-spec : {M : Type 1} → statement M
 call-spec =
@@ -103,6 +111,8 @@ call-spec =
     returns-2
     text-at-requires-2
     text-at-requires-3
+    text-at-requires-4
+    text-at-requires-5
     level-requires
     word-requires-3
     readings-requires

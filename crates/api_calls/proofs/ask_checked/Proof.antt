@@ -1,5 +1,5 @@
 use Rattle.ask_checked.specs.laws.Decide.{decide-not}
-use Rattle.spec_rule.specs.Question.{question-of}
+use Rattle.spec_rule.specs.Question.{lent-question}
 use mathlib.Core.Path.{sym, _∙_}
 use borrow.Author.Needs.{needs}
 use Rattle.api_calls.proofs.ask_checked.Statement.{statement}
@@ -16,11 +16,11 @@ returns c = search needs
 
 returns-2 : tie.Need-returns-2
 returns-2 c =
-    let a = c .before .before .before .before .before .before .args in
+    let a = c .before .before .before .before .before .before .before .before .args in
     sym
     (decide-not
     (a .lent .now)
-    (question-of (a .group .now) (a .user .now) (a .host .now) (a .level) (a .rs))
+    (lent-question (a .group .now) (a .user .now) (a .host .now) (a .roles .now) (a .lengths .now) (a .level) (a .rs))
     (sym (c .before .is-table .ensures) ∙ c .if1 .left))
 
 pub ask-checked-spec : {M : Type 1} → statement M

@@ -41,7 +41,7 @@ look-up-requires c κs = search needs
 
 returns-6 : tie.Need-returns-6
 returns-6 c =
-    let at-start = c .before .before .before .before .before .before .before .before .before .before in
+    let at-start = c .before .before .before .before .before .before .before .before .before .before .before .before in
     let among = at-start .pre in
     let last : at-start .args .what ≡ 7 = omega arith in
     rw last (ap reply.Named (ap length (c .look-up .ensures)))

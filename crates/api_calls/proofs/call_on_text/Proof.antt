@@ -24,11 +24,11 @@ holds-requires c κs = search needs
 
 returns-3 : tie.Need-returns-3
 returns-3 c =
-    let at-start = c .before .before .before .before .before .before .before in
+    let at-start = c .before .before .before .before .before .before .before .before .before in
     let a = at-start .args in
     let over = at-start .pre in
     ap reply.Holds (c .holds .ensures)
-    ∙ ap (answer-to (a .lent .now)) (truth-called (a .what) (a .a .now) (a .b .now) (a .c .now) (a .skip) (a .n) (a .rs) (omega arith))
+    ∙ ap (answer-to (a .lent .now)) (truth-called (a .what) (a .a .now) (a .b .now) (a .c .now) (a .roles .now) (a .lengths .now) (a .skip) (a .n) (a .rs) (omega arith))
 
 pub call-on-text-spec : {M : Type 1} → statement M
 call-on-text-spec =

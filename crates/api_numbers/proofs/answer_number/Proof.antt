@@ -30,6 +30,12 @@ enum-told-2 c = search needs
 packed-requires-3 : tie.Need-packed-requires-3
 packed-requires-3 c κs = search needs
 
+enum-told-3 : tie.Need-enum-told-3
+enum-told-3 c = search needs
+
+packed-requires-4 : tie.Need-packed-requires-4
+packed-requires-4 c κs = search needs
+
 returns : tie.Need-returns
 returns c = c .packed .ensures ∙ ap (λ (n : ℕ). packed n 0 0) (c .before .right-number .ensures) ∙ answered-is (c .before .before .before .a .given .1)
 
@@ -38,6 +44,9 @@ returns-2 c = c .packed2 .ensures ∙ sym (ap answer-number (c .before .enum-tol
 
 returns-3 : tie.Need-returns-3
 returns-3 c = c .packed3 .ensures ∙ sym (ap answer-number (c .before .enum-told2 .given .1))
+
+returns-4 : tie.Need-returns-4
+returns-4 c = c .packed4 .ensures ∙ sym (ap answer-number (c .before .enum-told3 .given .1))
 
 pub answer-number-spec : {M : Type 1} → statement M
 answer-number-spec =
@@ -51,6 +60,9 @@ answer-number-spec =
     packed-requires-2
     enum-told-2
     packed-requires-3
+    enum-told-3
+    packed-requires-4
     returns
     returns-2
-    returns-3)
+    returns-3
+    returns-4)

@@ -47,18 +47,18 @@ listed-alike skip numbers places s = by (verdict s)
 
 -- a number from 2 on calls what writes nothing
 pub others-leave :
-    (m : ℕ) (a b c : List ℕ) (k n : ℕ) (rs : List Reading) (lent : Lent) → 1 < m
-    → lent ≡ left-by lent (call-of m a b c k n rs)
-others-leave zero a b c k n rs lent h = absurd (omega arith)
-others-leave (suc zero) a b c k n rs lent h = absurd (omega arith)
-others-leave (suc (suc m)) a b c k n rs lent h =
-    let leave : Every (λ x. lent ≡ left-by lent x) (reading-calls a b c n rs) =
+    (m : ℕ) (a b c roles lengths : List ℕ) (k n : ℕ) (rs : List Reading) (lent : Lent) → 1 < m
+    → lent ≡ left-by lent (call-of m a b c roles lengths k n rs)
+others-leave zero a b c roles lengths k n rs lent h = absurd (omega arith)
+others-leave (suc zero) a b c roles lengths k n rs lent h = absurd (omega arith)
+others-leave (suc (suc m)) a b c roles lengths k n rs lent h =
+    let leave : Every (λ x. lent ≡ left-by lent x) (reading-calls a b c roles lengths n rs) =
     cons refl (cons refl (cons refl (cons refl (cons refl (cons refl (cons refl (cons refl nil))))))) in
     every-at m (hold a rs) refl leave
 
 -- a number over 9 asks whether a calculation is true
-pub truth-called : (m : ℕ) (a b c : List ℕ) (k n : ℕ) (rs : List Reading) → 9 < m → hold a rs ≡ call-of m a b c k n rs
-truth-called m a b c k n rs h = sym (List·getD-eq-default (load-text a ∷ list-warnings a k ∷ reading-calls a b c n rs) (hold a rs) h)
+pub truth-called : (m : ℕ) (a b c roles lengths : List ℕ) (k n : ℕ) (rs : List Reading) → 9 < m → hold a rs ≡ call-of m a b c roles lengths k n rs
+truth-called m a b c roles lengths k n rs h = sym (List·getD-eq-default (load-text a ∷ list-warnings a k ∷ reading-calls a b c roles lengths n rs) (hold a rs) h)
 
 module _ (s : Script) (i : ℕ) (lent : Lent) {w : ℕ} (what : w ≡ word (s .words) i 0) {t : List ℕ} (text : t ≡ text-at (s .words) (s .pool) i 1) where
   pub load-made :
@@ -83,15 +83,16 @@ module _ (s : Script) (i : ℕ) (lent : Lent) {w : ℕ} (what : w ≡ word (s .w
       }
 
   pub other-made :
-      {b c : List ℕ} {k n at : ℕ} {rs : List Reading} {r : Reply} → 1 < w
-      → b ≡ text-at (s .words) (s .pool) i 3 → c ≡ text-at (s .words) (s .pool) i 5 → k ≡ word (s .words) i 7 → n ≡ getD (s .levels) i 0
+      {b c roles lengths : List ℕ} {k n at : ℕ} {rs : List Reading} {r : Reply} → 1 < w
+      → b ≡ text-at (s .words) (s .pool) i 3 → c ≡ text-at (s .words) (s .pool) i 5
+      → roles ≡ text-at (s .words) (s .pool) i 9 → lengths ≡ text-at (s .words) (s .pool) i 11 → k ≡ word (s .words) i 7 → n ≡ getD (s .levels) i 0
       → at ≡ word (s .words) i 8 → rs ≡ readings (s .states) (s .values) at
-      → r ≡ answer-to (lent .table) (call-of w t b c k n rs) → Made lent (call-at s i) lent r
-  other-made {b} {c} {k} {n} {at} {rs} z eb ec ek en ea er h =
-      let same : call-of w t b c k n rs ≡ call-at s i = rw (text, eb, ec, ek, en, er, ea, what) in
+      → r ≡ answer-to (lent .table) (call-of w t b c roles lengths k n rs) → Made lent (call-at s i) lent r
+  other-made {b} {c} {roles} {lengths} {k} {n} {at} {rs} z eb ec eo el ek en ea er h =
+      let same : call-of w t b c roles lengths k n rs ≡ call-at s i = rw (text, eb, ec, eo, el, ek, en, er, ea, what) in
       record {
         answer = h ∙ ap (answer-to (lent .table)) same;
-        left = others-leave w t b c k n rs lent z ∙ ap (left-by lent) same;
+        left = others-leave w t b c roles lengths k n rs lent z ∙ ap (left-by lent) same;
       }
 
 -- ---- scripts

@@ -41,6 +41,12 @@ add-readings c = let z = asked (c .before .before .before .before .before .befor
 readings-requires : tie.Need-readings-requires
 readings-requires c κs = let z = asked (c .before .before .before .before .before .before .before .before .before .before .before .args .line .now) (c .before .before .before .before .before .before .before .question .result) (c .before .before .before .before .before .before .before .question .ensures) _ _ _ _ (c .before .before .before .before .before .user .given .1) .order .within in omega arith
 
+slice-aggregate-decide-checked : tie.Need-slice-aggregate-decide-checked
+slice-aggregate-decide-checked c = search needs
+
+slice-aggregate-decide-checked-2 : tie.Need-slice-aggregate-decide-checked-2
+slice-aggregate-decide-checked-2 c = search needs
+
 decide-checked-requires : tie.Need-decide-checked-requires
 decide-checked-requires c κs = search needs
 
@@ -57,7 +63,7 @@ same-length-2 : tie.Need-same-length-2
 same-length-2 c = search needs
 
 returns-2 : tie.Need-returns-2
-returns-2 c = put-as (question-answer (c .before .before .before .before .before .before .before .before .before .before .before .before .before .before .before .before .before .args .line .now) (c .before .before .before .before .before .before .before .before .before .before .before .before .before .question .result) (c .before .before .before .before .before .before .before .before .before .before .before .before .before .question .ensures) _ _ _ _ (c .before .before .before .before .before .before .before .before .before .before .before .user .given .1) (c .before .before .before .before .before .before .before .before .before .before .before .before .before .before .before .before .before .args .table .now) _ _ _ _ _ _ (c .before .before .before .before .before .before .before .before .before .group .ensures) (c .before .before .before .before .before .before .before .before .part .ensures) (c .before .before .before .before .before .before .before .part2 .ensures) (c .before .before .before .before .before .readings .ensures) (c .before .before .before .before .decide-checked .ensures)) (c .before .before .answer-text .ensures)
+returns-2 c = put-as (question-answer (c .before .before .before .before .before .before .before .before .before .before .before .before .before .before .before .before .before .before .before .args .line .now) (c .before .before .before .before .before .before .before .before .before .before .before .before .before .before .before .question .result) (c .before .before .before .before .before .before .before .before .before .before .before .before .before .before .before .question .ensures) _ _ _ _ (c .before .before .before .before .before .before .before .before .before .before .before .before .before .user .given .1) (c .before .before .before .before .before .before .before .before .before .before .before .before .before .before .before .before .before .before .before .args .table .now) _ _ _ _ _ _ (c .before .before .before .before .before .before .before .before .before .before .before .group .ensures) (c .before .before .before .before .before .before .before .before .before .before .part .ensures) (c .before .before .before .before .before .before .before .before .before .part2 .ensures) (c .before .before .before .before .before .before .before .readings .ensures) (c .before .before .before .before .decide-checked .ensures)) (c .before .before .answer-text .ensures)
 
 pub answer-line-spec : {M : Type 1} → statement M
 answer-line-spec =
@@ -72,6 +78,8 @@ answer-line-spec =
     part-requires-2
     add-readings
     readings-requires
+    slice-aggregate-decide-checked
+    slice-aggregate-decide-checked-2
     decide-checked-requires
     answer-text-requires
     same-length

@@ -8,7 +8,7 @@ use Rattle.spec_lists.specs.Text.{bytes}
 use Rattle.spec_rule.specs.declared.Access.{Access}
 use Rattle.spec_rule.specs.declared.Access.the-variants as access
 use Rattle.spec_decision.specs.declared.Answer.{Answer}
-use Rattle.spec_decision.specs.declared.Answer.the-variants.{Answered, NotTable, BadLevel}
+use Rattle.spec_decision.specs.declared.Answer.the-variants.{Answered, NotTable, BadLevel, BadRoles}
 use Rattle.spec_decision.specs.Decision.{decide}
 use Rattle.prog_line.specs.Line.{Line, refused, question, asks}
 use Rattle.prog_text.specs.Text.{digits-in, decimal-digits}
@@ -28,6 +28,7 @@ unfolding answer-text decimal-digits digits-in
 short-answer (Answered d) = short-words (d .access) (d .trap)
 short-answer NotTable = omega arith
 short-answer BadLevel = omega arith
+short-answer BadRoles = omega arith
 
 short-line : (table : List ℕ) (l : Line) → length (answered table l) ≤ 17
 short-line table refused = omega arith

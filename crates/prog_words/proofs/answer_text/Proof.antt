@@ -33,6 +33,15 @@ slice-aggregate-put-2 c = search needs
 put-requires-2 : tie.Need-put-requires-2
 put-requires-2 c κs = search needs
 
+enum-told-3 : tie.Need-enum-told-3
+enum-told-3 c = search needs
+
+slice-aggregate-put-3 : tie.Need-slice-aggregate-put-3
+slice-aggregate-put-3 c = search needs
+
+put-requires-3 : tie.Need-put-requires-3
+put-requires-3 c κs = search needs
+
 same-length : tie.Need-same-length
 same-length c = search needs
 
@@ -54,6 +63,13 @@ returns-3 : tie.Need-returns-3
 unfolding answer-text decimal-digits digits-in
 returns-3 c = put-as (ap answer-text (c .before .before .before .before .before .enum-told2 .given .1)) (c .before .before .put2 .ensures)
 
+same-length-4 : tie.Need-same-length-4
+same-length-4 c = search needs
+
+returns-4 : tie.Need-returns-4
+unfolding answer-text decimal-digits digits-in
+returns-4 c = put-as (ap answer-text (c .before .before .before .before .before .enum-told3 .given .1)) (c .before .before .put3 .ensures)
+
 pub answer-text-spec : {M : Type 1} → statement M
 answer-text-spec =
     tie.close
@@ -67,9 +83,14 @@ answer-text-spec =
     enum-told-2
     slice-aggregate-put-2
     put-requires-2
+    enum-told-3
+    slice-aggregate-put-3
+    put-requires-3
     same-length
     returns
     same-length-2
     returns-2
     same-length-3
-    returns-3)
+    returns-3
+    same-length-4
+    returns-4)
