@@ -47,10 +47,11 @@ static bool is_text(struct hrazvanut_text text, const char *s)
 
 static void words(void)
 {
-    static const int known[] = {0, 1, 2, 3, 4, 5, 6, 7, 8, 9, 10, 11, 20, 21, 22, 23, 24, 25, 34};
+    static const int known[] = {0, 1, 2, 3, 4, 5, 6, 7, 8, 9, 10, 11, 20, 21, 22, 23, 24, 25, 26, 34};
     size_t k = 0;
     int n;
-    CHECK(HRAZVANUT_VERSION == 3001 && HRAZVANUT_VERSION / 1000 == HRAZVANUT_VERSION_MAJOR);
+    CHECK(HRAZVANUT_VERSION == 4000 && HRAZVANUT_VERSION / 1000 == HRAZVANUT_VERSION_MAJOR);
+    CHECK(HRAZVANUT_ROLES == 16 && HRAZVANUT_ROLE_LENGTH == 60);
     CHECK(hrazvanut_abi_bytes(NULL, 0) != NULL);
     CHECK(hrazvanut_string(NULL).length == 0);
     CHECK(hrazvanut_string("").length == 0);
@@ -66,6 +67,7 @@ static void words(void)
     CHECK(strcmp(hrazvanut_refusal_words((enum hrazvanut_refusal)23), "client's name over 60 bytes") == 0);
     CHECK(strcmp(hrazvanut_refusal_words((enum hrazvanut_refusal)24), "all 64 places taken") == 0);
     CHECK(strcmp(hrazvanut_refusal_words((enum hrazvanut_refusal)25), "no client at the place") == 0);
+    CHECK(strcmp(hrazvanut_refusal_words((enum hrazvanut_refusal)26), "more than 16 roles, or one over 60 bytes") == 0);
     CHECK(strcmp(hrazvanut_refusal_words((enum hrazvanut_refusal)34), "not a register") == 0);
 }
 
@@ -335,6 +337,167 @@ static void letters(void)
     }
 }
 
+/* A role in a block of its own length, so that a byte too many that is read is found. */
+static struct hrazvanut_text role_of(const char *s, size_t length)
+{
+    struct hrazvanut_text role = ZERO;
+    char *bytes = (char *)malloc(length);
+    if (!bytes)
+        abort();
+    memcpy(bytes, s, length);
+    role.start = bytes;
+    role.length = length;
+    return role;
+}
+
+/* Of somebody with no name and so many roles; of no more than there is room for it is told which. */
+static struct hrazvanut_answer ask_roles(struct hrazvanut_table table, const struct hrazvanut_text *roles, size_t count)
+{
+    struct hrazvanut_question q = ZERO;
+    size_t i;
+    for (i = 0; i < HRAZVANUT_ROLES && i < count; i++)
+        q.roles[i] = roles[i];
+    q.role_count = count;
+    return ask(table, &q);
+}
+
+static const char duties[] = "UAG(u) {ann, \"role/op\"} UAG(nameless) {\"role/\"} UAG(named) {\"Role/op\"} HAG(h) {\"role/op\"}\n"
+                             "ASG(DEFAULT) {RULE(1,READ) {UAG(nameless)} RULE(1,WRITE,TRAPWRITE) {UAG(u)} RULE(1,READ) {UAG(named)}\n"
+                             "RULE(1,WRITE) {HAG(h)}}\n";
+
+/* In each place among others, of which the last are nowhere. */
+static void places_of_roles(struct hrazvanut_table table)
+{
+    struct hrazvanut_text roles[HRAZVANUT_ROLES] = ZERO, op = role_of("op", 2), other = role_of("opera", 5);
+    size_t i;
+    CHECK(answers(ask_roles(table, roles, 0), HRAZVANUT_NONE, false));
+    CHECK(answers(ask_roles(table, roles, 1), HRAZVANUT_READ, false)); /* no bytes, at NULL */
+    for (i = 0; i < HRAZVANUT_ROLES; i++)
+        roles[i] = other;
+    CHECK(answers(ask_roles(table, roles, HRAZVANUT_ROLES), HRAZVANUT_NONE, false));
+    for (i = 0; i < HRAZVANUT_ROLES; i++) {
+        roles[i] = op;
+        CHECK(answers(ask_roles(table, roles, i + 1), HRAZVANUT_WRITE, true));
+        CHECK(answers(ask_roles(table, roles, HRAZVANUT_ROLES), HRAZVANUT_WRITE, true));
+        CHECK(answers(ask_roles(table, roles, i), HRAZVANUT_NONE, false));
+        roles[i].length = 1;
+        CHECK(answers(ask_roles(table, roles, HRAZVANUT_ROLES), HRAZVANUT_NONE, false));
+        roles[i] = other;
+    }
+    free((char *)op.start);
+    free((char *)other.start);
+}
+
+static void roles_and_names(struct hrazvanut_table table)
+{
+    struct hrazvanut_question q = ZERO;
+    q.user = hrazvanut_string("ann");
+    CHECK(answers(ask(table, &q), HRAZVANUT_WRITE, true));
+    q.user = hrazvanut_string("role/op");
+    CHECK(answers(ask(table, &q), HRAZVANUT_NONE, false));
+    q.user = hrazvanut_string("Role/op");
+    CHECK(answers(ask(table, &q), HRAZVANUT_READ, false));
+    q.user = hrazvanut_string("op");
+    q.roles[0] = hrazvanut_string("ann");
+    q.roles[1] = hrazvanut_string("role/op");
+    q.roles[2] = hrazvanut_string("Op");
+    q.role_count = 3;
+    CHECK(answers(ask(table, &q), HRAZVANUT_NONE, false));
+    q.host = hrazvanut_string("ROLE/op");
+    CHECK(answers(ask(table, &q), HRAZVANUT_WRITE, false));
+}
+
+/* Refused behind 20 and 21; what does not count is not read. */
+static void refused_roles(struct hrazvanut_table table, const struct hrazvanut_question *refused)
+{
+    struct hrazvanut_question q = *refused;
+    struct hrazvanut_table none = ZERO;
+    CHECK(refuses(ask(table, &q), HRAZVANUT_REFUSED_ROLES));
+    CHECK(refuses(ask(none, &q), HRAZVANUT_REFUSED_NOT_TABLE));
+    q.level = 2;
+    CHECK(refuses(ask(table, &q), HRAZVANUT_REFUSED_LEVEL));
+    CHECK(refuses(ask(none, &q), HRAZVANUT_REFUSED_NOT_TABLE));
+}
+
+static void too_many_roles(struct hrazvanut_table table)
+{
+    static const size_t counts[] = {17, 18, 255, 256, 257, 65536, 65537, (size_t)1 << 31, SIZE_MAX - 1, SIZE_MAX};
+    struct hrazvanut_question *q = (struct hrazvanut_question *)calloc(1, sizeof *q);
+    size_t i;
+    if (!q)
+        abort();
+    q->roles[0] = hrazvanut_string("op");
+    q->role_count = HRAZVANUT_ROLES;
+    CHECK(answers(ask(table, q), HRAZVANUT_WRITE, true));
+    for (i = 0; i < sizeof counts / sizeof *counts; i++) {
+        q->role_count = counts[i];
+        refused_roles(table, q);
+    }
+    free(q);
+}
+
+static void too_long_roles(struct hrazvanut_table table)
+{
+    static const size_t lengths[] = {61, 62, 255, 256, 258, 316, 65536, 65538, SIZE_MAX - 1, SIZE_MAX};
+    char most[60];
+    struct hrazvanut_text longest;
+    struct hrazvanut_question q = ZERO;
+    size_t i, place;
+    memset(most, 'x', sizeof most);
+    longest = role_of(most, sizeof most);
+    q.role_count = HRAZVANUT_ROLES;
+    for (i = 0; i < HRAZVANUT_ROLES; i++)
+        q.roles[i] = longest;
+    CHECK(answers(ask(table, &q), HRAZVANUT_NONE, false));
+    q.roles[HRAZVANUT_ROLES - 1] = hrazvanut_string("op");
+    CHECK(answers(ask(table, &q), HRAZVANUT_WRITE, true));
+    for (i = 0; i < sizeof lengths / sizeof *lengths; i++)
+        for (place = 0; place < HRAZVANUT_ROLES; place++) {
+            struct hrazvanut_question wrong_one = q;
+            wrong_one.roles[place].length = lengths[i];
+            refused_roles(table, &wrong_one);
+            wrong_one.role_count = place;
+            CHECK(answers(ask(table, &wrong_one), HRAZVANUT_NONE, false));
+        }
+    free((char *)longest.start);
+}
+
+static void roles(void)
+{
+    struct hrazvanut_table table = load(duties).table;
+    CHECK(hrazvanut_is_table(table));
+    places_of_roles(table);
+    roles_and_names(table);
+    too_many_roles(table);
+    too_long_roles(table);
+}
+
+/* A proved function's number for the roles of a pool. */
+static uint64_t pooled(struct hrazvanut_table table, const char *pool, size_t length, const char *lengths, size_t count)
+{
+    static const uint8_t some = 0;
+    static const double calm = 0;
+    const uint8_t *bytes = (const uint8_t *)pool, *each = (const uint8_t *)lengths;
+    uint64_t answer =
+        hrazvanut_abi_decide_roles(table.start, table.length, &some, 0, &some, 0, &some, 0, bytes, length, each, count, 1, &some, 0, &calm, 0);
+    CHECK(answer == hrazvanut_abi_decide_roles_checked(table.start, table.length, &some, 0, &some, 0, &some, 0, bytes, length, each, count, 1,
+                                                       &some, 0, &calm, 0));
+    return answer;
+}
+
+static void pools(void)
+{
+    static const uint64_t refusal = UINT64_C(26) << 48;
+    struct hrazvanut_table table = load(duties).table;
+    CHECK(pooled(table, "op", 2, "\2", 1) == 6 && pooled(table, "op", 2, "", 0) == 0);
+    CHECK(pooled(table, "devop", 5, "\3\2", 2) == 6 && pooled(table, "devop", 5, "\2\3", 2) == 0);
+    CHECK(pooled(table, "opop", 4, "\2", 1) == 6 && pooled(table, "opera", 5, "\2", 1) == 6);
+    CHECK(pooled(table, "op", 1, "\2", 1) == refusal && pooled(table, "devop", 4, "\3\2", 2) == refusal);
+    CHECK(pooled(table, "", 0, "\0", 1) == 1 && pooled(table, "", 0, "\1", 1) == refusal);
+    CHECK(pooled(table, "op", 2, "\2\0\0\0\0\0\0\0\0\0\0\0\0\0\0\0", 16) == 6);
+    CHECK(pooled(table, "op", 2, "\2\0\0\0\0\0\0\0\0\0\0\0\0\0\0\0", 17) == refusal);
+}
+
 /* The numbers of the proved functions, bit by bit. */
 static void numbers(struct hrazvanut_table table)
 {
@@ -342,13 +505,17 @@ static void numbers(struct hrazvanut_table table)
     const uint8_t heard = 2, unknown = 3;
     const double calm = 0;
     const uint64_t none = UINT64_C(20) << 48;
-    CHECK(hrazvanut_abi_decide(table.start, table.length, ann, 0, ann, 3, pc1, 3, 1, &heard, 1, &calm, 1) == 6);
-    CHECK(hrazvanut_abi_decide(table.start, table.length, ann, 0, ann, 3, pc1, 3, 1, &heard, 1, &calm, 0) == 1);
-    CHECK(hrazvanut_abi_decide(table.start, table.length, ann, 0, ann, 3, pc1, 3, 1, &heard, 0, &calm, 1) == 1);
-    CHECK(hrazvanut_abi_decide(table.start, table.length, ann, 0, ann, 3, pc1, 3, 1, &unknown, 1, &calm, 1) == 1);
-    CHECK(hrazvanut_abi_decide(table.start, table.length, ann, 0, ann, 3, pc1, 3, 2, &heard, 1, &calm, 1) == UINT64_C(21) << 48);
-    CHECK(hrazvanut_abi_decide(table.start, 0, ann, 0, ann, 3, pc1, 3, 2, &heard, 1, &calm, 1) == none);
-    CHECK(hrazvanut_abi_decide_checked(table.start, table.length, ann, 0, ann, 3, pc1, 3, 1, &heard, 1, &calm, 1) == 6);
+    const uint8_t *bytes = table.start;
+    size_t length = table.length;
+    CHECK(hrazvanut_abi_decide_roles(bytes, length, ann, 0, ann, 3, pc1, 3, ann, 0, ann, 0, 1, &heard, 1, &calm, 1) == 6);
+    CHECK(hrazvanut_abi_decide_roles(bytes, length, ann, 0, ann, 3, pc1, 3, ann, 0, ann, 0, 1, &heard, 1, &calm, 0) == 1);
+    CHECK(hrazvanut_abi_decide_roles(bytes, length, ann, 0, ann, 3, pc1, 3, ann, 0, ann, 0, 1, &heard, 0, &calm, 1) == 1);
+    CHECK(hrazvanut_abi_decide_roles(bytes, length, ann, 0, ann, 3, pc1, 3, ann, 0, ann, 0, 1, &unknown, 1, &calm, 1) == 1);
+    CHECK(hrazvanut_abi_decide_roles(bytes, length, ann, 0, ann, 3, pc1, 3, ann, 0, ann, 0, 2, &heard, 1, &calm, 1) == UINT64_C(21) << 48);
+    CHECK(hrazvanut_abi_decide_roles(bytes, 0, ann, 0, ann, 3, pc1, 3, ann, 0, ann, 0, 2, &heard, 1, &calm, 1) == none);
+    CHECK(hrazvanut_abi_decide_roles(bytes, 0, ann, 0, ann, 3, pc1, 3, ann, 0, ann, 3, 2, &heard, 1, &calm, 1) == none);
+    CHECK(hrazvanut_abi_decide_roles(bytes, length, ann, 0, ann, 3, pc1, 3, ann, 3, ann, 1, 1, &heard, 1, &calm, 1) == UINT64_C(26) << 48);
+    CHECK(hrazvanut_abi_decide_roles_checked(bytes, length, ann, 0, ann, 3, pc1, 3, ann, 0, ann, 0, 1, &heard, 1, &calm, 1) == 6);
     CHECK(hrazvanut_abi_find_input(table.start, 0, ann, 0, 0) == none);
     CHECK(hrazvanut_abi_find_input(table.start, table.length, ann, 0, 1) == UINT64_C(22) << 48);
     CHECK(hrazvanut_abi_find_input(table.start, table.length, ann, 0, 0) >> 32 == 6);
@@ -363,6 +530,8 @@ static void questions(void)
     readings(table);
     numbers(table);
     letters();
+    roles();
+    pools();
 }
 
 /* ---- look-ups and calculations */

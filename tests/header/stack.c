@@ -43,17 +43,29 @@ static void call_list_warnings(const struct input *in)
 
 static void call_is_table(const struct input *in) { hrazvanut_is_table(in->table); }
 
+/* The longest name that a client, or a role, can have. */
+static struct hrazvanut_text name_of(const struct input *in)
+{
+    struct hrazvanut_text name = {.start = in->text.start, .length = in->text.length < 60 ? in->text.length : 60};
+    return name;
+}
+
 static struct hrazvanut_question question_of(const struct input *in)
 {
     struct hrazvanut_question question = {.group = in->text, .user = in->text, .host = in->text};
     for (int i = 0; i < HRAZVANUT_READINGS; i++)
         question.readings[i] = (struct hrazvanut_reading){.state = HRAZVANUT_VALUE, .value = 1};
+    question.role_count = HRAZVANUT_ROLES;
+    for (int i = 0; i < HRAZVANUT_ROLES; i++)
+        question.roles[i] = name_of(in);
     return question;
 }
 
 static void call_decide(const struct input *in)
 {
     struct hrazvanut_question question = question_of(in);
+    hrazvanut_decide(in->table, &question);
+    question.roles[HRAZVANUT_ROLES - 1] = in->text;
     hrazvanut_decide(in->table, &question);
 }
 
@@ -73,7 +85,7 @@ static struct hrazvanut_register reg;
 
 static struct hrazvanut_client client_of(const struct input *in)
 {
-    struct hrazvanut_text name = {.start = in->text.start, .length = in->text.length < 60 ? in->text.length : 60};
+    struct hrazvanut_text name = name_of(in);
     return (struct hrazvanut_client){.group = name, .user = name, .host = name, .level = 1};
 }
 

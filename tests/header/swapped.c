@@ -50,5 +50,11 @@ int main(void)
     return (int)hrazvanut_reload(&reg, room, text).loaded.refusal;
 #elif WRONG == 15
     return (int)hrazvanut_remove_client(&client, 0).refusal;
+#elif WRONG == 16
+    question.roles[0] = "op";
+    return 0;
+#elif WRONG == 17
+    client.roles[0] = text;
+    return 0;
 #endif
 }

@@ -41,6 +41,7 @@ impl Prepared<'_> {
             group: self.sample.group.as_bytes(),
             user: self.sample.user.as_bytes(),
             host: self.sample.host.as_bytes(),
+            roles: &[],
             level: LEVEL,
             states: &self.states,
             values: &VALUES,
@@ -53,6 +54,7 @@ impl Prepared<'_> {
             group: self.sample.group.as_bytes(),
             user: self.sample.user.as_bytes(),
             host: self.sample.host.as_bytes(),
+            roles: &[],
             level: LEVEL,
             readings: std::array::from_fn(reading),
         }

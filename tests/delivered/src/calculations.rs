@@ -113,6 +113,7 @@ fn is_true(calculation: &[u8], readings: &Readings) -> Option<bool> {
         return None;
     }
     let (states, values) = as_lent(readings);
-    let asked = Asked { group: b"", user: b"", host: b"", level: 1, states: &states, values: &values };
+    let asked =
+        Asked { group: b"", user: b"", host: b"", roles: &[], level: 1, states: &states, values: &values };
     Some(library::decide(&table, &asked).access == 2)
 }

@@ -54,14 +54,15 @@ pub fn run(folder: &Path, score: &mut Score) {
 fn decide_one(table: &[u8], line: &str, answer: &str) -> Verdict {
     let words: Vec<&str> = line.split(' ').collect();
     let [group, user, host, level, readings, roles] = words[..] else { return Err("not six parts".into()) };
-    if roles != "none" {
-        return Err(format!("roles {roles}, which belong to request 2"));
-    }
     let bytes = |word| script::text(word).ok_or_else(|| format!("{word} is no text"));
     let (group, user, host) = (bytes(group)?, bytes(user)?, bytes(host)?);
     let level: u32 = level.parse().map_err(|_| format!("{level} is no level"))?;
     let readings = all_readings(readings, ',')?;
-    let question = Question { group: &group, user: &user, host: &host, level, readings };
+    let roles = match roles {
+        "none" => Vec::new(),
+        _ => roles.split(',').map(bytes).collect::<Result<_, _>>()?,
+    };
+    let question = Question { group: &group, user: &user, host: &host, roles: &roles, level, readings };
     let paper = match paper::decide(table, &question) {
         Ok(answer) => said(answer.access as u64, answer.trap),
         Err(number) => format!("refused {number}"),
@@ -69,7 +70,7 @@ fn decide_one(table: &[u8], line: &str, answer: &str) -> Verdict {
     same("paper", answer, &paper)?;
     let (states, values) = as_lent(&readings);
     let (group, user, host) = (&group[..], &user[..], &host[..]);
-    let asked = Asked { group, user, host, level, states: &states, values: &values };
+    let asked = Asked { group, user, host, roles: &roles, level, states: &states, values: &values };
     same("library", (answer, true), by_library(library::decide(table, &asked)).as_parts())?;
     if !library::is_table(table) {
         return Ok(());

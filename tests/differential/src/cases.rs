@@ -10,11 +10,12 @@ use paper::{LETTERS, TABLE_BYTES};
 
 /// One case, of a kind chosen at random.
 pub fn run(random: &mut Random, comparison: &mut Comparison) -> Go {
-    match random.below(21) {
+    match random.below(22) {
         0..=11 => of_file(random, comparison),
         12..=15 => of_table(random, comparison),
         16 | 17 => of_calculation(random, comparison),
         18 | 19 => of_values(random, comparison),
+        20 => of_roles(random, comparison),
         _ => of_register(random, comparison),
     }
 }
@@ -110,13 +111,23 @@ fn of_slice(random: &mut Random, comparison: &mut Comparison, slice: &[u8], ques
     comparison.is_table(slice)?;
     let names = Names::of(slice);
     for _ in 0..questions {
-        comparison.decide(slice, &question::any(random, &names))?;
+        let question = question::any(random, &names);
+        comparison.decide(slice, &question)?;
+        if random.percent(30) {
+            comparison.pool(random, slice, &question)?;
+        }
     }
     for _ in 0..questions.div_ceil(2) {
         let (group, letter) = names.input(random);
         comparison.find_input(slice, &group, letter)?;
     }
     Ok(())
+}
+
+/// A file whose members decide.
+fn of_roles(random: &mut Random, comparison: &mut Comparison) -> Go {
+    let table = table_of(&inputs::roles::text(random)).expect("it is a right file");
+    of_slice(random, comparison, &table, 6)
 }
 
 /// A file with one rule of this calculation, and all inputs.
@@ -154,6 +165,7 @@ fn of_values(random: &mut Random, comparison: &mut Comparison) -> Go {
         group: Vec::new(),
         user: b"u".to_vec(),
         host: b"h".to_vec(),
+        roles: Vec::new(),
         level: 1,
         states: vec![2; LETTERS],
         values: values.to_vec(),

@@ -3,7 +3,7 @@
 
 use inputs::question::Owned;
 use inputs::random::Random;
-use library::{Asked, Decision, Found, List, Load};
+use library::{Asked, Decision, Found, List, Load, Pool};
 use paper::Access;
 use std::collections::BTreeMap;
 use std::fmt::Debug;
@@ -125,6 +125,32 @@ impl Comparison {
         self.same(paper, library, || describe("decide_checked"))
     }
 
+    /// The proved function with more bytes than the roles have, which are not
+    /// looked at, or with fewer, which is refused.
+    pub fn pool(&mut self, random: &mut Random, table: &[u8], question: &Owned) -> Go {
+        let mut paper = decision_by_paper(table, question);
+        let mut pool = Pool::of(&question.roles);
+        if pool.bytes.is_empty() || random.percent(50) {
+            let more = random.between(1, 9);
+            pool.bytes.extend(random.bytes(more));
+        } else {
+            pool.bytes.truncate(random.below(pool.bytes.len()));
+            if paper.refusal == 0 {
+                paper = Decision { refusal: 26, access: 0, trap: false, agrees: true };
+            }
+        }
+        self.count(format!("roles in a pool {:2}", paper.refusal));
+        let describe = || format!("pool {pool:?}\ntable {}\n{}", hex(table), described(question));
+        let asked = asked(question);
+        self.same(paper.number(), library::decide_pool(table, &asked, &pool), describe)?;
+        if !paper::is_table(table) || !library::is_table(table) {
+            return Ok(());
+        }
+        // SAFETY: the library has just said so of these bytes.
+        let library = unsafe { library::decide_pool_checked(table, &asked, &pool) };
+        self.same(paper.number(), library, || format!("checked, {}", describe()))
+    }
+
     pub fn find_input(&mut self, table: &[u8], group: &[u8], letter: u32) -> Go {
         let paper = match paper::find_input(table, group, letter) {
             Ok((place, length)) => {
@@ -175,6 +201,7 @@ fn asked(question: &Owned) -> Asked<'_> {
         group: &question.group,
         user: &question.user,
         host: &question.host,
+        roles: &question.roles,
         level: question.level,
         states: &question.states,
         values: &question.values,
@@ -198,10 +225,11 @@ fn decision_by_paper(table: &[u8], question: &Owned) -> Decision {
 fn described(question: &Owned) -> String {
     let values: Vec<String> = question.values.iter().map(|v| format!("{:016x}", v.to_bits())).collect();
     format!(
-        "group {}\nuser {}\nhost {}\nlevel {}\nstates {}\nvalues {}",
+        "group {}\nuser {}\nhost {}\nroles {:?}\nlevel {}\nstates {}\nvalues {}",
         hex(&question.group),
         hex(&question.user),
         hex(&question.host),
+        question.roles.iter().map(|role| hex(role)).collect::<Vec<String>>(),
         question.level,
         hex(&question.states),
         values.join(" ")

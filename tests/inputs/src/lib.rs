@@ -1,5 +1,5 @@
-//! Inputs made from a seed: files, tables, questions, calculations, lines, calls
-//! on a register.
+//! Inputs made from a seed: files, tables, questions, roles, calculations, lines,
+//! calls on a register.
 #![forbid(unsafe_code)]
 
 pub mod calculation;
@@ -9,6 +9,7 @@ pub mod lines;
 pub mod question;
 pub mod random;
 pub mod register;
+pub mod roles;
 pub mod table;
 
 use random::Random;

@@ -1,15 +1,19 @@
 //! Questions to a table, and readings.
 
 use crate::random::Random;
+use crate::roles;
 use paper::table::{self, Run, Text, View, UNDEFINED};
 use paper::{Question, Reading, Readings, LETTERS};
 
 /// The names that a table holds, to ask with.
+#[derive(Default)]
 pub struct Names {
     groups: Vec<Vec<u8>>,
     /// Of each input: its group's number, and its letter.
     inputs: Vec<(usize, u8)>,
     members: Vec<Vec<u8>>,
+    /// That members `role/..` name.
+    pub(crate) roles: Vec<Vec<u8>>,
     rules: Vec<Aim>,
 }
 
@@ -23,8 +27,7 @@ struct Aim {
 impl Names {
     /// None if the bytes are no table.
     pub fn of(bytes: &[u8]) -> Names {
-        let mut names =
-            Names { groups: Vec::new(), inputs: Vec::new(), members: Vec::new(), rules: Vec::new() };
+        let mut names = Names::default();
         if !paper::is_table(bytes) {
             return names;
         }
@@ -36,7 +39,9 @@ impl Names {
             names.inputs.extend((first..first + count).map(|i| (n, view.input(i).0 as u8)));
         }
         for n in 0..view.count(table::MEMBERS) {
-            names.members.push(view.string(view.member(n)).to_vec());
+            let member = view.string(view.member(n));
+            names.roles.extend(member.strip_prefix(roles::PREFIX).map(<[u8]>::to_vec));
+            names.members.push(member.to_vec());
         }
         names
     }
@@ -64,7 +69,7 @@ impl Names {
         (self.groups[group].clone(), letter.into())
     }
 
-    fn member(&self, random: &mut Random) -> Vec<u8> {
+    pub(crate) fn member(&self, random: &mut Random) -> Vec<u8> {
         if self.members.is_empty() || random.percent(10) {
             let other: &[&[u8]] = &[b"", b"ann", b"pc1", b"nobody"];
             return random.pick(other).to_vec();
@@ -102,7 +107,7 @@ fn members_of(view: &View, references: Run, members: impl Fn(usize) -> Run) -> V
 }
 
 /// One byte more, less or other.
-fn nearly(random: &mut Random, name: &[u8]) -> Vec<u8> {
+pub(crate) fn nearly(random: &mut Random, name: &[u8]) -> Vec<u8> {
     let mut name = name.to_vec();
     let place = random.below(name.len() + 1);
     match random.below(3) {
@@ -114,7 +119,7 @@ fn nearly(random: &mut Random, name: &[u8]) -> Vec<u8> {
     name
 }
 
-fn other_case(random: &mut Random, name: &[u8]) -> Vec<u8> {
+pub(crate) fn other_case(random: &mut Random, name: &[u8]) -> Vec<u8> {
     let flip = |b: &u8| if random.percent(50) { b.to_ascii_uppercase() } else { *b };
     name.iter().map(flip).collect()
 }
@@ -125,6 +130,7 @@ pub struct Owned {
     pub group: Vec<u8>,
     pub user: Vec<u8>,
     pub host: Vec<u8>,
+    pub roles: Vec<Vec<u8>>,
     pub level: u32,
     pub states: Vec<u8>,
     pub values: Vec<f64>,
@@ -137,6 +143,7 @@ impl Owned {
             group: &self.group,
             user: &self.user,
             host: &self.host,
+            roles: &self.roles,
             level: self.level,
             readings: self.readings(),
         }
@@ -157,6 +164,7 @@ pub fn any(random: &mut Random, names: &Names) -> Owned {
         group: names.group(random),
         user: names.member(random),
         host: names.member(random),
+        roles: roles::some(random, names),
         level: if random.percent(90) { random.below(2) as u32 } else { wide(random) },
         states,
         values,
@@ -185,11 +193,25 @@ fn aim(random: &mut Random, names: &Names, question: &mut Owned) {
     let rule = random.pick(&names.rules);
     question.group = rule.group.clone();
     if !rule.users.is_empty() && random.percent(90) {
-        question.user = random.pick(&rule.users).clone();
+        let member = random.pick(&rule.users);
+        aim_at_user(random, member, question);
     }
     if !rule.hosts.is_empty() && random.percent(90) {
         question.host = random.pick(&rule.hosts).clone();
     }
+}
+
+/// As the member, or as somebody with the role that it names.
+fn aim_at_user(random: &mut Random, member: &[u8], question: &mut Owned) {
+    let role = match member.strip_prefix(roles::PREFIX) {
+        Some(role) if random.percent(80) => role,
+        None if random.percent(5) => member, // a role is no user
+        _ => {
+            question.user = member.to_vec();
+            return;
+        }
+    };
+    roles::put(random, role, &mut question.roles);
 }
 
 /// All good, some bad, or of any length and kind.

@@ -90,7 +90,7 @@ fn site(random: &mut Random) -> Vec<u8> {
     let empty = if random.percent(15) { PLACES - groups.len() } else { random.below(3) };
     groups.extend((0..empty).map(|number| format!("ASG(e{number})")));
     random.shuffle(&mut groups);
-    groups.push("UAG(u){ann,bob}UAG(v){bob}HAG(h){pc1,pc2}HAG(g){pc2}".to_string());
+    groups.push("UAG(u){ann,bob}UAG(v){bob,\"role/op\"}HAG(h){pc1,pc2}HAG(g){pc2}".to_string());
     groups.concat().into_bytes()
 }
 

@@ -129,7 +129,7 @@ impl Parts {
             let at = parts.add(&text);
             parts.calculations.push(at);
         }
-        for name in ["DEFAULT", "ann", "pc1", "PC1", "a", "annex", ""] {
+        for name in ["DEFAULT", "ann", "pc1", "PC1", "a", "annex", "", "role/", "role/ann", "role/a"] {
             let at = parts.add(name.as_bytes());
             parts.names.push(at);
         }

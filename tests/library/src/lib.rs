@@ -40,7 +40,7 @@ pub struct List {
 
 #[derive(Clone, Copy, Debug, PartialEq, Eq)]
 pub struct Decision {
-    /// 20, 21, or 0 if answered.
+    /// 20, 21, 26, or 0 if answered.
     pub refusal: u64,
     /// 0 NONE, 1 READ, 2 WRITE.
     pub access: u64,
@@ -68,9 +68,26 @@ pub struct Asked<'a> {
     pub group: &'a [u8],
     pub user: &'a [u8],
     pub host: &'a [u8],
+    pub roles: &'a [Vec<u8>],
     pub level: u32,
     pub states: &'a [u8],
     pub values: &'a [f64],
+}
+
+/// Roles as the proved function takes them: all bytes one behind the other, and
+/// the length of each.
+#[derive(Clone, Debug)]
+pub struct Pool {
+    pub bytes: Vec<u8>,
+    pub lengths: Vec<u8>,
+}
+
+impl Pool {
+    /// A role of more bytes than a length can tell is too long anyway.
+    pub fn of(roles: &[Vec<u8>]) -> Pool {
+        let length = |role: &Vec<u8>| role.len().min(u8::MAX.into()) as u8;
+        Pool { bytes: roles.concat(), lengths: roles.iter().map(length).collect() }
+    }
 }
 
 /// A question as C has it.
@@ -116,15 +133,17 @@ calls! {
     );
     fn library_is_table(table: In, table_length: usize) -> c_int;
     fn library_question(
-        group: In, group_length: usize, user: In, user_length: usize, host: In, host_length: usize, level: u32,
-        states: In, states_length: usize, values: *const f64, values_length: usize,
+        group: In, group_length: usize, user: In, user_length: usize, host: In, host_length: usize,
+        roles: *const In, role_lengths: *const usize, role_count: usize, level: u32, states: In,
+        states_length: usize, values: *const f64, values_length: usize,
     ) -> *mut Made;
     fn library_forget(question: *mut Made);
     fn library_decide(checked: c_int, table: In, table_length: usize, question: *const Made, out: *mut u64);
     fn library_decide_number(
         checked: c_int, table: In, table_length: usize, group: In, group_length: usize, user: In,
-        user_length: usize, host: In, host_length: usize, level: u32, states: In, states_length: usize,
-        values: *const f64, values_length: usize,
+        user_length: usize, host: In, host_length: usize, roles: In, roles_length: usize, lengths: In,
+        lengths_length: usize, level: u32, states: In, states_length: usize, values: *const f64,
+        values_length: usize,
     ) -> u64;
     fn library_find_input(
         table: In, table_length: usize, group: In, group_length: usize, letter: u32, out: *mut u64,
@@ -169,6 +188,8 @@ pub fn is_table(table: &[u8]) -> bool {
 
 impl<'a> Question<'a> {
     pub fn new(asked: &Asked<'a>) -> Question<'a> {
+        let (roles, role_lengths): (Vec<In>, Vec<usize>) =
+            asked.roles.iter().map(|role| (role.as_ptr(), role.len())).unzip();
         // SAFETY: as above; the parts live as long as the question.
         let made = unsafe {
             calls::library_question(
@@ -178,6 +199,9 @@ impl<'a> Question<'a> {
                 asked.user.len(),
                 asked.host.as_ptr(),
                 asked.host.len(),
+                roles.as_ptr(),
+                role_lengths.as_ptr(),
+                roles.len(),
                 asked.level,
                 asked.states.as_ptr(),
                 asked.states.len(),
@@ -218,9 +242,7 @@ impl Drop for Question<'_> {
 
 /// By the header's question, and by the number of the proved function.
 pub fn decide(table: &[u8], asked: &Asked) -> Decision {
-    let decision = Question::new(asked).decide(table);
-    // SAFETY: any bytes may be asked.
-    beside(decision, unsafe { decide_number(false, table, asked) })
+    beside(Question::new(asked).decide(table), decide_pool(table, asked, &Pool::of(asked.roles)))
 }
 
 /// The same without the check.
@@ -228,15 +250,36 @@ pub fn decide(table: &[u8], asked: &Asked) -> Decision {
 /// # Safety
 /// `is_table` has said so of these bytes.
 pub unsafe fn decide_checked(table: &[u8], asked: &Asked) -> Decision {
-    beside(Question::new(asked).decide_checked(table), decide_number(true, table, asked))
+    let number = decide_pool_checked(table, asked, &Pool::of(asked.roles));
+    beside(Question::new(asked).decide_checked(table), number)
+}
+
+/// The proved function's number; the roles are those of the pool.
+pub fn decide_pool(table: &[u8], asked: &Asked, pool: &Pool) -> u64 {
+    // SAFETY: any bytes may be asked.
+    unsafe { decide_number(false, table, asked, pool) }
+}
+
+/// The same without the check.
+///
+/// # Safety
+/// `is_table` has said so of these bytes.
+pub unsafe fn decide_pool_checked(table: &[u8], asked: &Asked, pool: &Pool) -> u64 {
+    decide_number(true, table, asked, pool)
+}
+
+impl Decision {
+    /// As the proved function answers it.
+    pub fn number(&self) -> u64 {
+        self.access | u64::from(self.trap) << 2 | self.refusal << 48
+    }
 }
 
 fn beside(decision: Decision, number: u64) -> Decision {
-    let packed = decision.access | u64::from(decision.trap) << 2 | decision.refusal << 48;
-    Decision { agrees: number == packed, ..decision }
+    Decision { agrees: number == decision.number(), ..decision }
 }
 
-unsafe fn decide_number(checked: bool, table: &[u8], asked: &Asked) -> u64 {
+unsafe fn decide_number(checked: bool, table: &[u8], asked: &Asked, pool: &Pool) -> u64 {
     calls::library_decide_number(
         checked.into(),
         table.as_ptr(),
@@ -247,6 +290,10 @@ unsafe fn decide_number(checked: bool, table: &[u8], asked: &Asked) -> u64 {
         asked.user.len(),
         asked.host.as_ptr(),
         asked.host.len(),
+        pool.bytes.as_ptr(),
+        pool.bytes.len(),
+        pool.lengths.as_ptr(),
+        pool.lengths.len(),
         asked.level,
         asked.states.as_ptr(),
         asked.states.len(),

@@ -57,9 +57,10 @@ void library_list_warnings(const uint8_t *text, size_t text_length, size_t skip,
 int library_is_table(const uint8_t *table, size_t table_length) { return hrazvanut_is_table(table_of(table, table_length)); }
 
 /* A question for as long as it is asked. As the arrays say it: never heard past the end of the states, not a number past the end of the
- * values. */
+ * values. Of the roles those that there is room for; their number is told as it is. */
 struct hrazvanut_question *library_question(const uint8_t *group, size_t group_length, const uint8_t *user, size_t user_length,
-                                            const uint8_t *host, size_t host_length, uint32_t level, const uint8_t *states,
+                                            const uint8_t *host, size_t host_length, const uint8_t *const *roles,
+                                            const size_t *role_lengths, size_t role_count, uint32_t level, const uint8_t *states,
                                             size_t states_length, const double *values, size_t values_length)
 {
     struct hrazvanut_question *question = malloc(sizeof *question);
@@ -70,7 +71,10 @@ struct hrazvanut_question *library_question(const uint8_t *group, size_t group_l
         .user = text_of(user, user_length),
         .host = text_of(host, host_length),
         .level = level,
+        .role_count = role_count,
     };
+    for (size_t i = 0; i < HRAZVANUT_ROLES && i < role_count; i++)
+        question->roles[i] = text_of(role_lengths[i] ? roles[i] : NULL, role_lengths[i]);
     for (size_t i = 0; i < HRAZVANUT_READINGS; i++) {
         question->readings[i].state = i < states_length ? (enum hrazvanut_state)states[i] : HRAZVANUT_NEVER_HEARD;
         question->readings[i].value = i < values_length ? values[i] : (double)NAN;
@@ -93,12 +97,13 @@ void library_decide(int checked, const uint8_t *table, size_t table_length, cons
 
 /* The proved function's number, on arrays of any lengths. */
 uint64_t library_decide_number(int checked, const uint8_t *table, size_t table_length, const uint8_t *group, size_t group_length,
-                               const uint8_t *user, size_t user_length, const uint8_t *host, size_t host_length, uint32_t level,
-                               const uint8_t *states, size_t states_length, const double *values, size_t values_length)
+                               const uint8_t *user, size_t user_length, const uint8_t *host, size_t host_length,
+                               const uint8_t *roles, size_t roles_length, const uint8_t *lengths, size_t lengths_length,
+                               uint32_t level, const uint8_t *states, size_t states_length, const double *values, size_t values_length)
 {
-    return (checked ? hrazvanut_abi_decide_checked : hrazvanut_abi_decide)(table, table_length, group, group_length, user, user_length,
-                                                                           host, host_length, level, states, states_length, values,
-                                                                           values_length);
+    return (checked ? hrazvanut_abi_decide_roles_checked : hrazvanut_abi_decide_roles)(
+        table, table_length, group, group_length, user, user_length, host, host_length, roles, roles_length, lengths, lengths_length,
+        level, states, states_length, values, values_length);
 }
 
 /* refusal, place, length; whether the name is the part of the table that starts there */

@@ -4,7 +4,8 @@
 //! The modules follow the paper's headings: `text` (tokens), `grammar`,
 //! `file` (refusals 5 to 10 and warnings), `table` (bytes and check),
 //! `question` (decision and look-up), `calculation`, `programs`. `register` is
-//! document 02's first request, `script` its calls as lines.
+//! document 02's first request, `script` its calls as lines; its second, roles,
+//! is part of `question`.
 #![forbid(unsafe_code)]
 
 pub mod calculation;
@@ -40,6 +41,10 @@ pub const LETTERS: usize = 21;
 
 /// Places of the register.
 pub const PLACES: usize = 64;
+
+/// Limits of refusal 26.
+pub const ROLES: usize = 16;
+pub const ROLE_BYTES: usize = 60;
 
 /// A load's refusal: its number, and its place (for 11 the bytes needed).
 #[derive(Clone, Copy, Debug, PartialEq, Eq)]

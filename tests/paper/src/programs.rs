@@ -70,6 +70,7 @@ pub fn question(line: &[u8]) -> Option<Question<'_>> {
         group: if *group == b"-" { b"" } else { group },
         user,
         host,
+        roles: &[],
         level: (digit - b'0').into(),
         readings: readings(given)?,
     })

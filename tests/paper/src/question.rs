@@ -2,7 +2,7 @@
 
 use crate::calculation::{holds, parse, Readings};
 use crate::table::{is_table, Run, StoredRule, Text, View, ACCESS_GROUPS, UNDEFINED};
-use crate::LETTERS;
+use crate::{LETTERS, ROLES, ROLE_BYTES};
 
 #[derive(Clone, Copy, Debug, PartialEq, Eq, PartialOrd, Ord)]
 pub enum Access {
@@ -23,13 +23,14 @@ pub struct Question<'a> {
     pub group: &'a [u8],
     pub user: &'a [u8],
     pub host: &'a [u8],
+    pub roles: &'a [Vec<u8>],
     pub level: u32,
     pub readings: Readings,
 }
 
 pub const NOTHING: Answer = Answer { access: Access::None, trap: false };
 
-/// The answer, or refusal 20 or 21.
+/// The answer, or refusal 20, 21 or 26.
 pub fn decide(table: &[u8], question: &Question) -> Result<Answer, u8> {
     if !is_table(table) {
         return Err(20);
@@ -41,6 +42,9 @@ pub fn decide(table: &[u8], question: &Question) -> Result<Answer, u8> {
 pub fn decide_checked(table: &[u8], question: &Question) -> Result<Answer, u8> {
     if question.level > 1 {
         return Err(21);
+    }
+    if question.roles.len() > ROLES || question.roles.iter().any(|role| role.len() > ROLE_BYTES) {
+        return Err(26);
     }
     let view = View::open(table).ok_or(20)?;
     let Some(group) = answering_group(&view, question.group) else { return Ok(NOTHING) };
@@ -77,18 +81,31 @@ fn passes(view: &View, rule: &StoredRule, question: &Question) -> bool {
     let host = question.host.to_ascii_lowercase();
     !rule.is_switched_off()
         && question.level as usize <= rule.level()
-        && is_named(view, rule.users, |n| view.user_group(n).1, question.user)
-        && is_named(view, rule.hosts, |n| view.host_group(n).1, &host)
+        && has_member(view, rule.users, |n| view.user_group(n).1, |member| is_user(member, question))
+        && has_member(view, rule.hosts, |n| view.host_group(n).1, |member| member == host)
         && calculation_holds(view, rule, question)
 }
 
-/// A member of one of the groups, or no groups named.
-fn is_named(view: &View, (first, count): Run, members: impl Fn(usize) -> Run, name: &[u8]) -> bool {
+/// Document 02's second request: `role/` and a role, else the user's name.
+fn is_user(member: &[u8], question: &Question) -> bool {
+    match member.strip_prefix(b"role/") {
+        Some(wanted) => question.roles.iter().any(|role| role == wanted),
+        None => member == question.user,
+    }
+}
+
+/// One of the groups has such a member, or no groups are named.
+fn has_member(
+    view: &View,
+    (first, count): Run,
+    members: impl Fn(usize) -> Run,
+    is_client: impl Fn(&[u8]) -> bool,
+) -> bool {
     count == 0
         || (first..first + count).map(|n| view.reference(n).0).any(|group| {
             group != UNDEFINED.into() && {
                 let (first, count) = members(group);
-                (first..first + count).any(|n| view.string(view.member(n)) == name)
+                (first..first + count).any(|n| is_client(view.string(view.member(n))))
             }
         })
 }

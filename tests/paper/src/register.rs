@@ -105,13 +105,15 @@ impl Register {
         std::array::from_fn(|place| self.clients[place].as_ref().map_or(NOTHING, right))
     }
 
-    /// What a question with the answering group's readings would answer.
+    /// What a question with the answering group's readings, and no roles, would
+    /// answer.
     fn right_of(&self, view: &View, table: &[u8], client: &Client) -> Answer {
         let group = answering_group(view, &client.group);
         let question = Question {
             group: &client.group,
             user: &client.user,
             host: &client.host,
+            roles: &[],
             level: client.level,
             readings: group.map_or(NEVER_HEARD, |number| self.readings[number]),
         };

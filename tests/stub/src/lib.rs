@@ -5,12 +5,15 @@
 
 mod exports;
 mod register;
+mod roles;
 
 use paper::{Access, Answer, Question, Reading, Refusal, LETTERS};
+use roles::Given;
 use std::sync::OnceLock;
 
 /// Whether this fault is the chosen one. 1 to 22 are of the library, 23 to 38
-/// of the asker, 39 to 44 of the checker, 45 to 83 of the library's register.
+/// of the asker, 39 to 44 of the checker, 45 to 83 of the library's register,
+/// 84 to 104 of the library's roles, 105 of the asker's.
 pub fn fault(number: u32) -> bool {
     static CHOSEN: OnceLock<u32> = OnceLock::new();
     let chosen = CHOSEN.get_or_init(|| {
@@ -147,6 +150,12 @@ fn asked(mut question: Question) -> Question {
     if fault(15) && question.host.iter().any(u8::is_ascii_uppercase) {
         question.host = b"\n"; // not lowered
     }
+    if fault(86) && question.host.starts_with(b"role/") {
+        question.host = b"\n"; // a host member taken for a role
+    }
+    if fault(104) && question.user.starts_with(b"Role/") {
+        question.user = b"\n"; // the prefix in any case
+    }
     if fault(16) && question.group.len() == 60 {
         question.group = b""; // the longest name not found
     }
@@ -156,10 +165,13 @@ fn asked(mut question: Question) -> Question {
     question
 }
 
-unsafe fn decision(table: &[u8], question: Question, checked: bool) -> u64 {
-    let question = asked(question);
+unsafe fn decision(table: &[u8], question: Question, given: &Given, checked: bool) -> u64 {
+    let roles = given.roles(&question, checked);
+    let question = asked(Question { roles: &roles, ..question });
     let answer = if fault(18) && question.level > 1 {
         Err(21) // 21 before 20
+    } else if given.refused_early(&question) {
+        Err(26)
     } else if checked || is_table(table) {
         paper::decide_checked(table, &question)
     } else {
@@ -191,6 +203,10 @@ macro_rules! decision {
             user_len: usize,
             host: *const u8,
             host_len: usize,
+            roles: *const u8,
+            roles_len: usize,
+            lengths: *const u8,
+            lengths_len: usize,
             level: u32,
             states: *const u8,
             states_len: usize,
@@ -201,16 +217,18 @@ macro_rules! decision {
                 group: part(group, group_len),
                 user: part(user, user_len),
                 host: part(host, host_len),
+                roles: &[],
                 level,
                 readings: readings(part(states, states_len), part(values, values_len)),
             };
-            decision(part(table, table_len), question, $checked)
+            let given = Given { bytes: part(roles, roles_len), lengths: part(lengths, lengths_len) };
+            decision(part(table, table_len), question, &given, $checked)
         }
     };
 }
 
-decision!(hrazvanut_abi_decide, false);
-decision!(hrazvanut_abi_decide_checked, true);
+decision!(hrazvanut_abi_decide_roles, false);
+decision!(hrazvanut_abi_decide_roles_checked, true);
 
 #[no_mangle]
 pub unsafe extern "C" fn hrazvanut_abi_find_input(

@@ -1,12 +1,12 @@
-//! The register over `paper` in lent bytes, with the faults 45 to 83. A place's
-//! record is laid out as this stub likes: taken, right, level, the
-//! three lengths, the three names.
+//! The register over `paper` in lent bytes, with the faults 45 to 83 and 103. A
+//! place's record is laid out as this stub likes: taken, right, level, the three
+//! lengths, the three names.
 
 use crate::fault;
 use paper::question::NOTHING;
 use paper::register::{changed, Rights};
 use paper::table::{View, ACCESS_GROUPS};
-use paper::{Access, Answer, Client, Reading, Refusal, Register, LETTERS, NAME_BYTES, PLACES};
+use paper::{Access, Answer, Client, Question, Reading, Refusal, Register, LETTERS, NAME_BYTES, PLACES};
 
 const RECORD: usize = 448;
 const READINGS: usize = 64 * LETTERS;
@@ -155,14 +155,42 @@ fn rights(register: &Register, table: &[u8]) -> Rights {
             }
         }
     }
+    if fault(103) && paper::is_table(table) {
+        give_roles(register, table, &mut rights);
+    }
     rights
 }
 
+/// A client has the role that its name says.
+fn give_roles(register: &Register, table: &[u8], rights: &mut Rights) {
+    for (client, right) in register.clients.iter().zip(rights) {
+        if let Some(client) = client.as_ref().filter(|c| c.user.starts_with(b"role/")) {
+            *right = with_role(register, table, client);
+        }
+    }
+}
+
+fn with_role(register: &Register, table: &[u8], client: &Client) -> Answer {
+    let group = defined(table, &client.group).or_else(|| defined(table, b"DEFAULT"));
+    let question = Question {
+        group: &client.group,
+        user: &client.user,
+        host: &client.host,
+        roles: &[client.user[5..].to_vec()],
+        level: client.level,
+        readings: group.map_or([Reading::NeverHeard; LETTERS], |number| register.readings[number]),
+    };
+    paper::decide_checked(table, &question).unwrap_or(NOTHING)
+}
+
+/// The number of the first group of that name.
+fn defined(table: &[u8], group: &[u8]) -> Option<usize> {
+    let view = View::open(table).filter(|_| paper::is_table(table))?;
+    (0..view.count(ACCESS_GROUPS)).find(|n| view.string(view.access_group(*n).0) == group)
+}
+
 fn is_defined(table: &[u8], group: &[u8]) -> bool {
-    paper::is_table(table)
-        && View::open(table).is_some_and(|view| {
-            (0..view.count(ACCESS_GROUPS)).any(|n| view.string(view.access_group(n).0) == group)
-        })
+    defined(table, group).is_some()
 }
 
 /// A client as it is given, with the faults that misread it.

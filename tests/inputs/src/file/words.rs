@@ -22,8 +22,30 @@ pub fn one_of(random: &mut Random, texts: &[&str]) -> Token {
 
 pub const GROUP_NAMES: [&str; 14] =
     ["a", "b", "c", "op", "OP", "Op", "icr", "cr", "DEFAULT", "default", "x.y", "LI:OP", "[z]", "uag"];
-pub const MEMBER_NAMES: [&str; 14] =
-    ["ann", "bob", "Ann", "ANN", "pc1", "PC1", "Pc2", "gw-1", "10.0.0.7", "1e5", "INPV", "rule", "a", "<x;>"];
+pub const MEMBER_NAMES: [&str; 22] = [
+    "ann",
+    "bob",
+    "Ann",
+    "ANN",
+    "pc1",
+    "PC1",
+    "Pc2",
+    "gw-1",
+    "10.0.0.7",
+    "1e5",
+    "INPV",
+    "rule",
+    "a",
+    "<x;>",
+    "\"role/op\"",
+    "\"role/op\"",
+    "\"role/ann\"",
+    "\"role/\"",
+    "\"Role/op\"",
+    "\"role/role/op\"",
+    "\"role\"",
+    "\"role/xxxxxxxxxxxxxxxxxxxxxxxxxxxxxxxxxxxxxxxxxxxxxxxxxxxxxxx\"",
+];
 pub const QUOTED_NAMES: [&str; 14] = [
     "\"\"",
     "\"UAG\"",

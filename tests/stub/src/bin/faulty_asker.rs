@@ -1,4 +1,5 @@
-//! The asker by `paper`, with a fault of its own: HRAZVANUT_FAULT, 23 to 38.
+//! The asker by `paper`, with a fault of its own: HRAZVANUT_FAULT, 23 to 38 and
+//! 105.
 
 use std::io::{self, Read, Write};
 use stub::fault;
@@ -33,6 +34,13 @@ fn misread(line: &[u8]) -> Option<Vec<u8>> {
     })
 }
 
+/// With another prefix, so that a role member is a user's name.
+fn without_roles(text: &[u8]) -> Vec<u8> {
+    let begins = |place: usize| text[place..].starts_with(b"role/");
+    let other = |(place, byte): (usize, &u8)| if place > 0 && begins(place - 1) { b'u' } else { *byte };
+    text.iter().enumerate().map(other).collect()
+}
+
 /// All of standard input; with fault 34 a short read is taken for its end.
 fn input() -> io::Result<Vec<u8>> {
     let mut stdin = io::stdin().lock();
@@ -55,6 +63,9 @@ fn main() -> io::Result<()> {
         text.truncate(16_384); // a longer file is cut
     }
     let mut all = input()?;
+    for text in rules.as_mut().into_iter().chain([&mut all]).filter(|_| fault(105)) {
+        *text = without_roles(text);
+    }
     if fault(37) && !all.ends_with(b"\n") {
         let end = all.iter().rposition(|b| *b == b'\n').map_or(0, |place| place + 1);
         all.truncate(end);
