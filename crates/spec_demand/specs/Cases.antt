@@ -13,7 +13,6 @@ use Rattle.spec_token.specs.Word.{greatest-letter}
 use Rattle.spec_calc.specs.declared.Reading.{Reading}
 use Rattle.spec_calc.specs.declared.Reading.the-variants.{NeverHeard, Value}
 use Rattle.spec_calc.specs.Symbol.{decimal}
-use Rattle.spec_calc.specs.Reader.{run}
 use Rattle.spec_rule.specs.declared.Access.the-variants as access
 use Rattle.spec_rule.specs.Decision.{with-trap}
 use Rattle.spec_rule.specs.Question.{Question, asking, question-of}

@@ -3,7 +3,7 @@ use mathlib.Core.Path.{_≡_}
 use mathlib.Core.Bool.{Bool, true, false}
 use mathlib.Core.List.{List}
 use mathlib.Core.Option.{none, some}
-use Prim.Native.Nat.{ℕ, _≤_}
+use Prim.Native.Nat.{ℕ}
 use Rattle.spec_lists.specs.Every.{Every}
 use Rattle.spec_grammar.specs.declared.Role.the-variants.{UnknownPredicate}
 use Rattle.spec_grammar.specs.Sentence.{Tagged}

@@ -1,7 +1,7 @@
 use Rattle.api_script.specs.declared.Reply.the-variants as reply
 use lib.ListN.{length}
 use native.Mathlib.Omega.{arith}
-use mathlib.Core.Path.{_≡_, ap, _∙_}
+use mathlib.Core.Path.{_≡_, ap}
 use borrow.Author.Needs.{needs}
 use Rattle.api_calls.proofs.call_on_table.Statement.{statement}
 use Rattle.api_calls.proofs.call_on_table.Tie as tie

@@ -19,7 +19,7 @@ use Rattle.spec_demand.specs.Calls.{load-text, list-warnings, hold}
 use Rattle.spec_calc.specs.States.{readings}
 use Rattle.api_script.specs.declared.Reply.{Reply}
 use Rattle.api_script.specs.declared.Reply.the-variants as reply
-use Rattle.api_script.specs.Script.{Script, word, text-at, reading-calls, call-of, call-at, calls-from, calls}
+use Rattle.api_script.specs.Script.{Script, word, text-at, reading-calls, call-of, call-at, calls-from}
 use Rattle.api_script.specs.Replies.{answer-to, Lent, lent-of, left-by, left-by-calls, Made}
 
 -- ---- parts of a text

@@ -9,7 +9,7 @@ use lib.ListN.{length, drop, length-set}
 use native.Mathlib.Omega.{arith}
 use Prim.Native.Nat.{_+_, _≤_, _-_}
 use mathlib.Core.List.{[]}
-use mathlib.Core.Path.{_≡_, refl, sym, ap, _∙_}
+use mathlib.Core.Path.{_≡_, refl, ap, _∙_}
 use borrow.Author.Needs.{needs}
 use Rattle.ask_kept.proofs.keep.Statement.{statement}
 use Rattle.ask_kept.proofs.keep.Tie as tie

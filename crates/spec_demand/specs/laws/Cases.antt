@@ -1,12 +1,6 @@
 -- The cases, proved by computation from the texts.
-use mathlib.Core.Path.{_≡_, refl}
-use mathlib.Core.Bool.{Bool, true, false}
-use mathlib.Core.List.{List, _∷_}
-use mathlib.Core.Option.{some}
-use Prim.Native.Nat.{ℕ, _+_}
-use Prim.Native.String.{String}
-use lib.ListN.{replicate}
-use lib.Ieee.{Float, nan, ne, lt, le, eq, add, sub, mul, div, neg, ofBits, ofInt}
+use mathlib.Core.Path.{refl}
+use lib.Ieee.{ne, lt, le, eq, add, sub, mul, div, neg, ofBits, ofInt}
 use Rattle.spec_token.specs.Scanner.{scan}
 use Rattle.spec_calc.specs.Scanner.{symbols-in}
 use Rattle.spec_calc.specs.Value.{value}

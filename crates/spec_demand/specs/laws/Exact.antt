@@ -2,9 +2,7 @@
 use mathlib.Core.Path.{_≡_, refl, ap, _∙_}
 use mathlib.Core.Bool.{true, false}
 use mathlib.Core.List.{List, _++_}
-use mathlib.Core.Option.{some}
 use Prim.Native.Nat.{ℕ, _≤_, _<_}
-use native.Mathlib.Omega.{arith}
 use lib.ListN.{length, drop, replicate}
 use borrow.Author.Tests.{le-leb, lt-leb}
 use Rattle.spec_grammar.specs.Sentence.{Tagged}
@@ -21,9 +19,7 @@ use Rattle.spec_table.specs.Layout.{greatest-table}
 use Rattle.spec_table.specs.laws.Accepted.{fits}
 use Rattle.spec_table.specs.laws.Theorem.{is-a-table, table-length, zeros-no-table}
 use Rattle.spec_load.specs.Load.{written, without-room, load}
-use Rattle.spec_decision.specs.declared.Answer.{Answer}
-use Rattle.spec_decision.specs.declared.Answer.the-variants.{Answered, NotTable, BadLevel, BadRoles}
-use Rattle.spec_decision.specs.Decision.{number, access-in, trap-in, decide}
+use Rattle.spec_decision.specs.Decision.{access-in, trap-in, decide}
 use Rattle.spec_decision.specs.LookUp.{look-up}
 use Rattle.spec_demand.specs.ByFile.{answer-by-file, input-by-file, name-found}
 use Rattle.spec_demand.specs.laws.Inputs.{looked-up}

@@ -1,6 +1,6 @@
 -- Our rules against the later edition's, rule by rule and then for the access.
 use mathlib.Core.Path.{_≡_, refl, sym, ap}
-use mathlib.Core.Bool.{Bool, true, false, cond, not, _&&_, false≢true}
+use mathlib.Core.Bool.{Bool, true, false, not, _&&_, false≢true}
 use mathlib.Core.List.{List, [], _∷_, map}
 use mathlib.Core.Option.{Option, none, some}
 use Prim.Native.Nat.{ℕ, _≤_}
@@ -14,7 +14,6 @@ use Rattle.spec_calc.specs.Expression.{Tree}
 use Rattle.spec_calc.specs.Readings.{Gone-bad}
 use Rattle.spec_calc.specs.laws.Readings.{bad-never-true}
 use Rattle.spec_calc.specs.Reader.{tree-of}
-use Rattle.spec_rule.specs.declared.Access.{Access}
 use Rattle.spec_rule.specs.declared.Access.the-variants as access
 use Rattle.spec_rule.specs.Question.{Question, reading-instead}
 use Rattle.spec_rule.specs.Rule.{Rule, rank, belongs, matches-question, true-tree, calculation-holds, asks, passes, greater, greatest, access-by}

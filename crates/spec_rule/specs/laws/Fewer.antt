@@ -15,7 +15,7 @@ use Rattle.spec_lists.specs.laws.Same.{unchanged}
 use Rattle.spec_rule.specs.declared.Access.{Access}
 use Rattle.spec_rule.specs.Roles.{role-prefix}
 use Rattle.spec_rule.specs.Question.{Question, with-roles}
-use Rattle.spec_rule.specs.Rule.{Rule, rank, belongs, begins, matches-client, matches-question, calculation-holds, asks, passes, greater, greatest, access-by}
+use Rattle.spec_rule.specs.Rule.{Rule, rank, belongs, begins, matches-question, calculation-holds, asks, passes, greater, greatest, access-by}
 
 -- ---- the greatest of fewer
 

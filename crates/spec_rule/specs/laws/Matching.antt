@@ -1,7 +1,7 @@
 -- Which members match: a text that begins with given bytes, and 02's roles.
 use mathlib.Core.Path.{_≡_, refl, sym, ap, _∙_}
 use mathlib.Core.Bool.{Bool, true, false, cond, false≢true}
-use mathlib.Core.List.{List, [], _∷_, _++_}
+use mathlib.Core.List.{List, _++_}
 use mathlib.Core.Logic.{_↔_}
 use Prim.Native.Nat.{ℕ}
 use lib.ListN.{length, take, drop, take-append-drop}
@@ -18,7 +18,7 @@ pub begins-with : (p s : List ℕ) → begins p s ≡ true → s ≡ p ++ drop (
 begins-with p s e =
     sym (take-append-drop (length p) s) ∙ ap (λ (l : List ℕ). l ++ drop (length p) s) (sym (same-true p (take (length p) s) e))
 
-pub begins-so : (p s rest : List ℕ) → s ≡ p ++ rest → begins p s ≡ true
+begins-so : (p s rest : List ℕ) → s ≡ p ++ rest → begins p s ≡ true
 begins-so p s rest e = rw (e, take-append-seam p rest) (same-self p)
 
 module _ (user : List ℕ) (roles : List (List ℕ)) (member : List ℕ) where

@@ -6,9 +6,9 @@ use mathlib.Core.Logic.{_↔_, _⊎_, inl, inr}
 use mathlib.Core.Option.{Option, none, some}
 use Prim.Native.Nat.{ℕ}
 use native.Mathlib.Omega.{arith}
-use lib.Dec.{leb, eqb}
+use lib.Dec.{leb}
 use lib.Ieee.{lt}
-use borrow.Author.Tests.{leb-true, le-leb, eqb-true, eq-eqb, not-true}
+use borrow.Author.Tests.{leb-true, le-leb, eqb-true, not-true}
 use Rattle.spec_lists.specs.Text.{same, lowered}
 use Rattle.spec_lists.specs.Select.{all, any, select, prepend-if, first, first-if}
 use Rattle.spec_lists.specs.laws.Both.{both}

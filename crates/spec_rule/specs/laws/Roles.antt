@@ -65,7 +65,7 @@ valid-is q = (
 
 -- ---- as they are lent
 
-pub cut-all : (roles : List (List ℕ)) (rest : List ℕ) → cut-roles (joined roles ++ rest) (map length roles) ≡ roles
+cut-all : (roles : List (List ℕ)) (rest : List ℕ) → cut-roles (joined roles ++ rest) (map length roles) ≡ roles
 cut-all [] rest = refl
 cut-all (r ∷ roles) rest =
     let e = append-assoc r (joined roles) rest in
