@@ -1,4 +1,5 @@
--- The value of a calculation, and when it is true. 01, "The calculation".
+-- The value of a calculation, and when it is true. 01, "The calculation"; 02, ticket 3.
+use mathlib.Core.Path.{_≡_}
 use mathlib.Core.Bool.{Bool, true, false, cond, not, _&&_, _||_}
 use mathlib.Core.List.{List, [], _∷_, _++_}
 use mathlib.Core.Option.{Option, none, some}
@@ -7,6 +8,7 @@ use lib.ListN.{getD}
 use lib.Ieee as Ieee
 use lib.Ieee.{Float, nan, inf, fin, binary64, ofBits}
 use Rattle.spec_lists.specs.Select.{all}
+use Rattle.spec_lists.specs.Every.{Every}
 use Rattle.spec_calc.specs.declared.Operator.{Operator}
 use Rattle.spec_calc.specs.declared.Operator.the-variants.{Or, And, Less, AtMost, More, AtLeast, Equal, Differs, Plus, Minus, Times, Over}
 use Rattle.spec_calc.specs.declared.Reading.{Reading}
@@ -54,7 +56,7 @@ heard NeverHeard = zero-value
 heard Invalid = zero-value
 heard (Value x) = x
 
--- 01: "only the chosen branch counts"
+-- 01: "only the chosen branch counts". An infinite or not-a-number value goes on by IEEE 754, but then the whole is bad (finite-throughout).
 unfoldable pub value : List Reading → Tree → Float
 value rs (number-tree x) = x
 value rs (letter-tree i) = heard (reading rs i)
@@ -63,6 +65,7 @@ value rs (negation t) = truth (not (is-true (value rs t)))
 value rs (binary o t u) = apply o (value rs t) (value rs u)
 value rs (choice c x y) = cond (is-true (value rs c)) (value rs x) (value rs y)
 
+-- neither infinite nor not-a-number
 abbrev pub finite : Float → Bool
 finite nan = false
 finite (inf s) = false
@@ -83,9 +86,25 @@ letters (negation t) = letters t
 letters (binary o t u) = letters t ++ letters u
 letters (choice c x y) = letters c ++ (letters x ++ letters y)
 
--- bad, 01: "If any letter in the text, in either branch, has a bad reading"; else the value
+-- the parts of a calculation that are evaluated, itself first. 02: "both sides of `&&` and `||` are evaluated, the branch not chosen isn't"
+unfoldable pub evaluated : List Reading → Tree → List Tree
+evaluated rs (number-tree x) = number-tree x ∷ []
+evaluated rs (letter-tree i) = letter-tree i ∷ []
+evaluated rs (minus t) = minus t ∷ evaluated rs t
+evaluated rs (negation t) = negation t ∷ evaluated rs t
+evaluated rs (binary o t u) = binary o t u ∷ (evaluated rs t ++ evaluated rs u)
+evaluated rs (choice c x y) = choice c x y ∷ (evaluated rs c ++ cond (is-true (value rs c)) (evaluated rs x) (evaluated rs y))
+
+-- no evaluated part has "an infinite or not-a-number value"; as a statement, and as the test that decides it
+abbrev pub Finite-parts : List Reading → Tree → Type 0
+Finite-parts rs t = Every (λ u. finite (value rs u) ≡ true) (evaluated rs t)
+
+abbrev pub finite-throughout : List Reading → Tree → Bool
+finite-throughout rs t = all (λ u. finite (value rs u)) (evaluated rs t)
+
+-- bad, 01: "If any letter in the text, in either branch, has a bad reading"; bad too, 02: "An infinite or not-a-number value of any evaluated part"; else the value
 abbrev pub tree-worth : List Reading → Tree → Worth
-tree-worth rs t = cond (all (λ i. good (reading rs i)) (letters t)) (Is (value rs t)) Bad
+tree-worth rs t = cond (all (λ i. good (reading rs i)) (letters t)) (cond (finite-throughout rs t) (Is (value rs t)) Bad) Bad
 
 -- of what a text says, if it is a calculation
 abbrev pub worth : List Reading → Option Tree → Worth
@@ -103,7 +122,7 @@ upper-bound = ofBits binary64 0x3ff0_28f5_c28f_5c29
 abbrev pub near-one : Float → Bool
 near-one x = Ieee.lt lower-bound x && Ieee.lt x upper-bound
 
--- 01: "[..] has a bad reading, the calculation is false. Otherwise it is true exactly if 0.99 < result < 1.01"
+-- 01: "[..] has a bad reading, the calculation is false. Otherwise it is true exactly if 0.99 < result < 1.01"; 02: "makes the whole calculation false"
 abbrev pub true-worth : Worth → Bool
 true-worth NoCalculation = false
 true-worth Bad = false

@@ -1,5 +1,6 @@
 pub mod Bounds
 pub mod Complete
+pub mod Evaluated
 pub mod Numeral
 pub mod Readings
 pub mod Sound

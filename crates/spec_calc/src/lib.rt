@@ -5,7 +5,7 @@ pub enum Reading {
     Value(f64),
 }
 
-// What a text comes to: no calculation; bad, where a letter of it has a bad reading; or a value.
+// What a text comes to: no calculation; bad, where a letter of it has a bad reading or an evaluated part of it is not finite; or a value.
 pub enum Worth {
     NoCalculation,
     Bad,

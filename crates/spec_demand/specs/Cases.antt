@@ -1,18 +1,19 @@
--- 01, "Proved and run cases": those that are proved, together as a single list; and 001's example of a role. Each is computed from its text by the
--- definitions.
+-- 01, "Proved and run cases": those that are proved, together as a single list; 02's of request 3; and 001's example of a role. Each is computed from its
+-- text by the definitions.
 use mathlib.Core.Path.{_≡_}
 use mathlib.Core.Bool.{Bool, true, false}
 use mathlib.Core.List.{List, [], _∷_, map}
 use mathlib.Core.Option.{some}
-use Prim.Native.Nat.{ℕ, _+_}
+use Prim.Native.Nat.{ℕ, _+_, _-_}
 use Prim.Native.String.{String}
 use lib.ListN.{replicate}
-use lib.Ieee.{Float, nan}
+use lib.Ieee.{Float, nan, binary64, ofBits}
 use Rattle.spec_lists.specs.Text.{bytes}
 use Rattle.spec_token.specs.Word.{greatest-letter}
 use Rattle.spec_calc.specs.declared.Reading.{Reading}
 use Rattle.spec_calc.specs.declared.Reading.the-variants.{NeverHeard, Value}
 use Rattle.spec_calc.specs.Symbol.{decimal}
+use Rattle.spec_calc.specs.Value.{zero-value, one-value}
 use Rattle.spec_rule.specs.declared.Access.the-variants as access
 use Rattle.spec_rule.specs.Decision.{with-trap}
 use Rattle.spec_rule.specs.Question.{Question, asking, question-of}
@@ -56,17 +57,59 @@ pub record Proved-cases : Type 0 where
   pub question-2 : asked site (ann "" 1 (heard-a nan)) ≡ Answered (with-trap access.Read false)
   pub question-3 : asked site (ann "" 1 silent) ≡ Answered (with-trap access.Read false)
   pub question-4 : asked site (ann "" 2 (heard-a (decimal 25 2))) ≡ BadLevel
-  -- "`0.99`, `1.01` and `99/100` false, `1` true; `0/0>1?0:1` true"
+  -- "`0.99`, `1.01` and `99/100` false, `1` true"; 02: "the case `0/0>1?0:1`, now false"
   pub under-bound : true-of "0.99" ≡ false
   pub over-bound : true-of "1.01" ≡ false
   pub under-by-division : true-of "99/100" ≡ false
   pub one : true-of "1" ≡ true
-  pub not-a-number : true-of "0/0>1?0:1" ≡ true
+  pub not-a-number : true-of "0/0>1?0:1" ≡ false
   -- "level 0 against RULE(1,WRITE) passes, level 1 against RULE(0,WRITE) doesn't"
   pub lower-level : asked "ASG(DEFAULT) {RULE(1,WRITE)}" (ann "" 0 silent) ≡ Answered (with-trap access.Write false)
   pub higher-level : asked "ASG(DEFAULT) {RULE(0,WRITE)}" (ann "" 1 silent) ≡ Answered (with-trap access.None false)
   -- "a group never defined, without DEFAULT, gives NONE"
   pub no-group : asked "ASG(lift) {RULE(1,WRITE)}" (ann "door" 0 silent) ≡ Answered (with-trap access.None false)
+
+-- A and B heard
+abbrev pub heard-both : Float → Float → List Reading
+heard-both x y = Value x ∷ Value y ∷ replicate (greatest-letter - 1) NeverHeard
+
+abbrev pub true-with : Float → Float → String → Bool
+true-with x y s = calculation-holds (heard-both x y) (some (bytes s))
+
+-- 1 followed by 200 zeros
+abbrev pub huge : Float
+huge = ofBits binary64 0x6974_e718_d7d7_625a
+
+-- "A drift ratio `A/B`", and a rule that writes while it is small
+abbrev pub drift : String
+drift = "ASG(DEFAULT) {INPA(B1:DX) INPB(B1:DY) RULE(1,READ) RULE(1,WRITE) {CALC(\"!(A/B>0.5)\")}}"
+
+-- 02, ticket 3. By 01 alone those that are false would be true, and zero over zero would write.
+pub record Arithmetic-cases : Type 0 where
+  -- "with both readings zero gave a grant through `!(A/B>0.5)`, though each reading was good"
+  pub moving : asked drift (ann "" 1 (heard-both one-value one-value)) ≡ Answered (with-trap access.Read false)
+  pub calm : asked drift (ann "" 1 (heard-both zero-value one-value)) ≡ Answered (with-trap access.Write false)
+  pub zero-over-zero : asked drift (ann "" 1 (heard-both zero-value zero-value)) ≡ Answered (with-trap access.Read false)
+  -- "both sides of `&&` and `||` are evaluated"
+  pub right-of-or : true-of "1||0/0" ≡ false
+  pub left-of-or : true-of "0/0||1" ≡ false
+  pub right-of-and : true-of "!(0&&1/0)" ≡ false
+  pub left-of-and : true-of "!(1/0&&0)" ≡ false
+  -- "the branch not chosen isn't, so `B=0?0:A/B` stays usable"
+  pub second-not-chosen : true-of "1?1:0/0" ≡ true
+  pub first-not-chosen : true-of "0?0/0:1" ≡ true
+  pub guarded-zero : true-with zero-value zero-value "(B=0?0:A/B)<0.5" ≡ true
+  pub guarded-ratio : true-with one-value one-value "B=0?0:A/B" ≡ true
+  pub chosen : true-of "(1?1/0:0)>1" ≡ false
+  pub condition : true-of "0/0?1:1" ≡ false
+  -- "An infinite or not-a-number value": no comparison, division or prefix makes it good again; an overflow is one too
+  pub compared : true-of "1/0>1" ≡ false
+  pub divided-by : true-of "1/(1/0)=0" ≡ false
+  pub negated : true-of "-(1/0)<0" ≡ false
+  pub denied : true-of "!(1/0)=0" ≡ false
+  pub differing : true-of "0/0#1" ≡ false
+  pub overflow : true-with huge huge "A*A>1" ≡ false
+  pub no-overflow : true-with huge one-value "A*B>1" ≡ true
 
 -- 001's user group "special", and a rule that names it
 abbrev pub special : String

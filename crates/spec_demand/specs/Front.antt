@@ -24,7 +24,7 @@ use Rattle.spec_demand.specs.Vocabulary.{refusal-number, place, file-of,
 use Rattle.spec_demand.specs.Vocabulary.{Text-reads, Caused, Acceptable, Refusable, Warned, warnings, Given, Table, is-table, total-of, view, table-of}
 use Rattle.spec_demand.specs.Vocabulary.{greatest-table, written, without-room, load, warnings-written, listing, look-up, look-up-number, part-in}
 use Rattle.spec_demand.specs.Vocabulary.{number, access-in, trap-in, decide, By-table, By-file, Edition, Later, Says-no, Names-input, Finds-input}
-use Rattle.spec_demand.specs.Vocabulary.{Call, after-call, is-accepted, No-accepted-load, Told, refusal-of, Proved-cases, Role-cases}
+use Rattle.spec_demand.specs.Vocabulary.{Call, after-call, is-accepted, No-accepted-load, Told, refusal-of, Proved-cases, Arithmetic-cases, Role-cases}
 use Rattle.spec_demand.specs.Vocabulary.{Memory, Storage, bytes-in, Step, calls-of, Made, Nobody-else-writes}
 use Rattle.spec_demand.specs.Vocabulary.{no-access, Answers, Numbered, groups-of, group-name, Client, most-clients, client-at, readings-at, Sized}
 use Rattle.spec_demand.specs.Vocabulary.{question-now, Gateway, Register-call, add, change, remove, set-reading, load-again, after}
@@ -33,6 +33,7 @@ use Rattle.spec_demand.specs.Vocabulary.{Not-refused, Each-done, Free, L
 use Rattle.spec_demand.specs.Vocabulary.{Spares-reading, First-applies, add-causes, change-causes, remove-causes, set-causes, bit-of}
 use Rattle.spec_demand.specs.Vocabulary.{Lent, lent, places-bytes, all-readings, zeroed, right-in, left, left-by-calls, told, Agrees, Too-short, on-table}
 use Rattle.spec_demand.specs.Vocabulary.{Never-more-to-clients}
+use Rattle.spec_demand.specs.Vocabulary.{calculation-holds, Some, Yields-true, Finite-values, Gives-on-finite-values, access-groups, name, rules-of}
 use Rattle.spec_demand.specs.laws.Cited as proved
 
 -- DEMAND 1. Total: no file, table, name, level or reading makes it index outside, trap or run on. A refusal carries a number, a load's
@@ -332,3 +333,25 @@ removing-a-role-never-raises b q v before role behind e = proved.role-removed q 
 -- 001's example of a role, what its member does not match, and the limits
 pub role-cases : Role-cases
 role-cases = proved.role-cases
+
+-- REQUEST 3. Still ground, zero over zero: "An infinite or not-a-number value of any evaluated part makes the whole calculation false; both sides of `&&`
+-- and `||` are evaluated, the branch not chosen isn't [..]. Demands 2 and 3 read this definition." So they do above: when a calculation is true is
+-- Yields-true, in By-table, By-file and Later. The function that decides agrees with it:
+pub true-exactly : (rs : List Reading) (s : List ℕ) → (calculation-holds rs (some s) ≡ true) ↔ Yields-true rs s
+true-exactly = proved.calculation-is
+
+-- if a calculation is true, every value that was evaluated is finite
+pub true-on-finite-values : (rs : List Reading) (s : List ℕ) → calculation-holds rs (some s) ≡ true → Finite-values rs s
+true-on-finite-values = proved.true-finite
+
+-- so that on any bytes, whatever is granted is granted by a rule of the answering group all of whose evaluated values are finite
+pub granted-on-finite-values :
+    (b : List ℕ) (q : Question) (d : Decision) → decide b q ≡ Answered d → (d .access ≡ access.None → ⊥)
+    → (g : List ℕ)
+    × Answers (name (view b) access-groups) (q .group) (view b .records access-groups) (some g)
+    × Some (Gives-on-finite-values q (d .access)) (rules-of (view b) g)
+granted-on-finite-values = proved.granted-on-finite-values
+
+-- the ticket's examples, and what 01 alone would have called true
+pub arithmetic-cases : Arithmetic-cases
+arithmetic-cases = proved.arithmetic-cases

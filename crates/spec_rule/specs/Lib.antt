@@ -5,4 +5,5 @@ pub mod Rule
 pub mod Decision
 pub mod Kept
 pub mod Privilege
+pub mod Finite
 pub mod laws

@@ -10,7 +10,7 @@ use Rattle.spec_lists.specs.Text.{lowered}
 use Rattle.spec_lists.specs.Every.{Every}
 use Rattle.spec_calc.specs.declared.Reading.{Reading}
 use Rattle.spec_calc.specs.Expression.{Tree, Parses}
-use Rattle.spec_calc.specs.Value.{reading, good, letters, value, lower-bound, upper-bound}
+use Rattle.spec_calc.specs.Value.{reading, good, letters, value, Finite-parts, lower-bound, upper-bound}
 use Rattle.spec_rule.specs.declared.Access.{Access}
 use Rattle.spec_rule.specs.declared.Access.the-variants as access
 use Rattle.spec_rule.specs.declared.Decision.{Decision}
@@ -60,11 +60,12 @@ pub data Matches-client (user : List ℕ) (roles : List (List ℕ)) (member : Li
   by-role : Some (λ role. member ≡ role-prefix ++ role) roles → Matches-client user roles member
 
 -- "If any of the INP fields associated with this calculation are in INVALID alarm severity the calculation is considered false. The actual test for
--- TRUE is .99 <result <1.01."
+-- TRUE is .99 <result <1.01." 02: "An infinite or not-a-number value of any evaluated part makes the whole calculation false"
 pub record Yields-true (rs : List Reading) (s : List ℕ) : Type 0 where
   pub tree : Tree
   pub says : Parses s tree
   pub inputs : Every (λ i. good (reading rs i) ≡ true) (letters tree)
+  pub parts : Finite-parts rs tree
   pub above : lt lower-bound (value rs tree) ≡ true
   pub below : lt (value rs tree) upper-bound ≡ true
 

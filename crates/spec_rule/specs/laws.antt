@@ -7,3 +7,4 @@ pub mod Matching
 pub mod Roles
 pub mod Fewer
 pub mod Privilege
+pub mod Finite

@@ -1,28 +1,31 @@
 -- A calculation depends on the readings of its letters only, and no reading that goes bad makes it true.
 use mathlib.Core.Path.{_≡_, refl, sym, ap, _∙_}
-use mathlib.Core.Bool.{Bool, true, false, cond, _&&_, true≢false, and-eq-true-iff}
+use mathlib.Core.Bool.{Bool, true, false, cond, _&&_, true≢false}
 use mathlib.Core.List.{List, [], _∷_, _++_, List·Memᴰ, List·Memᴰ·head, List·Memᴰ·tail, Memᴰ·append-left, Memᴰ·append-right}
 use mathlib.Core.Logic.{inl, ⊎-elim}
 use Prim.Native.Nat.{ℕ}
 use lib.Ieee.{Float}
 use Rattle.spec_lists.specs.Select.{all}
+use Rattle.spec_lists.specs.laws.Both.{both}
 use Rattle.spec_lists.specs.laws.Member.{all-member}
 use Rattle.spec_calc.specs.declared.Reading.{Reading}
 use Rattle.spec_calc.specs.declared.Worth.the-variants.{Bad, Is}
 use Rattle.spec_calc.specs.Expression.{Tree, number-tree, letter-tree, minus, negation, binary, choice}
-use Rattle.spec_calc.specs.Value.{heard, reading, value, good, letters, near-one, true-worth, holds}
+use Rattle.spec_calc.specs.Value.{heard, reading, value, good, letters, evaluated, finite-throughout, near-one, true-worth, holds}
 use Rattle.spec_calc.specs.Readings.{Gone-bad}
+use Rattle.spec_calc.specs.laws.Evaluated.{binary-throughout, choice-throughout}
 
 abbrev all-good : List Reading → List ℕ → Bool
 all-good rs ls = all (λ i. good (reading rs i)) ls
 
--- true is a calculation whose letters are all good and whose value is near one
-pub holds-both : (rs : List Reading) (t : Tree) → holds rs t ≡ all-good rs (letters t) && near-one (value rs t)
-holds-both rs t = go (all-good rs (letters t)) (value rs t)
+-- true is a calculation whose letters are all good, whose evaluated parts are all finite, and whose value is near one
+pub holds-both : (rs : List Reading) (t : Tree) → holds rs t ≡ all-good rs (letters t) && (finite-throughout rs t && near-one (value rs t))
+holds-both rs t = go (all-good rs (letters t)) (finite-throughout rs t) (value rs t)
   where
-    go : (b : Bool) (x : Float) → true-worth (cond b (Is x) Bad) ≡ b && near-one x
-    go true x = refl
-    go false x = refl
+    go : (b f : Bool) (x : Float) → true-worth (cond b (cond f (Is x) Bad) Bad) ≡ b && (f && near-one x)
+    go true true x = refl
+    go true false x = refl
+    go false f x = refl
 
 module _ (rs qs : List Reading) where
   -- each of these letters has the same reading in both
@@ -53,19 +56,45 @@ module _ (rs qs : List Reading) where
             (right (letters x) (letters y) b),
       )
 
+  pub throughout-agrees : (t : Tree) → Agree (letters t) → finite-throughout rs t ≡ finite-throughout qs t
+  unfolding value evaluated
+  throughout-agrees (number-tree x) a = refl
+  throughout-agrees (letter-tree i) a = rw (a i (List·Memᴰ·head refl))
+  throughout-agrees (minus t) a = rw (value-agrees t a, throughout-agrees t a)
+  throughout-agrees (negation t) a = rw (value-agrees t a, throughout-agrees t a)
+  throughout-agrees (binary o t u) a =
+      let b = left (letters t) (letters u) a in
+      let d = right (letters t) (letters u) a in
+      rw (binary-throughout rs o t u, binary-throughout qs o t u, value-agrees t b, value-agrees u d, throughout-agrees t b, throughout-agrees u d)
+  throughout-agrees (choice c x y) a =
+      let b = left (letters c) (letters x ++ letters y) a in
+      let d = right (letters c) (letters x ++ letters y) a in
+      let e = left (letters x) (letters y) d in
+      let f = right (letters x) (letters y) d in
+      rw (
+        choice-throughout rs c x y,
+        choice-throughout qs c x y,
+        value-agrees c b,
+        value-agrees x e,
+        value-agrees y f,
+        throughout-agrees c b,
+        throughout-agrees x e,
+        throughout-agrees y f,
+      )
+
   all-agree : (ls : List ℕ) → Agree ls → all-good rs ls ≡ all-good qs ls
   all-agree [] a = refl
   all-agree (i ∷ ls) a = rw (a i (List·Memᴰ·head refl), all-agree ls (λ j m. a j (List·Memᴰ·tail m)))
 
   pub holds-agrees : (t : Tree) → Agree (letters t) → holds rs t ≡ holds qs t
-  holds-agrees t a = rw (all-agree (letters t) a, value-agrees t a)
+  holds-agrees t a = rw (all-agree (letters t) a, throughout-agrees t a, value-agrees t a)
 
   unspoilt : Gone-bad rs qs → (i : ℕ) → good (reading qs i) ≡ true → reading rs i ≡ reading qs i
   unspoilt g i e = ⊎-elim sym (λ b. absurd (true≢false (sym e ∙ b))) (g i)
 
   pub bad-never-true : Gone-bad rs qs → (t : Tree) → holds qs t ≡ true → holds rs t ≡ true
   bad-never-true g t e =
-      let h = and-eq-true-iff (all-good qs (letters t)) (near-one (value qs t)) .0 (sym (holds-both qs t) ∙ e) .0 in
+      let h = both (all-good qs (letters t)) (finite-throughout qs t && near-one (value qs t)) (sym (holds-both qs t) ∙ e) .0 in
       holds-agrees t (λ i m. unspoilt g i (all-member (λ j. good (reading qs j)) (letters t) h m)) ∙ e
 
 pub gone-bad-refl : (rs : List Reading) → Gone-bad rs rs

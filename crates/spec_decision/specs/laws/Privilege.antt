@@ -2,12 +2,17 @@
 use mathlib.Core.Path.{_≡_, refl}
 use mathlib.Core.List.{List}
 use mathlib.Core.Logic.{_↔_}
+use mathlib.Core.Option.{some}
 use Prim.Native.Nat.{ℕ}
 use native.Mathlib.Omega.{arith}
+use Rattle.spec_rule.specs.declared.Access.the-variants as access
 use Rattle.spec_rule.specs.declared.Decision.{Decision}
 use Rattle.spec_rule.specs.Question.{Question, Valid}
 use Rattle.spec_rule.specs.Decision.{decision-by}
+use Rattle.spec_rule.specs.Privilege.{Some, Answers}
+use Rattle.spec_rule.specs.Finite.{Gives-on-finite-values}
 use Rattle.spec_rule.specs.laws.Privilege.{determined-is}
+use Rattle.spec_rule.specs.laws.Finite.{granted-on-finite}
 use Rattle.spec_file.specs.Limit.{access-groups}
 use Rattle.spec_table.specs.View.{view}
 use Rattle.spec_table.specs.Table.{Table}
@@ -31,3 +36,11 @@ by-table-is b q d =
 
     not-table : Answered d ≡ NotTable → ⊥
     not-table e = let z : _≡_ {A = ℕ} 0 1 = cc in omega arith
+
+pub granted-on-finite-values :
+    (b : List ℕ) (q : Question) (d : Decision) → decide b q ≡ Answered d → (d .access ≡ access.None → ⊥)
+    → (g : List ℕ)
+    × Answers (name (view b) access-groups) (q .group) (view b .records access-groups) (some g)
+    × Some (Gives-on-finite-values q (d .access)) (rules-of (view b) g)
+granted-on-finite-values b q d e n =
+    granted-on-finite (name (view b) access-groups) (rules-of (view b)) (view b .records access-groups) q (by-table-is b q d .0 e .2) n

@@ -3,9 +3,8 @@ use mathlib.Core.Path.{refl}
 use lib.Ieee.{ne, lt, le, eq, add, sub, mul, div, neg, ofBits, ofInt}
 use Rattle.spec_token.specs.Scanner.{scan}
 use Rattle.spec_calc.specs.Scanner.{symbols-in}
-use Rattle.spec_calc.specs.Value.{value}
+use Rattle.spec_calc.specs.Value.{value, evaluated}
 use Rattle.spec_calc.specs.Reader.{tree-of, run, reduce}
-use Rattle.spec_rule.specs.declared.Access.the-variants as access
 use Rattle.spec_file.specs.Load.{verdict}
 use Rattle.spec_table.specs.Layout.{layout}
 use Rattle.spec_table.specs.View.{view}
@@ -13,10 +12,10 @@ use Rattle.spec_table.specs.Check.{is-table}
 use Rattle.spec_table.specs.Written.{table-of}
 use Rattle.spec_load.specs.Load.{load}
 use Rattle.spec_decision.specs.Decision.{decide}
-use Rattle.spec_demand.specs.Cases.{Proved-cases, Role-cases}
+use Rattle.spec_demand.specs.Cases.{Proved-cases, Arithmetic-cases, Role-cases}
 
 pub proved-cases : Proved-cases
-unfolding load verdict scan table-of layout is-table view decide tree-of run reduce symbols-in value ne lt le eq add sub mul div neg ofBits ofInt
+unfolding load verdict scan table-of layout is-table view decide tree-of run reduce symbols-in value evaluated ne lt le eq add sub mul div neg ofBits ofInt
 proved-cases =
     record {
       question-1 = refl;
@@ -31,6 +30,32 @@ proved-cases =
       lower-level = refl;
       higher-level = refl;
       no-group = refl;
+    }
+
+pub arithmetic-cases : Arithmetic-cases
+unfolding load verdict scan table-of layout is-table view decide tree-of run reduce symbols-in value evaluated ne lt le eq add sub mul div neg ofBits ofInt
+arithmetic-cases =
+    record {
+      moving = refl;
+      calm = refl;
+      zero-over-zero = refl;
+      right-of-or = refl;
+      left-of-or = refl;
+      right-of-and = refl;
+      left-of-and = refl;
+      second-not-chosen = refl;
+      first-not-chosen = refl;
+      guarded-zero = refl;
+      guarded-ratio = refl;
+      chosen = refl;
+      condition = refl;
+      compared = refl;
+      divided-by = refl;
+      negated = refl;
+      denied = refl;
+      differing = refl;
+      overflow = refl;
+      no-overflow = refl;
     }
 
 pub role-cases : Role-cases

@@ -1,6 +1,6 @@
 -- Laws of Every and First.
 use mathlib.Core.Path.{_≡_, refl, ap, subst}
-use mathlib.Core.Bool.{Bool, true, false, false≢true}
+use mathlib.Core.Bool.{Bool, true, false, _&&_, false≢true}
 use mathlib.Core.List.{List, [], _∷_, _++_, map}
 use mathlib.Core.Option.{none, some}
 use Prim.Native.Nat.{ℕ, zero, suc}
@@ -51,6 +51,15 @@ module _ {A : Type 0} where
   pub every-all : (p : A → Bool) {xs : List A} → Every (λ x. p x ≡ true) xs → all p xs ≡ true
   every-all p nil = refl
   every-all p (cons e c) = rw (e, every-all p c)
+
+  -- of two lists, one behind the other
+  pub all-append : (p : A → Bool) (xs ys : List A) → all p (xs ++ ys) ≡ all p xs && all p ys
+  all-append p [] ys = refl
+  all-append p (x ∷ xs) ys = go (p x) (all-append p xs ys)
+    where
+      go : (b : Bool) → all p (xs ++ ys) ≡ all p xs && all p ys → (b && all p (xs ++ ys)) ≡ ((b && all p xs) && all p ys)
+      go true e = e
+      go false e = refl
 
   pub every-at : {P : A → Type 0} {xs : List A} (n : ℕ) (d : A) → P d → Every P xs → P (getD xs n d)
   every-at n d p nil = p

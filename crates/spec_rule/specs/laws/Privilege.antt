@@ -16,8 +16,9 @@ use Rattle.spec_lists.specs.laws.Same.{same-true, same-self, same-is}
 use Rattle.spec_lists.specs.laws.Every.{every-all}
 use Rattle.spec_calc.specs.declared.Reading.{Reading}
 use Rattle.spec_calc.specs.Expression.{Tree}
-use Rattle.spec_calc.specs.Value.{reading, good, letters, value, lower-bound, upper-bound, near-one, holds}
+use Rattle.spec_calc.specs.Value.{reading, good, letters, value, finite, evaluated, finite-throughout, lower-bound, upper-bound, near-one}
 use Rattle.spec_calc.specs.Reader.{tree-of}
+use Rattle.spec_calc.specs.laws.Readings.{holds-both}
 use Rattle.spec_calc.specs.laws.Theorem.{parses-sound, parses-complete}
 use Rattle.spec_rule.specs.declared.Access.{Access}
 use Rattle.spec_rule.specs.declared.Access.the-variants as access
@@ -44,24 +45,25 @@ module _ {Matches : List ℕ → Type 0} (matches : List ℕ → Bool) (decides 
   belongs-complete (g ∷ gs) (inr s) = some-any (any matches) (λ members. (any-some matches decides members, some-any matches decides)) s
 
 module _ (rs : List Reading) where
-  true-split : (t : Tree) → holds rs t ≡ true → (all (λ i. good (reading rs i)) (letters t) ≡ true) × (near-one (value rs t) ≡ true)
-  true-split t h = go (all (λ i. good (reading rs i)) (letters t)) refl
-    where
-      go : (b : Bool) → all (λ i. good (reading rs i)) (letters t) ≡ b → (b ≡ true) × (near-one (value rs t) ≡ true)
-      go true e = (refl, rw e at h)
-      go false e = absurd (false≢true (rw e at h))
-
   yields : (s : List ℕ) → true-tree rs (tree-of s) ≡ true → Yields-true rs s
   yields s e = go (tree-of s) refl e
     where
       go : (o : Option Tree) → tree-of s ≡ o → true-tree rs o ≡ true → Yields-true rs s
       go none p h = absurd (false≢true h)
       go (some t) p h =
-          let x = true-split t h in
-          let y = both (lt lower-bound (value rs t)) (lt (value rs t) upper-bound) (x .1) in
-          record { tree = t; says = parses-sound s t p; inputs = all-every (λ i. good (reading rs i)) (letters t) (x .0); above = y .0; below = y .1 }
+          let x = both (all (λ i. good (reading rs i)) (letters t)) (finite-throughout rs t && near-one (value rs t)) (sym (holds-both rs t) ∙ h) in
+          let f = both (finite-throughout rs t) (near-one (value rs t)) (x .1) in
+          let y = both (lt lower-bound (value rs t)) (lt (value rs t) upper-bound) (f .1) in
+          record {
+            tree = t;
+            says = parses-sound s t p;
+            inputs = all-every (λ i. good (reading rs i)) (letters t) (x .0);
+            parts = all-every (λ u. finite (value rs u)) (evaluated rs t) (f .0);
+            above = y .0;
+            below = y .1;
+          }
 
-  calculation-sound : (o : Option (List ℕ)) → calculation-holds rs o ≡ true → (s : List ℕ) → o ≡ some s → Yields-true rs s
+  pub calculation-sound : (o : Option (List ℕ)) → calculation-holds rs o ≡ true → (s : List ℕ) → o ≡ some s → Yields-true rs s
   calculation-sound none e s h = let z : _≡_ {A = ℕ} 0 1 = cc in absurd (omega arith)
   calculation-sound (some u) e s h = let same : u ≡ s = cc in subst (Yields-true rs) same (yields u e)
 
@@ -69,7 +71,16 @@ module _ (rs : List Reading) where
   calculation-complete none f = refl
   calculation-complete (some s) f =
       let y = f s refl in
-      rw (parses-complete s (y .tree) (y .says), every-all (λ i. good (reading rs i)) (y .inputs), y .above, y .below)
+      rw (
+        parses-complete s (y .tree) (y .says),
+        every-all (λ i. good (reading rs i)) (y .inputs),
+        every-all (λ u. finite (value rs u)) (y .parts),
+        y .above,
+        y .below,
+      )
+
+  pub calculation-is : (s : List ℕ) → (calculation-holds rs (some s) ≡ true) ↔ Yields-true rs s
+  calculation-is s = (λ e. calculation-sound (some s) e s refl, λ y. calculation-complete (some s) (λ u e. let same : s ≡ u = cc in subst (Yields-true rs) same y))
 
 module _ (q : Question) (r : Rule) where
   asks-sound : asks r q ≡ true → Asks q r
