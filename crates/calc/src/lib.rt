@@ -4,9 +4,9 @@ use calc_value::Computed;
 use spec_calc::Reading;
 use spec_calc::Worth;
 ghost use mathlib.Core.Path.{_≡_};
-ghost use mathlib.Core.Bool.{not};
+ghost use mathlib.Core.Bool.{not, cond};
 ghost use Rattle.spec_lists.specs.Select.{missing};
-ghost use Rattle.spec_calc.specs.Value.{worth};
+ghost use Rattle.spec_calc.specs.Value.{finite, worth};
 ghost use Rattle.spec_calc.specs.Reader.{tree-of};
 ghost use Rattle.spec_rule.specs.Rule.{true-tree};
 ghost use Rattle.calc_truth.specs.Answer.{true-for};
@@ -22,7 +22,18 @@ pub fn allowed(s: &[u8]) -> bool
     }
 }
 
-// What a text comes to: bad if any letter of it is, in either branch.
+// A value, or bad where it is not finite: so it is computed where an evaluated part is not.
+fn if_finite(v: f64) -> Worth
+    ensures { λ r. ⌜ r ≡ cond (finite v) (Worth.Is v) Worth.Bad ⌝ }
+{
+    if calc_arith::is_finite(v) {
+        Worth::Is(v)
+    } else {
+        Worth::Bad
+    }
+}
+
+// What a text comes to: bad if any letter of it is, in either branch, or if any evaluated part of it is not finite.
 pub fn value(s: &[u8], rs: [Reading; 21]) -> Worth
     ensures { λ r. ⌜ r ≡ worth rs (tree-of (now (s .entry))) ⌝ }
 {
@@ -33,7 +44,7 @@ pub fn value(s: &[u8], rs: [Reading; 21]) -> Worth
         Computed::NoCalculation => Worth::NoCalculation,
         Computed::Is(v) => {
             if calc_truth::letters_given(s, &good) {
-                Worth::Is(v)
+                if_finite(v)
             } else {
                 Worth::Bad
             }

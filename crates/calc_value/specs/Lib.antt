@@ -1,3 +1,4 @@
+pub mod Strict
 pub mod Parse
 pub mod Answer
 pub mod laws

@@ -7,16 +7,16 @@ use lib.ListN.{length}
 use lib.Ieee.{Float}
 use Rattle.spec_calc.specs.declared.Reading.the-variants as readings
 use Rattle.spec_calc.specs.Expression.{Tree}
-use Rattle.spec_calc.specs.Value.{value}
 use Rattle.spec_calc.specs.Reader.{begun, if-of, else-of, Stack, State, wanted, have, top}
 use Rattle.calc_value.specs.declared.Parsed.{Parsed}
 use Rattle.calc_value.specs.declared.Parsed.the-variants as parsed
 use Rattle.calc_symbol.specs.Scan.{syms}
 use Rattle.calc_symbol.specs.Lookahead.{from, ends-of}
+use Rattle.calc_value.specs.Strict.{strict-value}
 
--- the value of a tree, the letters' values being given
+-- what a tree comes to, the letters' values being given
 abbrev pub value-with : List Float → Tree → Float
-value-with vs t = value (map readings.Value vs) t
+value-with vs t = strict-value (map readings.Value vs) t
 
 -- From the offset at, in the state st, the reader comes to n with a tree of value v, for each stack that leaves it alone.
 pub record Parses (vs : List Float) (s : List ℕ) (st : Stack → State) (l at low : ℕ) (v : Float) (n : ℕ) : Type 0 where

@@ -1,2 +1,3 @@
+pub mod Strict
 pub mod Steps
 pub mod Whole

@@ -18,6 +18,9 @@ enum-known-v c = search needs
 letters-given-requires : tie.Need-letters-given-requires
 letters-given-requires c κs = search needs
 
+if-finite-requires : tie.Need-if-finite-requires
+if-finite-requires c κs = search needs
+
 returns : tie.Need-returns
 returns c =
     let a = c .before .before .before .before .before .before .before .before .args in
@@ -26,11 +29,11 @@ returns c =
 
 returns-2 : tie.Need-returns-2
 returns-2 c =
-    let a = c .before .before .before .before .before .before .before .before .before .before .before .before .args in
-    let k = c .before .before .before .before .before .before .before .before .before .before .inputs-of .ensures in
-    let v = c .before .before .before .before .v .given .1 in
-    value-good (a .rs) (a .s .now) (k .0) (k .1) (c .before .before .before .before .before .before .compute .ensures)
-    v (c .before .letters-given .ensures) (c .if1 .taken)
+    let a = c .before .before .before .before .before .before .before .before .before .before .before .before .before .args in
+    let k = c .before .before .before .before .before .before .before .before .before .before .before .inputs-of .ensures in
+    let v = c .before .before .before .before .before .v .given .1 in
+    value-good (a .rs) (a .s .now) (k .0) (k .1) (c .before .before .before .before .before .before .before .compute .ensures)
+    v (c .before .before .letters-given .ensures) (c .before .if1 .taken) (c .if-finite .ensures)
 
 returns-3 : tie.Need-returns-3
 returns-3 c =
@@ -49,6 +52,7 @@ value-spec =
     enum-told
     enum-known-v
     letters-given-requires
+    if-finite-requires
     returns
     returns-2
     returns-3)

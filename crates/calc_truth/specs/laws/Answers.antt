@@ -12,12 +12,14 @@ use lib.ListN.{length, getD, drop, drop-of-length-le, List·getD-map}
 use lib.Seq.{drop-cons}
 use lib.Ieee.{Float}
 use Rattle.spec_lists.specs.Select.{all, holds-of, missing}
+use Rattle.spec_lists.specs.laws.Every.{all-append}
 use Rattle.spec_calc.specs.declared.Reading.{Reading}
 use Rattle.spec_calc.specs.declared.Reading.the-variants as readings
+use Rattle.spec_calc.specs.declared.Worth.{Worth}
 use Rattle.spec_calc.specs.declared.Worth.the-variants as worths
 use Rattle.spec_calc.specs.Scanner.{start}
 use Rattle.spec_calc.specs.Expression.{Tree, number-tree, letter-tree, minus, negation, binary, choice}
-use Rattle.spec_calc.specs.Value.{heard, good, reading, value, letters, near-one, worth}
+use Rattle.spec_calc.specs.Value.{heard, good, reading, value, letters, finite, finite-throughout, near-one, worth}
 use Rattle.spec_calc.specs.Reader.{tree-of}
 use Rattle.spec_calc.specs.laws.Readings.{holds-both}
 use Rattle.spec_rule.specs.Rule.{true-tree}
@@ -27,10 +29,12 @@ use Rattle.calc_value.specs.declared.Computed.{Computed}
 use Rattle.calc_value.specs.declared.Computed.the-variants as outcome
 use Rattle.calc_symbol.specs.Scan.{started}
 use Rattle.calc_value.specs.Parse.{value-with}
+use Rattle.calc_value.specs.Strict.{strict-value}
 use Rattle.calc_value.specs.Answer.{computed}
+use Rattle.calc_value.specs.laws.Strict.{strict-finite, strict-value-is, strict-near}
 use Rattle.calc_truth.specs.Answer.{given-letter, letter-begun, byte-letters, true-with, near-computed}
 use Rattle.calc_symbol.proofs.Class as class-type
-use Rattle.calc_truth.specs.laws.Letters.{spelling-none, all-append, bytes-same, given-tree}
+use Rattle.calc_truth.specs.laws.Letters.{spelling-none, bytes-same, given-tree}
 
 pub allowed-yes : (rs : List Reading) (o : Option Tree) {w : Computed} {v : Float} → w ≡ computed rs o → w ≡ outcome.Is v → true ≡ not (missing o)
 allowed-yes rs none e q = let z : _≡_ {A = ℕ} 0 1 = cc in absurd (omega arith)
@@ -108,14 +112,14 @@ reading-value [] i = refl
 reading-value (r ∷ rs) zero = refl
 reading-value (r ∷ rs) (suc i) = reading-value rs i
 
-value-with-heard : (rs : List Reading) (t : Tree) → value-with (map heard rs) t ≡ value rs t
-unfolding value
-value-with-heard rs (number-tree x) = refl
-value-with-heard rs (letter-tree i) = reading-value rs i
-value-with-heard rs (minus t) = rw (value-with-heard rs t)
-value-with-heard rs (negation t) = rw (value-with-heard rs t)
-value-with-heard rs (binary o t u) = rw (value-with-heard rs t, value-with-heard rs u)
-value-with-heard rs (choice c x y) = rw (value-with-heard rs c, value-with-heard rs x, value-with-heard rs y)
+strict-heard : (rs : List Reading) (t : Tree) → value-with (map heard rs) t ≡ strict-value rs t
+unfolding strict-value
+strict-heard rs (number-tree x) = refl
+strict-heard rs (letter-tree i) = reading-value rs i
+strict-heard rs (minus t) = rw (strict-heard rs t)
+strict-heard rs (negation t) = rw (strict-heard rs t)
+strict-heard rs (binary o t u) = rw (strict-heard rs t, strict-heard rs u)
+strict-heard rs (choice c x y) = rw (strict-heard rs c, strict-heard rs x, strict-heard rs y)
 
 -- ---- truth
 
@@ -149,9 +153,19 @@ pub holds-is :
     (rs : List Reading) (values : List Float) (goods : List Bool) (o : Option Tree) {r : Bool} → values ≡ map heard rs → goods ≡ map good rs
     → r ≡ true-with values goods o → r ≡ true-tree rs o
 holds-is rs values goods none ev eg e = e
-holds-is rs values goods (some t) ev eg e = e ∙ (rw (ev, eg, all-good rs (letters t), value-with-heard rs t) refl ∙ sym (holds-both rs t))
+holds-is rs values goods (some t) ev eg e = e ∙ (rw (ev, eg, all-good rs (letters t), strict-heard rs t, strict-near rs t) refl ∙ sym (holds-both rs t))
 
--- ---- the answer of value, from what is computed and whether the letters are good
+-- the value where every evaluated part is finite, as the code finds it
+finite-worth :
+    (rs : List Reading) (t : Tree)
+    → cond (finite-throughout rs t) (worths.Is (value rs t)) worths.Bad ≡ cond (finite (strict-value rs t)) (worths.Is (strict-value rs t)) worths.Bad
+finite-worth rs t = rw (strict-finite rs t) (go (finite-throughout rs t) refl)
+  where
+    go : (b : Bool) → finite-throughout rs t ≡ b → cond b (worths.Is (value rs t)) worths.Bad ≡ cond b (worths.Is (strict-value rs t)) worths.Bad
+    go true e = ap worths.Is (sym (strict-value-is rs t e))
+    go false e = refl
+
+-- ---- the answer of value, from what is computed, whether the letters are good and whether it is finite
 
 module _
     (rs : List Reading) (s : List ℕ) {vs : List Float} {gs : List Bool} (ev : vs ≡ map heard rs) (eg : gs ≡ map good rs) {w : Computed}
@@ -164,17 +178,19 @@ module _
       go (some t) e = let z : _≡_ {A = ℕ} 0 1 = cc in absurd (omega arith)
 
   module _ {v : Float} (q : w ≡ outcome.Is v) {b : Bool} (eb : b ≡ all (given-letter gs) (byte-letters s)) where
-    judged-value : worth rs (tree-of s) ≡ cond b (worths.Is v) worths.Bad
+    judged-value : worth rs (tree-of s) ≡ cond b (cond (finite v) (worths.Is v) worths.Bad) worths.Bad
     judged-value = go (tree-of s) refl ew
       where
-        go : (o : Option Tree) → tree-of s ≡ o → w ≡ computed (map readings.Value vs) o → worth rs o ≡ cond b (worths.Is v) worths.Bad
+        go :
+            (o : Option Tree) → tree-of s ≡ o → w ≡ computed (map readings.Value vs) o
+            → worth rs o ≡ cond b (cond (finite v) (worths.Is v) worths.Bad) worths.Bad
         go none p e = let z : _≡_ {A = ℕ} 0 1 = cc in absurd (omega arith)
         go (some t) p e =
-            let x : value-with vs t ≡ v = cc in
-            rw (← all-good rs (letters t), ← value-with-heard rs t, ← eg, ← ev, x, ← bytes-same s t p gs, ← eb)
+            let x : strict-value rs t ≡ v = sym (strict-heard rs t) ∙ (ap (λ (l : List Float). value-with l t) (sym ev) ∙ cc) in
+            rw (← all-good rs (letters t), ← eg, ← bytes-same s t p gs, ← eb) (ap (λ (f : Worth). cond b f worths.Bad) (rw x at (finite-worth rs t)))
 
-    pub value-good : b ≡ true → worths.Is v ≡ worth rs (tree-of s)
-    value-good h = sym (judged-value ∙ rw h)
+    pub value-good : {r : Worth} → b ≡ true → r ≡ cond (finite v) (worths.Is v) worths.Bad → r ≡ worth rs (tree-of s)
+    value-good h e = e ∙ sym (judged-value ∙ rw h)
 
     pub value-bad : b ≡ false → worths.Bad ≡ worth rs (tree-of s)
     value-bad h = sym (judged-value ∙ rw h)

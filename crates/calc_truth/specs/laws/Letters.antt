@@ -84,14 +84,6 @@ spells-letters (small {b = b} e d) = let z = bounded 97 117 b e in rw (start-low
 spells-letters (signed {w = w} {r = r} q m l d) =
     rw (q, sign-letters m) (spells-letters d ∙ sym (letters-none w r (signs m .1)))
 
-pub all-append : (p : ℕ → Bool) (xs ys : List ℕ) → all p (xs ++ ys) ≡ all p xs && all p ys
-all-append p [] ys = refl
-all-append p (x ∷ xs) ys = go (p x) (all-append p xs ys)
-  where
-    go : (b : Bool) → all p (xs ++ ys) ≡ all p xs && all p ys → (b && all p (xs ++ ys)) ≡ (b && all p xs) && all p ys
-    go true h = h
-    go false h = refl
-
 -- ---- the tree's
 
 mutual

@@ -1,6 +1,5 @@
 -- What the reader comes to, step by step. Assumes nothing.
 use mathlib.Core.Path.{_≡_, refl, sym, _∙_, subst}
-use mathlib.Core.Bool.{not, cond}
 use mathlib.Core.List.{List, [], _∷_, map}
 use mathlib.Core.Option.{Option, none, some}
 use Prim.Native.Nat.{ℕ, zero, suc, _+_, _-_, _*_, _≤_, _<_}
@@ -13,7 +12,7 @@ use Rattle.spec_calc.specs.declared.Operator.the-variants as op
 use Rattle.spec_calc.specs.declared.Reading.the-variants as readings
 use Rattle.spec_calc.specs.Symbol.{Symbol, number, letter, operator, not-sign, question, colon, open-paren, close-paren}
 use Rattle.spec_calc.specs.Expression.{Tree, number-tree, letter-tree, binary, choice, level}
-use Rattle.spec_calc.specs.Value.{truth, is-true, apply, heard, reading, value}
+use Rattle.spec_calc.specs.Value.{heard, reading}
 use Rattle.spec_calc.specs.Reader.{Begun, minus-of, not-of, left-of, else-of, ended, tightness, begun, paren, if-of, Stack, State, wanted, have, ends, reduce}
 use Rattle.spec_calc.specs.Reader.{first-of, run, top}
 use Rattle.spec_calc.specs.laws.Levels.{level-bound, ends-bound}
@@ -22,6 +21,8 @@ use Rattle.calc_value.specs.declared.Parsed.the-variants as parsed
 use Rattle.calc_symbol.specs.Scan.{syms, Symbol-at}
 use Rattle.calc_symbol.specs.declared.Place.the-variants as place
 use Rattle.calc_symbol.specs.Lookahead.{from, ends-of, Mark-at}
+use Rattle.calc_arith.specs.Strict.{strict-not, strict-apply, strict-choice}
+use Rattle.calc_value.specs.Strict.{strict-value}
 use Rattle.calc_value.specs.Parse.{value-with, Parses, Parses-as, Continues-as, in-if, in-else}
 use Rattle.calc_symbol.specs.laws.Lookaheads.{one-step}
 
@@ -68,7 +69,7 @@ letter-value (v ∷ vs) (suc i) h = letter-value vs i (omega arith)
 
 module _ (vs : List Float) (s : List ℕ) where
   number-value : (v : Float) → value-with vs (number-tree v) ≡ v
-  unfolding value
+  unfolding strict-value
   number-value v = refl
 
   pub parses-is :
@@ -127,9 +128,9 @@ module _ (vs : List Float) (s : List ℕ) where
         rest-bad e k h = join-step k h ∙ fails-is wanted (m + 1) p (p + 1) r f e (begun (left-of o t) ∷ k) (omega arith)
 
         pub rest-by :
-            {u w : Float} {n : ℕ} (q : Parsed) → r ≡ parsed.Value u n → w ≡ apply o v u → Continues-as vs s have l n w q
+            {u w : Float} {n : ℕ} (q : Parsed) → r ≡ parsed.Value u n → w ≡ strict-apply o v u → Continues-as vs s have l n w q
             → Parses-as vs s (have t) l at at q
-        unfolding value
+        unfolding strict-value
         rest-by {u} {w} {n} q e ew g =
             let z = parses-is wanted (m + 1) p (p + 1) r f e in
             parses-later (have t) (have (binary o t (z .tree))) l at n at n q
@@ -163,8 +164,8 @@ module _ (vs : List Float) (s : List ℕ) where
       pub other-bad : r ≡ parsed.Bad → Parses-as vs s (in-else c d) 0 at at parsed.Bad
       other-bad e k h = fails-is wanted 0 at (at + 1) r f e (begun (else-of c d) ∷ k) (omega arith)
 
-      pub other-is : {y w : Float} {n : ℕ} → r ≡ parsed.Value y n → w ≡ cond (is-true v) x y → Parses-as vs s (in-else c d) 0 at at (parsed.Value w n)
-      unfolding value
+      pub other-is : {y w : Float} {n : ℕ} → r ≡ parsed.Value y n → w ≡ strict-choice v x y → Parses-as vs s (in-else c d) 0 at at (parsed.Value w n)
+      unfolding strict-value
       other-is {n = n} e ew =
           let z = parses-is wanted 0 at (at + 1) r f e in
           record {
@@ -196,7 +197,7 @@ module _ (vs : List Float) (s : List ℕ) where
     pub operand-letter :
         {i n : ℕ} {v : Float} → Symbol-at s at (letter i) n → i < length vs → v ≡ getD vs i nan
         → Parses-as vs s wanted 6 at (at + 1) (parsed.Value v n)
-    unfolding value
+    unfolding strict-value
     operand-letter {i} y h e = tree-at (letter-tree i) y (λ k. refl) (sym (e ∙ letter-value vs i h))
 
     -- a prefix b, or a parenthesis, before an operand
@@ -224,13 +225,13 @@ module _ (vs : List Float) (s : List ℕ) where
     pub minus-is :
         {p : ℕ} (y : Symbol-at s at (operator op.Minus) p) {r : Parsed} (f : Parses-as vs s wanted 6 p (p + 1) r) {v : Float} {n : ℕ}
         → r ≡ parsed.Value v n → Parses-as vs s wanted 6 at (at + 1) (parsed.Value (neg v) n)
-    unfolding value
+    unfolding strict-value
     minus-is y f e = prefix-is minus-of refl y (λ k. refl) f e (λ t et. rw et)
 
     pub not-is :
         {p : ℕ} (y : Symbol-at s at not-sign p) {r : Parsed} (f : Parses-as vs s wanted 6 p (p + 1) r) {v w : Float} {n : ℕ}
-        → r ≡ parsed.Value v n → w ≡ truth (not (is-true v)) → Parses-as vs s wanted 6 at (at + 1) (parsed.Value w n)
-    unfolding value
+        → r ≡ parsed.Value v n → w ≡ strict-not v → Parses-as vs s wanted 6 at (at + 1) (parsed.Value w n)
+    unfolding strict-value
     not-is y f e ew = prefix-is not-of refl y (λ k. refl) f e (λ t et. rw et (sym ew))
 
     module _ {p : ℕ} (y : Symbol-at s at open-paren p) {r : Parsed} (f : Parses-as vs s wanted 0 p (p + 1) r) where
