@@ -6,22 +6,15 @@ use vec_words::part;
 
 // Whether x is y, signs of zero told apart.
 fn same(x: f64, y: f64) -> bool {
-    if x == y {
-        1.0 / x == 1.0 / y
-    } else {
-        x != x && y != y
-    }
+    x == y && 1.0 / x == 1.0 / y
 }
 
-// Whether a value is as written: bits or nan.
+// Whether a value has the bits that are written.
 fn value_written(x: f64, s: &[u8]) -> bool {
-    if equal(s, b"nan") {
-        return x != x;
-    }
     same(x, vec_bits::from_bits(vec_bits::bits(s)))
 }
 
-// Whether what a text comes to is as written: a value, or bad where a letter's reading is.
+// Whether what a text comes to is as written: a value, or bad where a reading or an evaluated part is.
 fn as_written(w: Worth, s: &[u8]) -> bool {
     match w {
         Worth::NoCalculation => false,
@@ -68,7 +61,7 @@ fn judge_all(s: &[u8]) {
 }
 
 fn main() {
-    let mut buf = [0u8; 262144];
+    let mut buf = [0u8; 524288];
     let n = prog_input::read(b"calc", &mut buf);
     judge_all(&buf[..n]);
 }
