@@ -1,10 +1,11 @@
-//! `calc`: which texts are calculations, their truth, and their values to the
-//! bit. The library tells a value by rules that compare it with a letter.
+//! `calc`: which texts are calculations, their truth, and their values: `paper`'s
+//! to the bit, the library's by rules that compare it with a letter. These cannot
+//! tell -0 from 0: what is divided by either is bad.
 
 use crate::questions::{all_readings, as_lent};
 use crate::score::{same, text, Score, Verdict};
 use library::Asked;
-use paper::calculation::{holds, parse, value};
+use paper::calculation::{hears_all, holds, parse, value};
 use paper::{script, Reading, Readings, CALCULATION_BYTES, LETTERS, TABLE_BYTES};
 use std::path::Path;
 
@@ -41,51 +42,40 @@ fn one(line: &str) -> Verdict {
 
 fn by_paper(calculation: &[u8], result: &str, truth: &str, readings: &Readings) -> Verdict {
     let tree = parse(calculation).ok_or("paper refuses it")?;
-    let found = match value(&tree, readings) {
-        None => "bad".to_string(),
-        Some(v) if v.is_nan() => "nan".to_string(),
-        Some(v) => format!("{:016x}", v.to_bits()),
-    };
-    same("paper's value", result, &found)?;
+    let bits = |v: f64| format!("{:016x}", v.to_bits());
+    same("paper's value", result, &value(&tree, readings).map_or("bad".to_string(), bits))?;
     same("paper's truth", truth, &holds(&tree, readings).to_string())
 }
 
 /// The truth, and the value: that of a text is the one that it equals.
 fn by_library(calculation: &[u8], result: &str, truth: &str, readings: &Readings) -> Verdict {
     same("library's truth", Some(truth == "true"), is_true(calculation, readings))?;
+    if result == "bad" {
+        return is_bad(calculation, readings);
+    }
     let Some(letter) = unused(calculation) else { return Ok(()) };
-    let mut readings = *readings;
-    readings[letter] = Reading::Value(0.0);
-    if result == "bad" || result == "nan" {
-        return equals_nothing(calculation, letter, &readings);
-    }
     let bits = u64::from_str_radix(result, 16).map_err(|_| format!("{result} is no value"))?;
-    let expected = f64::from_bits(bits);
-    let negative = compared("1/(", calculation, ")<0");
-    let letter_name = char::from(b'A' + letter as u8);
-    let equal = if expected.is_infinite() {
-        compared("(", calculation, if expected > 0.0 { ")=1/0" } else { ")=-1/0" })
-    } else {
-        readings[letter] = Reading::Value(expected);
-        compared("(", calculation, &format!(")={letter_name}"))
-    };
-    fits("library's value", true, &equal, &readings)?;
-    if expected == 0.0 {
-        return fits("library's sign of zero", expected.is_sign_negative(), &negative, &readings);
-    }
-    Ok(())
+    let mut readings = *readings;
+    readings[letter] = Reading::Value(f64::from_bits(bits));
+    let behind = format!(")={}", char::from(b'A' + letter as u8));
+    fits("library's value", true, &around("(", calculation, &behind), &readings)
 }
 
-fn compared(before: &str, calculation: &[u8], behind: &str) -> Vec<u8> {
+fn around(before: &str, calculation: &[u8], behind: &str) -> Vec<u8> {
     [before.as_bytes(), calculation, behind.as_bytes()].concat()
 }
 
-/// A value that is not a number, and a calculation with a bad reading, is not
-/// less than another, nor equal, nor greater.
-fn equals_nothing(calculation: &[u8], letter: usize, readings: &Readings) -> Verdict {
-    for sign in ["<", "=", ">"] {
-        let behind = format!("){sign}{}", char::from(b'A' + letter as u8));
-        fits("library's value", false, &compared("(", calculation, &behind), readings)?;
+/// What holds of each value, or of each but some, holds of none that is bad. In
+/// the branch not chosen a bad letter counts, bad arithmetic not.
+fn is_bad(calculation: &[u8], readings: &Readings) -> Verdict {
+    let any = [("(", ")<1"), ("(", ")>=1"), ("(", ")=0"), ("(", ")#0"), ("!(", ")"), ("(", ")?1:1")];
+    let sides = [("1||(", ")"), ("(", ")||1"), ("!(0&&(", "))"), ("!((", ")&&0)")];
+    for (before, behind) in any.into_iter().chain(sides) {
+        fits("library's value", false, &around(before, calculation, behind), readings)?;
+    }
+    let heard = parse(calculation).is_some_and(|tree| hears_all(&tree, readings));
+    for (before, behind) in [("1?1:(", ")"), ("0?", ":1")] {
+        fits("library's branch not chosen", heard, &around(before, calculation, behind), readings)?;
     }
     Ok(())
 }

@@ -156,12 +156,67 @@ fn of_calculation(random: &mut Random, comparison: &mut Comparison) -> Go {
     Ok(())
 }
 
-/// A calculation's value to the bit, by rules that compare it: U reads the
-/// value that it should have, or one next to it.
+/// Rules that tell the value of a calculation between these: U reads it. The sign
+/// of a zero they cannot tell: what is divided by it is bad.
+const TOLD: [(&str, &str); 9] = [
+    ("(", ")=U"),
+    ("(", ")=U"),
+    ("(", ")>=U"),
+    ("(", ")<=U"),
+    ("(", ")#U"),
+    ("0/(", ")=0"),
+    ("!(", ")"),
+    ("(", ")&&1"),
+    ("(", ")?1:0"),
+];
+
+/// Rules that are true of each value, or of nearly each, and of no bad one; in the
+/// last two it is not evaluated.
+const SWALLOWED: [(&str, &str); 9] = [
+    ("(", ")?1:1"),
+    ("1||(", ")"),
+    ("(", ")||1"),
+    ("!(0&&(", "))"),
+    ("!((", ")&&0)"),
+    ("0*(", ")=0"),
+    ("!((", ")>1&&0)"),
+    ("1?1:(", ")"),
+    ("0?", ":1"),
+];
+
+/// A calculation's value, by rules that compare it: U reads the value that it
+/// should have, or one next to it.
 fn of_values(random: &mut Random, comparison: &mut Comparison) -> Go {
     let inner = calculation::right(random, &(0..20).collect::<Vec<u8>>(), 65);
     let mut values: Vec<f64> = (0..LETTERS).map(|_| good(random)).collect();
-    let ask = |values: &[f64]| Owned {
+    let tree = parse(&inner).expect("a right one");
+    let result = value(&tree, &all_heard(&values).readings());
+    comparison.count(format!("calculation {}", class(result)));
+    for _ in 0..2 {
+        let shapes = if random.percent(60) { &TOLD } else { &SWALLOWED };
+        let (before, behind) = random.pick(shapes);
+        let text = [before.as_bytes(), &inner, behind.as_bytes()].concat();
+        let table = table_of(&rule_of(&text)).expect("it is short enough");
+        values[LETTERS - 1] = result.unwrap_or(0.0);
+        comparison.decide(&table, &all_heard(&values))?;
+        values[LETTERS - 1] = f64::from_bits(values[LETTERS - 1].to_bits() ^ 1);
+        comparison.decide(&table, &all_heard(&values))?;
+    }
+    Ok(())
+}
+
+/// For the count of answers.
+fn class(result: Option<f64>) -> &'static str {
+    match result {
+        None => "bad by arithmetic",
+        Some(v) if 0.99 < v && v < 1.01 => "true",
+        Some(_) => "false",
+    }
+}
+
+/// Whoever asks, with good readings.
+fn all_heard(values: &[f64]) -> Owned {
+    Owned {
         group: Vec::new(),
         user: b"u".to_vec(),
         host: b"h".to_vec(),
@@ -169,30 +224,5 @@ fn of_values(random: &mut Random, comparison: &mut Comparison) -> Go {
         level: 1,
         states: vec![2; LETTERS],
         values: values.to_vec(),
-    };
-    let tree = parse(&inner).expect("a right one");
-    let result = value(&tree, &ask(&values).readings()).expect("all are good");
-    let shapes: &[(&[u8], &[u8])] = &[
-        (b"(", b")=U"),
-        (b"(", b")=U"),
-        (b"(", b")>=U"),
-        (b"(", b")<=U"),
-        (b"1/(", b")<0"),
-        (b"(", b")=1/0"),
-        (b"0/0#(", b")"),
-        (b"!(", b")"),
-        (b"(", b")&&1"),
-        (b"(", b")?1:0"),
-    ];
-    for _ in 0..2 {
-        let (before, behind) = random.pick(shapes);
-        let text = [before, &inner[..], behind].concat();
-        let table = table_of(&rule_of(&text)).expect("it is short enough");
-        values[LETTERS - 1] = if result.is_finite() { result } else { 0.0 };
-        comparison.decide(&table, &ask(&values))?;
-        let next = f64::from_bits(values[LETTERS - 1].to_bits() ^ 1);
-        values[LETTERS - 1] = if next.is_finite() { next } else { 0.0 };
-        comparison.decide(&table, &ask(&values))?;
     }
-    Ok(())
 }

@@ -76,13 +76,20 @@ pub fn parse(text: &[u8]) -> Option<Tree> {
     reader.symbols.is_empty().then_some(tree)
 }
 
-/// The value, if all letters in the tree have good readings.
-pub fn value(tree: &Tree, readings: &Readings) -> Option<f64> {
-    let good = tree.letters().into_iter().all(|l| readings[l as usize].good().is_some());
-    good.then(|| tree.value(readings))
+/// Whether each letter in the tree, in either branch, has a good reading.
+pub fn hears_all(tree: &Tree, readings: &Readings) -> bool {
+    tree.letters().into_iter().all(|l| readings[l as usize].good().is_some())
 }
 
-/// 0.99 < result < 1.01; a bad reading makes it false.
+/// The value; none where it is bad, by a letter or else by arithmetic.
+pub fn value(tree: &Tree, readings: &Readings) -> Option<f64> {
+    if !hears_all(tree, readings) {
+        return None;
+    }
+    tree.value(readings)
+}
+
+/// 0.99 < result < 1.01; false where the value is bad.
 pub fn holds(tree: &Tree, readings: &Readings) -> bool {
     value(tree, readings).is_some_and(|v| 0.99 < v && v < 1.01)
 }
@@ -240,7 +247,7 @@ impl Reader<'_> {
     }
 }
 
-/// Anything but 0, not-a-number too.
+/// Anything but 0.
 fn is_true(value: f64) -> bool {
     value != 0.0
 }
@@ -253,6 +260,7 @@ fn from_truth(truth: bool) -> f64 {
     }
 }
 
+/// Binary64, rounded once.
 fn apply(operator: Operator, x: f64, y: f64) -> f64 {
     match operator {
         Operator::Or => from_truth(is_true(x) || is_true(y)),
@@ -282,18 +290,22 @@ impl Tree {
         }
     }
 
-    /// Asked only if the letters' readings are good.
-    fn value(&self, readings: &Readings) -> f64 {
-        match self {
+    /// The value of an evaluated part. Document 02's third request: where it is
+    /// infinite or not a number there is none, nor of what it is a part of. Both
+    /// sides of an operator are evaluated; of a choice the condition and the
+    /// chosen branch.
+    fn value(&self, readings: &Readings) -> Option<f64> {
+        let value = match self {
             Tree::Number(value) => *value,
-            Tree::Letter(letter) => readings[*letter as usize].good().unwrap_or(f64::NAN),
-            Tree::Negative(x) => -x.value(readings),
-            Tree::Not(x) => from_truth(!is_true(x.value(readings))),
-            Tree::Binary(operator, x, y) => apply(*operator, x.value(readings), y.value(readings)),
+            Tree::Letter(letter) => readings[*letter as usize].good()?,
+            Tree::Negative(x) => -x.value(readings)?,
+            Tree::Not(x) => from_truth(!is_true(x.value(readings)?)),
+            Tree::Binary(operator, x, y) => apply(*operator, x.value(readings)?, y.value(readings)?),
             Tree::Choice(c, x, y) => {
-                let chosen = if is_true(c.value(readings)) { x } else { y };
-                chosen.value(readings)
+                let chosen = if is_true(c.value(readings)?) { x } else { y };
+                chosen.value(readings)?
             }
-        }
+        };
+        value.is_finite().then_some(value)
     }
 }

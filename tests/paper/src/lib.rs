@@ -5,7 +5,7 @@
 //! `file` (refusals 5 to 10 and warnings), `table` (bytes and check),
 //! `question` (decision and look-up), `calculation`, `programs`. `register` is
 //! document 02's first request, `script` its calls as lines; its second, roles,
-//! is part of `question`.
+//! is part of `question`, its third, bad arithmetic, of `calculation`.
 #![forbid(unsafe_code)]
 
 pub mod calculation;

@@ -92,11 +92,7 @@ fn calculation_line(fields: &[&str]) -> String {
     let Some(tree) = parse(&calculation) else { return format!("{}\trefused", fields[0]) };
     let given: Vec<Reading> = fields[4].split(' ').map(|r| script::reading(r).expect("a reading")).collect();
     let readings: Readings = given.try_into().expect("21 readings");
-    let bits = match value(&tree, &readings) {
-        None => "bad".to_string(),
-        Some(v) if v.is_nan() => "nan".to_string(),
-        Some(v) => format!("{:016x}", v.to_bits()),
-    };
+    let bits = value(&tree, &readings).map_or("bad".to_string(), |v| format!("{:016x}", v.to_bits()));
     format!("{}\tallowed\t{bits}\t{}\t{}", fields[0], holds(&tree, &readings), fields[4])
 }
 
