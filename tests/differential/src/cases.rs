@@ -2,7 +2,7 @@
 
 use crate::compare::{Comparison, Go};
 use crate::{register, stray};
-use inputs::question::{good, Names, Owned};
+use inputs::question::{all_good, Names, Owned};
 use inputs::random::Random;
 use inputs::{calculation, file, question, table};
 use paper::calculation::{parse, value};
@@ -10,12 +10,12 @@ use paper::{LETTERS, TABLE_BYTES};
 
 /// One case, of a kind chosen at random.
 pub fn run(random: &mut Random, comparison: &mut Comparison) -> Go {
-    match random.below(22) {
+    match random.below(24) {
         0..=11 => of_file(random, comparison),
         12..=15 => of_table(random, comparison),
         16 | 17 => of_calculation(random, comparison),
-        18 | 19 => of_values(random, comparison),
-        20 => of_roles(random, comparison),
+        18..=21 => of_values(random, comparison),
+        22 => of_roles(random, comparison),
         _ => of_register(random, comparison),
     }
 }
@@ -188,7 +188,7 @@ const SWALLOWED: [(&str, &str); 9] = [
 /// should have, or one next to it.
 fn of_values(random: &mut Random, comparison: &mut Comparison) -> Go {
     let inner = calculation::right(random, &(0..20).collect::<Vec<u8>>(), 65);
-    let mut values: Vec<f64> = (0..LETTERS).map(|_| good(random)).collect();
+    let mut values = all_good(random);
     let tree = parse(&inner).expect("a right one");
     let result = value(&tree, &all_heard(&values).readings());
     comparison.count(format!("calculation {}", class(result)));

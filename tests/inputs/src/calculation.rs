@@ -1,6 +1,6 @@
 //! Calculations: right ones of all shapes, damaged ones, and symbols at random.
 
-use super::{damage_bytes, with_byte};
+use super::{arithmetic, damage_bytes, with_byte};
 use crate::random::Random;
 use paper::{CALCULATION_BYTES, LETTERS};
 
@@ -37,6 +37,9 @@ pub fn all_letters() -> Vec<u8> {
 /// A calculation of these letters, at most `most` bytes long.
 pub fn right(random: &mut Random, letters: &[u8], most: usize) -> Vec<u8> {
     let mut depth = random.between(0, 5);
+    if random.percent(50) {
+        return arithmetic::whole(random, letters);
+    }
     loop {
         let mut text = Vec::new();
         expression(random, letters, depth, &mut text);
@@ -62,7 +65,7 @@ fn compound(random: &mut Random, letters: &[u8], depth: usize, text: &mut Vec<u8
         let depth = if random.percent(30) { 0 } else { depth };
         expression(random, letters, depth, text)
     };
-    match random.below(12) {
+    match random.below(14) {
         0 | 1 => {
             inner(random, text);
             text.push(b'?');
@@ -83,6 +86,7 @@ fn compound(random: &mut Random, letters: &[u8], depth: usize, text: &mut Vec<u8
             text.push(b'!');
             inner(random, text);
         }
+        6 | 7 => text.extend([b"(", &arithmetic::whole(random, letters)[..], b")"].concat()),
         _ => {
             inner(random, text);
             text.extend(random.pick(&BINARY).bytes());
@@ -98,9 +102,10 @@ fn space(random: &mut Random, text: &mut Vec<u8>) {
 }
 
 fn operand(random: &mut Random, letters: &[u8], text: &mut Vec<u8>) {
-    if random.percent(6) {
-        // Not a number, the infinities, -0.
-        text.extend(random.pick(&["(0/0)", "(1/0)", "(-1/0)", "(-0)", "(0*(1/0))"]).bytes());
+    if random.percent(2) {
+        text.extend(b"(-0)");
+    } else if random.percent(3) {
+        text.extend([b"(", &arithmetic::part(random, letters)[..], b")"].concat());
     } else if !letters.is_empty() && random.percent(50) {
         let letter = *random.pick(letters);
         text.push(if random.percent(70) { b'A' } else { b'a' } + letter);

@@ -2,6 +2,7 @@
 //! calls on a register.
 #![forbid(unsafe_code)]
 
+mod arithmetic;
 pub mod calculation;
 pub mod every;
 pub mod file;

@@ -217,7 +217,7 @@ fn aim_at_user(random: &mut Random, member: &[u8], question: &mut Owned) {
 /// All good, some bad, or of any length and kind.
 fn readings(random: &mut Random) -> (Vec<u8>, Vec<f64>) {
     match random.below(10) {
-        0..=5 => (vec![2; LETTERS], (0..LETTERS).map(|_| good(random)).collect()),
+        0..=5 => (vec![2; LETTERS], all_good(random)),
         6..=7 => {
             let states = (0..LETTERS).map(|_| if random.percent(90) { 2 } else { state(random) }).collect();
             let values =
@@ -229,6 +229,19 @@ fn readings(random: &mut Random) -> (Vec<u8>, Vec<f64>) {
             ((0..states).map(|_| state(random)).collect(), (0..values).map(|_| value(random)).collect())
         }
     }
+}
+
+/// Of all letters; now and then mostly zeros, or so great that their sums and
+/// products are infinite.
+pub fn all_good(random: &mut Random) -> Vec<f64> {
+    let still = [0.0, 0.0, 0.0, -0.0, 1.0, 5e-324];
+    let great = [f64::MAX, f64::MIN, 1e200, -1e200, 1e308, 1e-308, 1.0];
+    let of = match random.below(6) {
+        0 => &still[..],
+        1 => &great[..],
+        _ => return (0..LETTERS).map(|_| good(random)).collect(),
+    };
+    (0..LETTERS).map(|_| *random.pick(of)).collect()
 }
 
 fn state(random: &mut Random) -> u8 {

@@ -112,11 +112,13 @@ fn rule(random: &mut Random, heard: &[char]) -> String {
         _ => random.pick(&["UAG(u)", "UAG(v)", "HAG(h)", "HAG(g)", "UAG(u)HAG(h)", "UAG(none)"]),
     };
     let (one, two) = (random.pick(heard), random.pick(heard));
-    let calculation = match random.below(8) {
+    let calculation = match random.below(10) {
         0..=2 => format!("{one}"),
         3 => format!("!{one}"),
         4 => format!("{one}<{two}"),
         5 => format!("{one}>0.3?0:1"),
+        6 => format!("!({one}/{two}>0.5)"),
+        7 => format!("{two}=0?1:{one}/{two}"),
         _ => return format!("RULE({level},{permission}){{{people}}}").replace("{}", ""),
     };
     format!("RULE({level},{permission}){{{people}CALC(\"{calculation}\")}}")
