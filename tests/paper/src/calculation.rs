@@ -248,11 +248,11 @@ impl Reader<'_> {
 }
 
 /// Anything but 0.
-fn is_true(value: f64) -> bool {
+pub fn is_true(value: f64) -> bool {
     value != 0.0
 }
 
-fn from_truth(truth: bool) -> f64 {
+pub fn from_truth(truth: bool) -> f64 {
     if truth {
         1.0
     } else {
@@ -261,7 +261,7 @@ fn from_truth(truth: bool) -> f64 {
 }
 
 /// Binary64, rounded once.
-fn apply(operator: Operator, x: f64, y: f64) -> f64 {
+pub fn apply(operator: Operator, x: f64, y: f64) -> f64 {
     match operator {
         Operator::Or => from_truth(is_true(x) || is_true(y)),
         Operator::And => from_truth(is_true(x) && is_true(y)),

@@ -31,7 +31,7 @@ pub fn ask(rules: &[u8], input: &[u8]) -> String {
 }
 
 /// Nothing behind the last newline is no line.
-fn lines(input: &[u8]) -> Vec<&[u8]> {
+pub fn lines(input: &[u8]) -> Vec<&[u8]> {
     let mut lines: Vec<&[u8]> = input.split(|b| *b == b'\n').collect();
     if lines.last().is_some_and(|l| l.is_empty()) {
         lines.pop();
@@ -39,7 +39,8 @@ fn lines(input: &[u8]) -> Vec<&[u8]> {
     lines
 }
 
-fn answer_line(table: &[u8], line: &[u8]) -> String {
+/// What the asker prints for a line.
+pub fn answer_line(table: &[u8], line: &[u8]) -> String {
     let Some(question) = question(line) else { return "refused line\n".to_string() };
     match decide(table, &question) {
         Err(number) => format!("refused {number}\n"),

@@ -3,17 +3,20 @@
 //! which the comparison must find.
 #![allow(clippy::too_many_arguments, clippy::missing_safety_doc)]
 
+pub mod arithmetic;
 mod exports;
 mod register;
 mod roles;
 
+use arithmetic::judged;
 use paper::{Access, Answer, Question, Reading, Refusal, LETTERS};
 use roles::Given;
 use std::sync::OnceLock;
 
 /// Whether this fault is the chosen one. 1 to 22 are of the library, 23 to 38
 /// of the asker, 39 to 44 of the checker, 45 to 83 of the library's register,
-/// 84 to 104 of the library's roles, 105 of the asker's.
+/// 84 to 104 of the library's roles, 105 of the asker's, 106 to 122 of the
+/// library's calculation, 123 of its register's, 124 of the asker's.
 pub fn fault(number: u32) -> bool {
     static CHOSEN: OnceLock<u32> = OnceLock::new();
     let chosen = CHOSEN.get_or_init(|| {
@@ -173,7 +176,7 @@ unsafe fn decision(table: &[u8], question: Question, given: &Given, checked: boo
     } else if given.refused_early(&question) {
         Err(26)
     } else if checked || is_table(table) {
-        paper::decide_checked(table, &question)
+        paper::decide_checked(&judged(table, fault(113), |_| question.readings), &question)
     } else {
         Err(20)
     };

@@ -1,7 +1,8 @@
-//! The register over `paper` in lent bytes, with the faults 45 to 83 and 103. A
-//! place's record is laid out as this stub likes: taken, right, level, the three
+//! The register over `paper` in lent bytes, with the faults 45 to 83, 103 and 123.
+//! A place's record is laid out as this stub likes: taken, right, level, the three
 //! lengths, the three names.
 
+use crate::arithmetic::judged;
 use crate::fault;
 use paper::question::NOTHING;
 use paper::register::{changed, Rights};
@@ -144,7 +145,11 @@ fn number(answer: &Answer) -> u8 {
 /// The rights by `paper`; with fault 63 a client of an undefined group does not
 /// go by DEFAULT's readings.
 fn rights(register: &Register, table: &[u8]) -> Rights {
-    let mut rights = register.rights(table);
+    if !paper::is_table(table) {
+        return [NOTHING; PLACES];
+    }
+    let by_result = fault(113) || fault(123);
+    let mut rights = register.rights(&judged(table, by_result, |group| register.readings[group]));
     if fault(63) {
         let mut deaf = register.clone();
         deaf.readings.fill([Reading::NeverHeard; LETTERS]);
@@ -155,7 +160,7 @@ fn rights(register: &Register, table: &[u8]) -> Rights {
             }
         }
     }
-    if fault(103) && paper::is_table(table) {
+    if fault(103) {
         give_roles(register, table, &mut rights);
     }
     rights

@@ -1,7 +1,10 @@
-//! The asker by `paper`, with a fault of its own: HRAZVANUT_FAULT, 23 to 38 and
-//! 105.
+//! The asker by `paper`, with a fault of its own: HRAZVANUT_FAULT, 23 to 38, 105
+//! and 124.
 
+use paper::programs::{self, answer_line, question};
+use paper::{Reading, LETTERS, TABLE_BYTES};
 use std::io::{self, Read, Write};
+use stub::arithmetic::judged;
 use stub::fault;
 
 /// What the line would be read as, if it is misread. None if it is skipped.
@@ -54,6 +57,19 @@ fn input() -> io::Result<Vec<u8>> {
     }
 }
 
+/// What is printed; with fault 124 only the result of a calculation is looked at.
+fn printed(rules: &[u8], input: &[u8]) -> String {
+    let mut table = vec![0; TABLE_BYTES];
+    let loaded = paper::load(rules, &mut table).ok().filter(|_| fault(124));
+    let Some(loaded) = loaded else { return programs::ask(rules, input) };
+    table.truncate(loaded.length);
+    let answer = |line: &[u8]| {
+        let heard = question(line).map_or([Reading::NeverHeard; LETTERS], |asked| asked.readings);
+        answer_line(&judged(&table, true, |_| heard), line)
+    };
+    programs::lines(input).into_iter().map(answer).collect()
+}
+
 fn main() -> io::Result<()> {
     let mut rules = std::fs::read("rules.acf").ok();
     if fault(35) && rules.is_none() {
@@ -80,5 +96,5 @@ fn main() -> io::Result<()> {
     if ended {
         misread.push(b'\n');
     }
-    io::stdout().write_all(paper::programs::ask(&rules.unwrap_or_default(), &misread).as_bytes())
+    io::stdout().write_all(printed(&rules.unwrap_or_default(), &misread).as_bytes())
 }
