@@ -1,8 +1,8 @@
 //! Runs the built programs as processes and compares what they print with
 //! `paper`'s, byte for byte.
 //!
-//!     processes [-v] BIN SEED COUNT [CASE]     until COUNT lines are compared
-//!     processes [-v] BIN vectors FOLDER        on a folder of vectors
+//!     processes [-v] BIN SEED COUNT [CASE]                until COUNT lines are compared
+//!     processes [-v] BIN vectors FOLDER [AMENDED ...]     on a folder of vectors
 //!
 //! BIN is the folder of `checker` and `asker`. Exit code 0 and one line if all
 //! agree; 1 and the first difference if not. With CASE only that case of the
@@ -17,7 +17,9 @@ use std::path::{absolute, PathBuf};
 use std::process::exit;
 
 fn usage() -> ! {
-    eprintln!("usage: processes [-v] BIN SEED COUNT [CASE]\n       processes [-v] BIN vectors FOLDER");
+    eprintln!(
+        "usage: processes [-v] BIN SEED COUNT [CASE]\n       processes [-v] BIN vectors FOLDER [AMENDED ...]"
+    );
     exit(2)
 }
 
@@ -47,7 +49,9 @@ fn main() {
     let [bin, rest @ ..] = &words[..] else { usage() };
     let mut bench = Bench::new(folder(bin));
     let (done, of) = match rest {
-        ["vectors", path] => (vectors::run(&mut bench, &folder(path)), "vectors".to_string()),
+        ["vectors", path, amended @ ..] => {
+            (vectors::run(&mut bench, &folder(path), amended), "vectors".to_string())
+        }
         [seed, count] => (compare(&mut bench, number(seed), number(count), None), format!("seed {seed}")),
         [seed, count, case] => {
             let only = Some(number(case));

@@ -1,5 +1,6 @@
 //! The two programs on a folder of vectors: its `check` and its `ask`.
 
+use paper::programs;
 use processes::compare::{Bench, Go, Rules};
 use processes::process::How;
 use std::path::{Path, PathBuf};
@@ -15,14 +16,20 @@ fn entries(folder: &Path) -> Vec<PathBuf> {
     paths
 }
 
-pub fn run(bench: &mut Bench, folder: &Path) -> Go {
+/// An amended one, named `ask/NAME`, is held to `paper`.
+pub fn run(bench: &mut Bench, folder: &Path, amended: &[&str]) -> Go {
     for path in entries(&folder.join("check")) {
         if path.extension().is_some_and(|e| e == "acf") {
             bench.check(&bytes(&path), &How::Pipe, &bytes(&path.with_extension("out")))?;
         }
     }
     for path in entries(&folder.join("ask")) {
-        let (input, output) = (bytes(&path.join("stdin")), bytes(&path.join("stdout")));
+        let (input, mut output) = (bytes(&path.join("stdin")), bytes(&path.join("stdout")));
+        let name = format!("ask/{}", path.file_name().unwrap_or_default().to_string_lossy());
+        if amended.contains(&&name[..]) {
+            let rules = std::fs::read(path.join("rules.acf")).unwrap_or_default();
+            output = programs::ask(&rules, &input).into_bytes();
+        }
         bench.ask(Rules::In(&path), &input, &How::Pipe, &output)?;
     }
     Ok(())

@@ -1,5 +1,7 @@
-//! Holds `paper` to a folder of test vectors: `vectors FOLDER`. Prints a line
-//! for each difference and one with the counts; exit code 1 on a difference.
+//! Holds `paper` to a folder of test vectors: `vectors FOLDER [AMENDED ...]`.
+//! Prints a line for each difference and one with the counts; exit code 1 on a
+//! difference. AMENDED are the vectors, as `ask/NAME` or `calc/LINE`, whose answers
+//! a request has changed: one of these that agrees, or is not there, is a difference.
 
 use paper::calculation::{holds, parse, value};
 use paper::{programs, script, Reading, Readings, TABLE_BYTES};
@@ -9,9 +11,25 @@ use std::path::{Path, PathBuf};
 struct Score {
     same: usize,
     different: usize,
+    amended: usize,
+    /// The names of those not come to yet.
+    awaited: Vec<String>,
 }
 
 impl Score {
+    /// A vector that a request may have amended.
+    fn compare_named(&mut self, name: &str, what: &str, agrees: bool) {
+        let Some(place) = self.awaited.iter().position(|awaited| awaited == name) else {
+            return self.compare(what, agrees);
+        };
+        self.awaited.remove(place);
+        if agrees {
+            self.compare(&format!("{name} agrees, though amended"), false);
+        } else {
+            self.amended += 1;
+        }
+    }
+
     fn compare(&mut self, what: &str, agrees: bool) {
         if agrees {
             self.same += 1;
@@ -73,7 +91,9 @@ fn ask(folder: &Path, score: &mut Score) {
     for path in entries(&folder.join("ask")) {
         let rules = std::fs::read(path.join("rules.acf")).unwrap_or_default();
         let output = programs::ask(&rules, &bytes(&path.join("stdin")));
-        score.compare(&format!("answers of {}", path.display()), output == text(&path.join("stdout")));
+        let name = format!("ask/{}", path.file_name().unwrap_or_default().to_string_lossy());
+        let agrees = output == text(&path.join("stdout"));
+        score.compare_named(&name, &format!("answers of {}", path.display()), agrees);
     }
 }
 
@@ -100,22 +120,26 @@ fn calculations(folder: &Path, score: &mut Score) {
     for (number, line) in text(&folder.join("calc")).lines().enumerate() {
         let mut fields: Vec<&str> = line.split('\t').collect();
         fields.resize(5, "- - - - - - - - - - - - - - - - - - - - -");
-        score.compare(&format!("calculation {}: {line}", number + 1), calculation_line(&fields) == line);
+        let name = format!("calc/{}", number + 1);
+        score.compare_named(&name, &format!("{name}: {line}"), calculation_line(&fields) == line);
     }
 }
 
 fn main() {
     let Some(folder) = std::env::args_os().nth(1).or_else(|| std::env::var_os("VECTORS")) else {
-        eprintln!("usage: vectors FOLDER");
+        eprintln!("usage: vectors FOLDER [AMENDED ...]");
         std::process::exit(2);
     };
     let folder = PathBuf::from(folder);
-    let mut score = Score::default();
+    let mut score = Score { awaited: std::env::args().skip(2).collect(), ..Score::default() };
     check(&folder, &mut score);
     ask(&folder, &mut score);
     table(&folder, &mut score);
     calculations(&folder, &mut score);
-    println!("{} agree, {} differ", score.same, score.different);
+    for name in std::mem::take(&mut score.awaited) {
+        score.compare(&format!("{name} is not there"), false);
+    }
+    println!("{} agree, {} amended, {} differ", score.same, score.amended, score.different);
     if score.different > 0 {
         std::process::exit(1);
     }
