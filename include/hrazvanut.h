@@ -38,8 +38,9 @@
  * not know is zero, and zero asks for nothing and says nothing. Expect numbers of refusals and warnings that you do not know.
  *
  * Header and library are of one revision of the repository. A library knows no struct of this header; a function hrazvanut_abi_* whose
- * parameters or answer change gets another name, so that a header does not link with a library that means something else. */
-#define HRAZVANUT_VERSION_MAJOR 4
+ * parameters or form of answer change gets another name, so that a header does not link with a library that it cannot talk to. Where the
+ * rules change and the form does not, as in 5.0, MAJOR grows and the names stay. */
+#define HRAZVANUT_VERSION_MAJOR 5
 #define HRAZVANUT_VERSION_MINOR 0
 #define HRAZVANUT_VERSION (HRAZVANUT_VERSION_MAJOR * 1000 + HRAZVANUT_VERSION_MINOR)
 
@@ -533,10 +534,11 @@ static inline bool hrazvanut_is_table(struct hrazvanut_table table)
 
 /* ---- a question */
 
-/* Who may do what with a channel of a group. A rule whose calculation names a letter with a bad reading does not match. A member `role/NAME`
- * of a user group is whoever has the role NAME, and nobody by the user's name; the role of no bytes is that of the member `role/`. Every
- * other member is the user of that name. Refused: 20 not a table, then 21 a level neither 0 nor 1, then 26 more than HRAZVANUT_ROLES roles
- * or one of more than HRAZVANUT_ROLE_LENGTH bytes. */
+/* Who may do what with a channel of a group. A rule whose calculation names a letter with a bad reading does not match; nor does one
+ * whose calculation evaluates a part that is infinite or not a number, as 0/0 is. A member `role/NAME` of a user group is whoever has
+ * the role NAME, and nobody by the user's name; the role of no bytes is that of the member `role/`. Every other member is the user of that
+ * name. Refused: 20 not a table, then 21 a level neither 0 nor 1, then 26 more than HRAZVANUT_ROLES roles or one of more than
+ * HRAZVANUT_ROLE_LENGTH bytes. */
 static inline struct hrazvanut_answer hrazvanut_decide(struct hrazvanut_table table, const struct hrazvanut_question *question)
 {
     return hrazvanut_abi_ask(hrazvanut_abi_decide_roles, table, question);

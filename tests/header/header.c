@@ -50,7 +50,7 @@ static void words(void)
     static const int known[] = {0, 1, 2, 3, 4, 5, 6, 7, 8, 9, 10, 11, 20, 21, 22, 23, 24, 25, 26, 34};
     size_t k = 0;
     int n;
-    CHECK(HRAZVANUT_VERSION == 4000 && HRAZVANUT_VERSION / 1000 == HRAZVANUT_VERSION_MAJOR);
+    CHECK(HRAZVANUT_VERSION == 5000 && HRAZVANUT_VERSION / 1000 == HRAZVANUT_VERSION_MAJOR);
     CHECK(HRAZVANUT_ROLES == 16 && HRAZVANUT_ROLE_LENGTH == 60);
     CHECK(hrazvanut_abi_bytes(NULL, 0) != NULL);
     CHECK(hrazvanut_string(NULL).length == 0);
