@@ -44,7 +44,7 @@ fn lines() {
             count += 1;
         }
     }
-    assert_eq!(count, 24);
+    assert_eq!(count, 30);
 }
 
 #[test]
