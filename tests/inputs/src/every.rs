@@ -1,4 +1,4 @@
-//! Lines that are the same in each run: few enough to be all asked.
+//! Lines and files that are the same in each run: few enough to be all asked.
 
 const PLACES: [&str; 18] = [
     "@ ann pc1 1",
@@ -26,6 +26,16 @@ pub fn lines() -> Vec<u8> {
     let values = [each_short_value(), each_number_of_digits()].concat();
     let asked = values.iter().map(|value| [b"- ann pc1 1 A:", &value[..]].concat()).collect();
     [each_byte(), asked, each_number_of_letters(), each_length()].concat().join(&b'\n')
+}
+
+/// A comment of a megabyte and a half.
+pub fn long_file() -> Vec<u8> {
+    b"# a tower\n".repeat(150_000)
+}
+
+/// A file with as many warnings as 16,384 bytes have room for.
+pub fn warned_file() -> Vec<u8> {
+    b"F()".repeat(5_461)
 }
 
 /// Each byte in each place.

@@ -11,13 +11,27 @@ use processes::process::How;
 const RULES: &[u8] =
     b"ASG(DEFAULT) {INPA(B1:PGA) RULE(1,READ) RULE(1,WRITE,TRAPWRITE) {CALC(\"A>0.3?0:1\")}}";
 
-/// The first case is the same for each seed; the others are made.
+const QUESTION: &[u8] = b"- ann pc1 1 A:0.25\n";
+
+/// The first cases are the same for each seed; the others are made.
 pub fn run(case: u64, random: &mut Random, bench: &mut Bench) -> Go {
-    if case > 0 {
-        return made(random, bench);
+    match case {
+        0 => asked(Some(RULES), &every::lines(), bench),
+        1 => asked(None, QUESTION, bench),
+        2 => asked(Some(&every::long_file()), QUESTION, bench),
+        3 => checked(&every::long_file(), &How::Pipe, bench),
+        4 => checked(&every::warned_file(), &How::Pipe, bench),
+        _ => made(random, bench),
     }
-    let input = every::lines();
-    bench.ask(Rules::Text(Some(RULES)), &input, &How::Pipe, programs::ask(RULES, &input).as_bytes())
+}
+
+fn asked(rules: Option<&[u8]>, input: &[u8], bench: &mut Bench) -> Go {
+    let expected = programs::ask(rules.unwrap_or_default(), input);
+    bench.ask(Rules::Text(rules), input, &How::Pipe, expected.as_bytes())
+}
+
+fn checked(text: &[u8], how: &How, bench: &mut Bench) -> Go {
+    bench.check(text, how, programs::check(text).as_bytes())
 }
 
 /// A run of the asker takes many lines, so there are more of the checker.
@@ -35,8 +49,7 @@ fn of_file(random: &mut Random, bench: &mut Bench) -> Go {
         1 => lines::huge_file(random),
         _ => file::any(random),
     };
-    let how = how(random, &text);
-    bench.check(&text, &how, programs::check(&text).as_bytes())
+    checked(&text, &how(random, &text), bench)
 }
 
 fn of_lines(random: &mut Random, bench: &mut Bench) -> Go {
