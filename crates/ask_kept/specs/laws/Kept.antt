@@ -1,6 +1,6 @@
 -- The loops over the rules of a group, turn by turn; and that what they leave gives the group's decision.
 use mathlib.Core.Path.{_≡_, refl, sym, ap, _∙_}
-use mathlib.Core.Bool.{Bool, true, false, cond, _&&_}
+use mathlib.Core.Bool.{Bool, true, false, cond, _&&_, and-false}
 use mathlib.Core.List.{List, [], _∷_, map}
 use Prim.Native.Nat.{ℕ, suc, _+_, _≤_, _<_}
 use native.Mathlib.Omega.{arith}
@@ -32,10 +32,6 @@ kept-none : (ks : List ℕ) (ts : List Bool) → kept-decision ks ts [] ≡ no-a
 kept-none [] ts = refl
 kept-none (k ∷ ks) [] = refl
 kept-none (k ∷ ks) (t ∷ ts) = refl
-
-and-false : (a : Bool) → a && false ≡ false
-and-false true = refl
-and-false false = refl
 
 module _ (d : Decision) (k : ℕ) (t : Bool) (r : Rule) where
   pub not-kept : k ≡ 0 → Settled d → d ≡ then d (by-kept k t r)

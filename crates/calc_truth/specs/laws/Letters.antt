@@ -1,6 +1,6 @@
 -- The letters of a text's bytes are those of its tree. Assumes nothing.
 use mathlib.Core.Path.{_≡_, refl, sym, _∙_, ap}
-use mathlib.Core.Bool.{Bool, true, false, _&&_}
+use mathlib.Core.Bool.{Bool, true, false, _&&_, and-false}
 use mathlib.Core.List.{List, [], _∷_, _++_, append-nil, append-assoc, List·Memᴰ}
 use mathlib.Core.Option.{Option, none, some}
 use Prim.Native.Nat.{ℕ}
@@ -134,8 +134,4 @@ given-tree s given p = go (tree-of s) refl
         (o : Option Tree) → tree-of s ≡ o
         → holds-of o (λ t. all (given-letter given) (letters t) && p t) ≡ all (given-letter given) (byte-letters s) && holds-of o p
     go none e = sym (and-false (all (given-letter given) (byte-letters s)))
-      where
-        and-false : (b : Bool) → (b && false) ≡ false
-        and-false true = refl
-        and-false false = refl
     go (some t) e = rw (bytes-same s t e given)

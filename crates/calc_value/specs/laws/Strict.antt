@@ -1,13 +1,13 @@
 -- What the code works out is finite exactly if every evaluated part is, and then it is the value. Assumes nothing.
 use mathlib.Core.Path.{_≡_, refl, sym, ap, _∙_}
-use mathlib.Core.Bool.{Bool, true, false, not, cond, _&&_, false≢true}
+use mathlib.Core.Bool.{Bool, true, false, not, cond, _&&_, and-false, false≢true}
 use mathlib.Core.List.{List}
 use lib.Ieee.{Float, nan, inf, fin, neg, lt, ofBits}
 use Rattle.spec_calc.specs.declared.Operator.{Operator}
 use Rattle.spec_calc.specs.declared.Reading.{Reading}
 use Rattle.spec_calc.specs.Expression.{Tree, number-tree, letter-tree, minus, negation, binary, choice}
 use Rattle.spec_calc.specs.Value.{truth, is-true, apply, heard, reading, value, finite, evaluated, finite-throughout, near-one}
-use Rattle.spec_calc.specs.laws.Evaluated.{binary-throughout, choice-throughout}
+use Rattle.spec_calc.specs.laws.Evaluated.{minus-throughout, negation-throughout, binary-throughout, choice-throughout}
 use Rattle.calc_arith.specs.Strict.{strict-not, strict-apply, strict-choice}
 use Rattle.calc_value.specs.Strict.{strict-value}
 
@@ -15,10 +15,6 @@ use Rattle.calc_value.specs.Strict.{strict-value}
 data Stands-for (v x : Float) : Bool → Type 0 where
   good : v ≡ x → finite x ≡ true → Stands-for v x true
   bad : finite v ≡ false → Stands-for v x false
-
-and-false : (b : Bool) → b && false ≡ false
-and-false true = refl
-and-false false = refl
 
 neg-finite : (x : Float) → finite (neg x) ≡ finite x
 unfolding neg
@@ -73,8 +69,8 @@ stands : (rs : List Reading) (t : Tree) → Stands-for (strict-value rs t) (valu
 unfolding strict-value value evaluated
 stands rs (number-tree x) = by-finite x
 stands rs (letter-tree i) = by-finite (heard (reading rs i))
-stands rs (minus t) = minus-stands (stands rs t)
-stands rs (negation t) = not-stands (stands rs t)
+stands rs (minus t) = rw (minus-throughout rs t) (minus-stands (stands rs t))
+stands rs (negation t) = rw (negation-throughout rs t) (not-stands (stands rs t))
 stands rs (binary o t u) = rw (binary-throughout rs o t u) (binary-stands o (stands rs t) (stands rs u))
 stands rs (choice c x y) = rw (choice-throughout rs c x y) (choice-stands (stands rs c) (stands rs x) (stands rs y))
 

@@ -13,7 +13,7 @@ use Rattle.spec_calc.specs.declared.Worth.the-variants.{Bad, Is}
 use Rattle.spec_calc.specs.Expression.{Tree, number-tree, letter-tree, minus, negation, binary, choice}
 use Rattle.spec_calc.specs.Value.{heard, reading, value, good, letters, evaluated, finite-throughout, near-one, true-worth, holds}
 use Rattle.spec_calc.specs.Readings.{Gone-bad}
-use Rattle.spec_calc.specs.laws.Evaluated.{binary-throughout, choice-throughout}
+use Rattle.spec_calc.specs.laws.Evaluated.{minus-throughout, negation-throughout, binary-throughout, choice-throughout}
 
 abbrev all-good : List Reading → List ℕ → Bool
 all-good rs ls = all (λ i. good (reading rs i)) ls
@@ -60,8 +60,8 @@ module _ (rs qs : List Reading) where
   unfolding value evaluated
   throughout-agrees (number-tree x) a = refl
   throughout-agrees (letter-tree i) a = rw (a i (List·Memᴰ·head refl))
-  throughout-agrees (minus t) a = rw (value-agrees t a, throughout-agrees t a)
-  throughout-agrees (negation t) a = rw (value-agrees t a, throughout-agrees t a)
+  throughout-agrees (minus t) a = rw (minus-throughout rs t, minus-throughout qs t, value-agrees t a, throughout-agrees t a)
+  throughout-agrees (negation t) a = rw (negation-throughout rs t, negation-throughout qs t, value-agrees t a, throughout-agrees t a)
   throughout-agrees (binary o t u) a =
       let b = left (letters t) (letters u) a in
       let d = right (letters t) (letters u) a in

@@ -6,6 +6,7 @@ use Prim.Native.Nat.{ℕ}
 use lib.Dec.{T, eqb}
 use Rattle.spec_lists.specs.Select.{all}
 use Rattle.spec_lists.specs.laws.Both.{both}
+use Rattle.spec_lists.specs.laws.Every.{all-append}
 use Rattle.spec_lists.specs.Every.{Every, nil, cons}
 use Rattle.spec_token.specs.declared.Kind.{Kind}
 use Rattle.spec_token.specs.declared.Kind.the-variants as kind
@@ -83,10 +84,6 @@ rules-keep (block-number top) h = refl
 rules-keep (block-number inner) h = refl
 rules-keep second-block h = refl
 
-all-append : (l k : Stack) → stack-may l ≡ true → stack-may k ≡ true → stack-may (l ++ k) ≡ true
-all-append [] k h g = g
-all-append (x ∷ l) k h g = let w = both (entry-may x) (stack-may l) h in rw (w .0) (all-append l k (w .1) g)
-
 -- what a step says and leaves keeps to it
 abbrev step-may : Kind → Step → Type 0
 step-may t halt = Unit {0}
@@ -97,7 +94,7 @@ find-keeps no-rule t k d h g w = w
 find-keeps (rule (x tagged r) l rs) t k d h g w =
     let a = both (may-say x r) (stack-may l && rules-may rs) h in
     let b = both (stack-may l) (rules-may rs) (a .1) in
-    found (eqb (kind-number x) (kind-number t)) refl (find-keeps rs t k d (b .1) g w) (a .0) (all-append l k (b .0) g)
+    found (eqb (kind-number x) (kind-number t)) refl (find-keeps rs t k d (b .1) g w) (a .0) (rw (all-append entry-may l k, b .0, g))
   where
     found :
         (c : Bool) → eqb (kind-number x) (kind-number t) ≡ c → step-may t (find rs t k d) → may-say x r ≡ true → stack-may (l ++ k) ≡ true

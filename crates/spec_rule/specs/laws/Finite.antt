@@ -14,13 +14,13 @@ use Rattle.spec_rule.specs.Question.{Question}
 use Rattle.spec_rule.specs.Rule.{Rule, calculation-holds}
 use Rattle.spec_rule.specs.Privilege.{Some, here, further, Answers, Yields-true, Gives, Greatest, Determined, by-group, by-no-group}
 use Rattle.spec_rule.specs.Finite.{Finite-values, Gives-on-finite-values}
-use Rattle.spec_rule.specs.laws.Privilege.{calculation-sound}
+use Rattle.spec_rule.specs.laws.Privilege.{calculation-is}
 
 yields-finite : (rs : List Reading) (s : List ℕ) → Yields-true rs s → Finite-values rs s
 yields-finite rs s y t p = subst (Finite-parts rs) (one-tree s (y .tree) t (y .says) p) (y .parts)
 
 pub true-finite : (rs : List Reading) (s : List ℕ) → calculation-holds rs (some s) ≡ true → Finite-values rs s
-true-finite rs s e = yields-finite rs s (calculation-sound rs (some s) e s refl)
+true-finite rs s e = yields-finite rs s (calculation-is rs s .0 e)
 
 on-finite : (q : Question) {a : Access} {rs : List Rule} → Some (Gives q a) rs → Some (Gives-on-finite-values q a) rs
 on-finite q (here g) = here (g, λ s e. yields-finite (q .readings) s (g .0 .asked .calculation s e))

@@ -63,7 +63,7 @@ module _ (rs : List Reading) where
             below = y .1;
           }
 
-  pub calculation-sound : (o : Option (List ℕ)) → calculation-holds rs o ≡ true → (s : List ℕ) → o ≡ some s → Yields-true rs s
+  calculation-sound : (o : Option (List ℕ)) → calculation-holds rs o ≡ true → (s : List ℕ) → o ≡ some s → Yields-true rs s
   calculation-sound none e s h = let z : _≡_ {A = ℕ} 0 1 = cc in absurd (omega arith)
   calculation-sound (some u) e s h = let same : u ≡ s = cc in subst (Yields-true rs) same (yields u e)
 
