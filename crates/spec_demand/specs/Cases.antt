@@ -1,12 +1,12 @@
--- 01, "Proved and run cases": those that are proved, together as a single list; 02's of request 3; and 001's example of a role. Each is computed from its
--- text by the definitions.
+-- 01, "Proved and run cases": those that are proved, together as a single list; 02's of requests 3 and 4; and 001's example of a role. Each is computed
+-- from its text by the definitions.
 use mathlib.Core.Path.{_≡_}
 use mathlib.Core.Bool.{Bool, true, false}
 use mathlib.Core.List.{List, [], _∷_, map}
 use mathlib.Core.Option.{some}
 use Prim.Native.Nat.{ℕ, _+_, _-_}
 use Prim.Native.String.{String}
-use lib.ListN.{replicate}
+use lib.ListN.{replicate, set}
 use lib.Ieee.{Float, nan, binary64, ofBits}
 use Rattle.spec_lists.specs.Text.{bytes}
 use Rattle.spec_token.specs.Word.{greatest-letter}
@@ -18,6 +18,10 @@ use Rattle.spec_rule.specs.declared.Access.the-variants as access
 use Rattle.spec_rule.specs.Decision.{with-trap}
 use Rattle.spec_rule.specs.Question.{Question, asking, question-of}
 use Rattle.spec_rule.specs.Rule.{calculation-holds}
+use Rattle.spec_file.specs.declared.Refusal.the-variants.{GivenAgain, UndefinedGroup}
+use Rattle.spec_table.specs.Check.{is-table}
+use Rattle.spec_load.specs.declared.Loaded.{Loaded}
+use Rattle.spec_load.specs.declared.Loaded.the-variants.{Refused}
 use Rattle.spec_load.specs.Load.{load}
 use Rattle.spec_decision.specs.declared.Answer.{Answer}
 use Rattle.spec_decision.specs.declared.Answer.the-variants.{Answered, BadLevel, BadRoles}
@@ -150,3 +154,38 @@ pub record Role-cases : Type 0 where
   pub seventeen : with-the-roles special "someone" (replicate 17 []) 0 ≡ BadRoles
   pub too-long : with-the-roles special "someone" (replicate 61 0 ∷ []) 0 ≡ BadRoles
   pub level-first : with-the-roles special "someone" (replicate 17 []) 2 ≡ BadLevel
+
+-- what a load of a text answers
+abbrev pub loaded : String → Loaded
+loaded s = load buffer (bytes s) .answer
+
+-- the group's name as it is defined
+abbrev pub spelt : String
+spelt = "UAG(lift) {ann} ASG(DEFAULT) {RULE(1,WRITE) {UAG(lift)}}"
+
+-- the table of that file, with the number of its reference, the two bytes at 74, made 65,535
+abbrev pub without-group : List ℕ
+without-group = set (set (load buffer (bytes spelt) .bytes) 74 255) 75 255
+
+-- 02, ticket 4
+pub record Group-cases : Type 0 where
+  -- "A site wrote `Lift` for `lift`"
+  pub misspelt : loaded "UAG(lift) {ann} ASG(DEFAULT) {RULE(1,WRITE) {UAG(Lift)}}" ≡ Refused UndefinedGroup 49
+  pub as-defined : asked spelt (ann "" 0 silent) ≡ write
+  -- "somewhere in the file"
+  pub defined-behind : asked "ASG(DEFAULT) {RULE(1,WRITE) {UAG(lift)}} UAG(lift) {ann}" (ann "" 0 silent) ≡ write
+  pub uag-by-hag : loaded "HAG(lift) {pc1} ASG(DEFAULT) {RULE(1,WRITE) {UAG(lift)}}" ≡ Refused UndefinedGroup 49
+  pub hag-by-uag : loaded "UAG(lift) {ann} ASG(DEFAULT) {RULE(1,WRITE) {HAG(lift)}}" ≡ Refused UndefinedGroup 49
+  -- "named in a rule": in one that is switched off too, not in an unknown element
+  pub switched-off : loaded "ASG(DEFAULT) {RULE(1,WRITE) {METHOD() UAG(lift)}}" ≡ Refused UndefinedGroup 42
+  pub in-unknown : asked "ASG(DEFAULT) {RULE(1,READ) RULE(1,WRITE) {METHOD() {UAG(lift)}}}" (ann "" 0 silent) ≡ Answered (with-trap access.Read false)
+  pub by-unknown : loaded "FOO() {UAG(lift)} ASG(DEFAULT) {RULE(1,WRITE) {UAG(lift)}}" ≡ Refused UndefinedGroup 51
+  -- "at its first name in a rule, after 7 and before 8"
+  pub second-rule : loaded "ASG(DEFAULT) {RULE(1,READ) RULE(1,WRITE) {HAG(desk) UAG(lift)}}" ≡ Refused UndefinedGroup 46
+  pub after-seven : loaded "UAG(lift) {ann} UAG(lift) {bob} ASG(DEFAULT) {RULE(1,WRITE) {UAG(Lift)}}" ≡ Refused GivenAgain 20
+  pub before-eight : loaded "ASG(DEFAULT) {RULE(2,WRITE) {UAG(lift)}}" ≡ Refused UndefinedGroup 33
+  -- "01's whole checker output becomes a refusal"
+  pub whole-output : loaded "UAG(a) {x}\nFOO(1)\nASG(DEFAULT) {RULE(1,WRITE) {UAG(b) BAR()}}\n" ≡ Refused UndefinedGroup 51
+  -- "A table with number 65,535 is still a table.", and its reference has no members
+  pub still-table : is-table without-group ≡ true
+  pub no-members : decide without-group (ann "" 0 silent) ≡ none

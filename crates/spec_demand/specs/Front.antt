@@ -7,11 +7,13 @@ use mathlib.Core.Logic.{_↔_, _⊎_}
 use mathlib.Core.Option.{Option, none, some}
 use Prim.Native.Nat.{ℕ, _≤_, _<_}
 use lib.Ieee.{Float}
-use lib.ListN.{length, replicate}
+use lib.ListN.{length, getD, replicate}
 use Rattle.spec_calc.specs.declared.Reading.the-variants.{NeverHeard}
 use Rattle.spec_rule.specs.declared.Access.{Access}
 use Rattle.spec_rule.specs.declared.Access.the-variants as access
 use Rattle.spec_rule.specs.declared.Decision.{Decision}
+use Rattle.spec_file.specs.declared.Refusal.the-variants.{StringTooLong, TooMany, GivenAgain, UndefinedGroup, UnknownWord, BadCalculation}
+use Rattle.spec_file.specs.declared.Refusal.the-variants as refusal
 use Rattle.spec_load.specs.declared.Loaded.the-variants as loaded
 use Rattle.spec_register.specs.declared.Added.the-variants as added
 use Rattle.spec_load.specs.declared.Listed.the-variants as listed
@@ -20,7 +22,7 @@ use Rattle.spec_decision.specs.declared.Found.{Found}
 use Rattle.spec_decision.specs.declared.Found.the-variants as found
 use Rattle.spec_demand.specs.Vocabulary.{Every, Token, Spelled, Ascending, Stands-in, greatest-letter, Tagged, Reading, Tree, Parses, tree-of, Gone-bad}
 use Rattle.spec_demand.specs.Vocabulary.{Question, reading-instead, with-roles, Roles-fit, Valid, rank, greatest-level, Refusal}
-use Rattle.spec_demand.specs.Vocabulary.{refusal-number, place, file-of, Context, contexts, Applies}
+use Rattle.spec_demand.specs.Vocabulary.{refusal-number, turn, place, file-of, Context, contexts, Applies}
 use Rattle.spec_demand.specs.Vocabulary.{Text-reads, Caused, Acceptable, Refusable, Warned, warnings, Given, Table, is-table, total-of, view, table-of}
 use Rattle.spec_demand.specs.Vocabulary.{greatest-table, written, without-room, load, warnings-written, listing, look-up, look-up-number, part-in}
 use Rattle.spec_demand.specs.Vocabulary.{number, access-in, trap-in, decide, By-table, By-file, Edition, Later, Says-no, Names-input, Finds-input}
@@ -34,6 +36,7 @@ use Rattle.spec_demand.specs.Vocabulary.{Spares-reading, First-applies, 
 use Rattle.spec_demand.specs.Vocabulary.{Lent, lent, places-bytes, all-readings, zeroed, right-in, left, left-by-calls, told, Agrees, Too-short, on-table}
 use Rattle.spec_demand.specs.Vocabulary.{Never-more-to-clients}
 use Rattle.spec_demand.specs.Vocabulary.{calculation-holds, Some, Yields-true, Finite-values, Gives-on-finite-values, access-groups, name, rules-of}
+use Rattle.spec_demand.specs.Vocabulary.{Names-undefined, Groups-defined, references, number-field, Group-cases}
 use Rattle.spec_demand.specs.laws.Cited as proved
 
 -- DEMAND 1. Total: no file, table, name, level or reading makes it index outside, trap or run on. A refusal carries a number, a load's
@@ -42,13 +45,14 @@ use Rattle.spec_demand.specs.laws.Cited as proved
 -- Every definition is a function of all texts, bytes and questions: each has an answer. That the code gives this answer, in bounds and
 -- without fail, is what its contracts prove. The rest of the demand:
 pub record Total : Type 0 where
-  -- 1 to 10 at a place in the text or at its end; or 11 and the bytes needed, more than were lent
+  -- 1 to 10 or 12 at a place in the text or at its end; or 11 and the bytes needed, more than were lent
   pub load-refusals :
       (lent s : List ℕ) (r : Refusal) (p : ℕ) → load lent s .answer ≡ loaded.Refused r p
-      → ((1 ≤ refusal-number r) × (refusal-number r ≤ 10) × (p ≤ length s)) ⊎ ((refusal-number r ≡ 11) × (length lent < p) × (p ≤ greatest-table))
+      → ((((1 ≤ refusal-number r) × (refusal-number r ≤ 10)) ⊎ (refusal-number r ≡ 12)) × (p ≤ length s))
+      ⊎ ((refusal-number r ≡ 11) × (length lent < p) × (p ≤ greatest-table))
   pub listing-refusals :
       (skip : ℕ) (numbers places s : List ℕ) (r : Refusal) (p : ℕ) → listing skip numbers places s .answer ≡ listed.Refused r p
-      → (1 ≤ refusal-number r) × (refusal-number r ≤ 10) × (p ≤ length s)
+      → (((1 ≤ refusal-number r) × (refusal-number r ≤ 10)) ⊎ (refusal-number r ≡ 12)) × (p ≤ length s)
   pub question-refusals : (b : List ℕ) (q : Question) (n : ℕ) → number (decide b q) ≡ some n → (n ≡ 20) ⊎ (n ≡ 21) ⊎ (n ≡ 26)
   pub look-up-refusals :
       (b g : List ℕ) (letter n : ℕ) → look-up-number (look-up b g letter) ≡ some n → ((n ≡ 20) ⊎ (n ≡ 22)) × (part-in (look-up b g letter) b ≡ [])
@@ -81,7 +85,14 @@ pub record Exact : Type 0 where
   -- a token's text stands in the file at its place, and places ascend, so that "the earliest place" means that
   pub places-ascend : {s : List ℕ} {ts : List Token} → Spelled s ts → Ascending (map (λ t. t .place) ts)
   pub tokens-stand : {s : List ℕ} {ts : List Token} → Spelled s ts → Every (Stands-in s) ts
-  pub five-to-ten : {c : Context} {r : Refusal} → Applies c r → (5 ≤ refusal-number r) × (refusal-number r ≤ 10)
+  -- the causes at tokens, their numbers, and the order in which all are judged: the turn is a number's place in it
+  pub causes :
+      {c : Context} {r : Refusal} → Applies c r
+      → List·Memᴰ r (StringTooLong ∷ TooMany ∷ GivenAgain ∷ UndefinedGroup ∷ refusal.BadLevel ∷ UnknownWord ∷ BadCalculation ∷ [])
+  pub cause-numbers :
+      map refusal-number (StringTooLong ∷ TooMany ∷ GivenAgain ∷ UndefinedGroup ∷ refusal.BadLevel ∷ UnknownWord ∷ BadCalculation ∷ [])
+      ≡ 5 ∷ 6 ∷ 7 ∷ 12 ∷ 8 ∷ 9 ∷ 10 ∷ []
+  pub turns : (r : Refusal) → getD (1 ∷ 2 ∷ 3 ∷ 4 ∷ 5 ∷ 6 ∷ 7 ∷ 12 ∷ 8 ∷ 9 ∷ 10 ∷ 11 ∷ []) (turn r) 0 ≡ refusal-number r
   pub earliest :
       {s : List ℕ} {xs : List Tagged} {r : Refusal} {p : ℕ} → Text-reads s xs → Caused xs r p
       → Every (λ c. Applies c r → p ≤ place (c .here)) (contexts xs)
@@ -89,8 +100,8 @@ pub record Exact : Type 0 where
   pub refused : (lent s : List ℕ) (r : Refusal) (p : ℕ) → Refusable s r p → load lent s ≡ record { answer = loaded.Refused r p; bytes = lent }
   pub table : (lent s : List ℕ) (xs : List Tagged) → Acceptable s xs → length (table-of (file-of xs)) ≤ length lent → load lent s ≡ written lent xs
   pub no-room : (lent s : List ℕ) (xs : List Tagged) → Acceptable s xs → length lent < length (table-of (file-of xs)) → load lent s ≡ without-room lent xs
-  -- its warnings: those that 01 names and no others, by place; the list of them is refused as the load is
-  pub warned : (xs : List Tagged) (w : Warned) → List·Memᴰ w (warnings xs) ↔ Given xs xs w
+  -- its warnings: 1 and 2 as 01 names them and no others, by place; the list of them is refused as the load is
+  pub warned : (xs : List Tagged) (w : Warned) → List·Memᴰ w (warnings xs) ↔ Given xs w
   pub by-place : {s : List ℕ} {xs : List Tagged} → Text-reads s xs → Ascending (map (λ w. w .place) (warnings xs))
   pub list :
       (skip : ℕ) (numbers places s : List ℕ) (xs : List Tagged) → Acceptable s xs → listing skip numbers places s ≡ warnings-written skip numbers places xs
@@ -131,7 +142,9 @@ demand-2 =
       one-refusal = proved.one-refusal;
       places-ascend = proved.places-ascend;
       tokens-stand = proved.tokens-stand;
-      five-to-ten = proved.five-to-ten;
+      causes = proved.cause-among;
+      cause-numbers = refl;
+      turns = proved.number-at-turn;
       earliest = proved.earliest;
       refused = proved.refused-load;
       table = proved.laid-down;
@@ -355,3 +368,25 @@ granted-on-finite-values = proved.granted-on-finite-values
 -- the ticket's examples, and what 01 alone would have called true
 pub arithmetic-cases : Arithmetic-cases
 arithmetic-cases = proved.arithmetic-cases
+
+-- REQUEST 4. Misspelt groups: "A group named in a rule must be defined somewhere in the file. Warning 3 goes [..]. Demands 2 and 3 take the new condition.
+-- Refusals: 12 undefined group, at its first name in a rule, after 7 and before 8." So they do above: undefined-group is one of the causes, in Acceptable and
+-- Refusable, and demand 3 is of accepted loads. It has a cause at each name of an undefined group in a rule, and at no other token, so that the earliest of
+-- these names is the place of 12;
+pub undefined-exactly : (xs : List Tagged) → Every (λ c. Applies c UndefinedGroup ↔ Names-undefined (file-of xs) (c .here)) (contexts xs)
+undefined-exactly = proved.undefined-exactly
+
+-- and in a file of the grammar it has none exactly if each group that a rule of the file names is defined
+pub defined-exactly :
+    {s : List ℕ} {xs : List Tagged} → Text-reads s xs → Every (λ c. Applies c UndefinedGroup → ⊥) (contexts xs) ↔ Groups-defined (file-of xs)
+defined-exactly {xs = xs} = proved.defined-exactly xs
+
+-- "A table with number 65,535 is still a table.": it is so above (Table), and such a reference has no members (By-table); but no load makes one
+pub numbers-given :
+    (s : List ℕ) (xs : List Tagged) → Acceptable s xs → (rest : List ℕ)
+    → Every (λ row. number-field row ≡ 65535 → ⊥) (view (table-of (file-of xs) ++ rest) .records references)
+numbers-given = proved.numbers-given
+
+-- `Lift` for `lift`, what counts as defined, the order and the place; and a table with that number
+pub group-cases : Group-cases
+group-cases = proved.group-cases

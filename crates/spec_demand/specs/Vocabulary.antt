@@ -13,14 +13,15 @@ pub use Rattle.spec_rule.specs.Question.{Question, reading-instead, with-roles,
 pub use Rattle.spec_rule.specs.Rule.{rank, calculation-holds}
 pub use Rattle.spec_rule.specs.Answering.{greatest-level}
 pub use Rattle.spec_file.specs.declared.Refusal.{Refusal}
-pub use Rattle.spec_file.specs.Refusal.{number as refusal-number, Context, contexts, Applies}
+pub use Rattle.spec_file.specs.Refusal.{number as refusal-number, turn, Context, contexts, Applies}
 pub use Rattle.spec_file.specs.Contents.{place, file-of}
 pub use Rattle.spec_file.specs.Acceptance.{Text-reads, Caused, Acceptable, Refusable}
 pub use Rattle.spec_file.specs.Warning.{Warned, warnings, Given}
-pub use Rattle.spec_file.specs.Limit.{access-groups}
+pub use Rattle.spec_file.specs.Defined.{Names-undefined, Groups-defined}
+pub use Rattle.spec_file.specs.Limit.{access-groups, references}
 pub use Rattle.spec_table.specs.View.{total-of, view}
 pub use Rattle.spec_table.specs.Policy.{name, rules-of}
-pub use Rattle.spec_table.specs.Table.{Table}
+pub use Rattle.spec_table.specs.Table.{Table, number-field}
 pub use Rattle.spec_table.specs.Check.{is-table}
 pub use Rattle.spec_table.specs.Written.{table-of}
 pub use Rattle.spec_table.specs.Layout.{greatest-table}
@@ -32,7 +33,7 @@ pub use Rattle.spec_decision.specs.Privilege.{By-table, By-file}
 pub use Rattle.spec_edition.specs.Edition.{Edition, Later, Says-no}
 pub use Rattle.spec_demand.specs.Calls.{Call, after-call, is-accepted, No-accepted-load, Told, refusal-of}
 pub use Rattle.spec_demand.specs.Memory.{Memory, Storage, bytes-in, Step, calls-of, Made, Nobody-else-writes}
-pub use Rattle.spec_demand.specs.Cases.{Proved-cases, Arithmetic-cases, Role-cases}
+pub use Rattle.spec_demand.specs.Cases.{Proved-cases, Arithmetic-cases, Role-cases, Group-cases}
 pub use Rattle.spec_rule.specs.Decision.{no-access}
 pub use Rattle.spec_rule.specs.Privilege.{Some, Answers, Yields-true}
 pub use Rattle.spec_rule.specs.Finite.{Finite-values, Gives-on-finite-values}

@@ -1,4 +1,4 @@
--- Which texts are accepted and for what they say, and for what the others are refused. 01, "Load refusals, in their order". No reader stands here.
+-- Which texts are accepted and for what they say, and for what the others are refused. 01, "Load refusals, in their order"; 02, ticket 4. No reader stands here.
 use mathlib.Core.Path.{_≡_}
 use mathlib.Core.List.{List, _∷_, _++_}
 use mathlib.Core.Option.{none, some}
@@ -11,7 +11,7 @@ use Rattle.spec_file.specs.Limit.{most-bytes}
 use Rattle.spec_file.specs.declared.Refusal.{Refusal}
 use Rattle.spec_file.specs.declared.Refusal.the-variants.{FileTooLong, BadByte, TooDeep, Ungrammatical}
 use Rattle.spec_file.specs.Contents.{place}
-use Rattle.spec_file.specs.Refusal.{number, Context, contexts, Applies}
+use Rattle.spec_file.specs.Refusal.{turn, Context, contexts, Applies}
 use Rattle.spec_file.specs.Depth.{too-deep}
 
 -- the text s is a file of the grammar, and its tokens say xs
@@ -24,21 +24,22 @@ pub record Text-reads (s : List ℕ) (xs : List Tagged) : Type 0 where
 abbrev pub Nowhere : Refusal → List Context → Type 0
 Nowhere r cs = Every (λ c. Applies c r → ⊥) cs
 
--- the text s gives no cause for a refusal 1 to 10, and says xs
+-- the text s gives no cause for a refusal 1 to 10 or 12, and says xs
 pub record Acceptable (s : List ℕ) (xs : List Tagged) : Type 0 where
   pub short : length s ≤ most-bytes
   pub as-read : Text-reads s xs
   pub shallow : too-deep 0 (as-read .spelled) ≡ none
   pub uncaused : (r : Refusal) → Nowhere r (contexts xs)
 
--- 01: "The lowest number that applies is answered. Within it, the earliest place": r has a cause, first at the token of c, and no lower number has one
+-- 01: "The lowest number that applies is answered. Within it, the earliest place"; 02: 12 "after 7 and before 8". So r has a cause, first at the token of c,
+-- and none whose turn is before has one.
 pub data Caused (xs : List Tagged) (r : Refusal) : ℕ → Type 0 where
   caused :
       {c : Context} (earlier later : List Context) → contexts xs ≡ earlier ++ (c ∷ later) → Applies c r → Nowhere r earlier
-      → ((lower : Refusal) → number lower < number r → Nowhere lower (contexts xs))
+      → ((sooner : Refusal) → turn sooner < turn r → Nowhere sooner (contexts xs))
       → Caused xs r (place (c .here))
 
--- the same of the refusals 1 to 10: r is the refusal of the text s, and p its place
+-- the same of all the text's refusals, 1 to 10 and 12: r is the refusal of the text s, and p its place
 pub data Refusable (s : List ℕ) : Refusal → ℕ → Type 0 where
   long-file : most-bytes < length s → Refusable s FileTooLong 0
   bad-byte : {p : ℕ} → length s ≤ most-bytes → Bad-at s p → Refusable s BadByte p

@@ -6,4 +6,5 @@ pub mod Refusal
 pub mod Warning
 pub mod Load
 pub mod Acceptance
+pub mod Defined
 pub mod laws

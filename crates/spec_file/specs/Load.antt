@@ -14,13 +14,14 @@ use Rattle.spec_grammar.specs.Sentence.{Tagged}
 use Rattle.spec_grammar.specs.Reader.{Parse, parsed, stopped, read}
 use Rattle.spec_file.specs.declared.Refusal.{Refusal}
 use Rattle.spec_file.specs.declared.Refusal.the-variants.{FileTooLong, BadByte, TooDeep, Ungrammatical, StringTooLong, TooMany, GivenAgain, BadLevel}
-use Rattle.spec_file.specs.declared.Refusal.the-variants.{UnknownWord, BadCalculation}
+use Rattle.spec_file.specs.declared.Refusal.the-variants.{UndefinedGroup, UnknownWord, BadCalculation}
 use Rattle.spec_file.specs.Limit.{most-bytes}
 use Rattle.spec_file.specs.Contents.{has-role, text, place}
 use Rattle.spec_file.specs.Depth.{too-deep}
-use Rattle.spec_file.specs.Refusal.{Context, contexts, too-long, too-many, given-again, bad-level, unknown-word, letters-given, letters-among}
+use Rattle.spec_file.specs.Refusal.{Context, contexts, too-long, too-many, given-again, undefined-group, bad-level, unknown-word, letters-given}
+use Rattle.spec_file.specs.Refusal.{letters-among}
 
--- ---- 5 to 10
+-- ---- 5 to 7, 12, 8 to 10
 
 abbrev pub bad-calculation : Context → Bool
 bad-calculation c = has-role Calculation (c .here) && not (holds-of (tree-of (text (c .here))) (letters-among (letters-given c)))
@@ -29,12 +30,13 @@ pub record Cause : Type 0 where
   pub refusal : Refusal
   pub applies : Context → Bool
 
--- the causes in the order of their numbers
+-- the causes in their order
 abbrev pub causes : List Cause
 causes =
     record { refusal = StringTooLong; applies = too-long }
     ∷ record { refusal = TooMany; applies = too-many }
     ∷ record { refusal = GivenAgain; applies = given-again }
+    ∷ record { refusal = UndefinedGroup; applies = undefined-group }
     ∷ record { refusal = BadLevel; applies = bad-level }
     ∷ record { refusal = UnknownWord; applies = unknown-word }
     ∷ record { refusal = BadCalculation; applies = bad-calculation }
@@ -54,7 +56,7 @@ abbrev pub refused-by : List Cause → List Context → Option Refusal-at
 refused-by [] cs = none
 refused-by (k ∷ ks) cs = or-else (k .refusal) (first (k .applies) cs) (refused-by ks cs)
 
--- ---- 1 to 10
+-- ---- all of them
 
 -- what a load does with a text: refuse it at a place, or accept it for what its tokens say
 pub data Verdict : Type 0 where
@@ -65,7 +67,7 @@ abbrev pub by-causes : List Tagged → Option Refusal-at → Verdict
 by-causes xs none = accept xs
 by-causes xs (some r) = refuse (r .refusal) (r .place)
 
--- 4, then 5 to 10
+-- 4, then the causes
 abbrev pub by-grammar : Parse → Verdict
 by-grammar (stopped p) = refuse Ungrammatical p
 by-grammar (parsed xs) = by-causes xs (refused-by causes (contexts xs))

@@ -8,3 +8,5 @@ pub mod Either
 pub mod Places
 pub mod Warnings
 pub mod Numbered
+pub mod Named
+pub mod Defined

@@ -1,4 +1,4 @@
-// The load's refusals: 01, "Load refusals, in their order". specs/Refusal.antt gives each its number.
+// The load's refusals: 01, "Load refusals, in their order", and 02. specs/Refusal.antt gives each its number.
 pub enum Refusal {
     FileTooLong,
     BadByte,
@@ -7,6 +7,7 @@ pub enum Refusal {
     StringTooLong,
     TooMany,
     GivenAgain,
+    UndefinedGroup,
     BadLevel,
     UnknownWord,
     BadCalculation,
@@ -17,5 +18,4 @@ pub enum Refusal {
 pub enum Warning {
     UnknownItem,
     UnknownPredicate,
-    UndefinedGroup,
 }

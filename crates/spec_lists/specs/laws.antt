@@ -1,4 +1,5 @@
 pub mod Alike
+pub mod Any
 pub mod Both
 pub mod Every
 pub mod Joined

@@ -8,3 +8,4 @@ pub mod Stands
 pub mod Theorem
 pub mod Table
 pub mod Size
+pub mod Numbers

@@ -12,7 +12,7 @@ use Rattle.spec_table.specs.Check.{is-table}
 use Rattle.spec_table.specs.Written.{table-of}
 use Rattle.spec_load.specs.Load.{load}
 use Rattle.spec_decision.specs.Decision.{decide}
-use Rattle.spec_demand.specs.Cases.{Proved-cases, Arithmetic-cases, Role-cases}
+use Rattle.spec_demand.specs.Cases.{Proved-cases, Arithmetic-cases, Role-cases, Group-cases}
 
 pub proved-cases : Proved-cases
 unfolding load verdict scan table-of layout is-table view decide tree-of run reduce symbols-in value evaluated ne lt le eq add sub mul div neg ofBits ofInt
@@ -75,4 +75,24 @@ role-cases =
       seventeen = refl;
       too-long = refl;
       level-first = refl;
+    }
+
+pub group-cases : Group-cases
+unfolding load verdict scan table-of layout is-table view decide tree-of
+group-cases =
+    record {
+      misspelt = refl;
+      as-defined = refl;
+      defined-behind = refl;
+      uag-by-hag = refl;
+      hag-by-uag = refl;
+      switched-off = refl;
+      in-unknown = refl;
+      by-unknown = refl;
+      second-rule = refl;
+      after-seven = refl;
+      before-eight = refl;
+      whole-output = refl;
+      still-table = refl;
+      no-members = refl;
     }

@@ -3,12 +3,14 @@ pub use Rattle.spec_token.specs.laws.Theorem.{places-ascend, tokens-stand}
 pub use Rattle.spec_calc.specs.laws.Theorem.{parses-sound, parses-complete}
 pub use Rattle.spec_rule.specs.laws.Privilege.{calculation-is}
 pub use Rattle.spec_rule.specs.laws.Finite.{true-finite}
-pub use Rattle.spec_file.specs.laws.Causes.{five-to-ten}
+pub use Rattle.spec_file.specs.laws.Causes.{cause-among, number-at-turn}
 pub use Rattle.spec_file.specs.laws.Either.{acceptable-or-refusable, never-acceptable-and-refusable, one-reading, one-refusal}
 pub use Rattle.spec_file.specs.laws.Places.{earliest, warnings-by-place}
 pub use Rattle.spec_file.specs.laws.Warnings.{warned-exactly}
+pub use Rattle.spec_file.specs.laws.Defined.{undefined-exactly, defined-exactly}
 pub use Rattle.spec_table.specs.laws.Table.{table-is}
 pub use Rattle.spec_table.specs.laws.Size.{table-total}
+pub use Rattle.spec_table.specs.laws.Numbers.{numbers-given}
 pub use Rattle.spec_decision.specs.laws.Refused.{refused-question-numbered, refused-grants-nothing, refused-look-up-empty, not-table-is, bad-level-is, bad-roles-is, letter-over}
 pub use Rattle.spec_decision.specs.laws.Roles.{role-removed}
 pub use Rattle.spec_decision.specs.laws.Privilege.{by-table-is, granted-on-finite-values}
@@ -20,7 +22,7 @@ pub use Rattle.spec_demand.specs.laws.Loaded.{refused-call-leaves}
 pub use Rattle.spec_demand.specs.laws.Privilege.{by-file-is, input-is}
 pub use Rattle.spec_demand.specs.laws.Exact.{zeros-grant-nothing, laid-down, not-laid-down, stands}
 pub use Rattle.spec_demand.specs.laws.Memory.{never-more}
-pub use Rattle.spec_demand.specs.laws.Cases.{proved-cases, arithmetic-cases, role-cases}
+pub use Rattle.spec_demand.specs.laws.Cases.{proved-cases, arithmetic-cases, role-cases, group-cases}
 pub use Rattle.spec_register.specs.laws.Sized.{sized}
 pub use Rattle.spec_register.specs.laws.Rights.{right-answers, answering-readings, free-right, beyond-right, no-table-right}
 pub use Rattle.spec_register.specs.laws.Places.{added-lowest, changed-only, removed-only, client-stays}

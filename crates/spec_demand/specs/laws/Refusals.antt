@@ -1,4 +1,4 @@
--- What a refused load or listing answers: a number of 01's and a place.
+-- What a refused load or listing answers: a number of 01's or 02's and a place.
 use mathlib.Core.Path.{_≡_, refl, sym, ap, _∙_}
 use mathlib.Core.Bool.{Bool, true, false, cond}
 use mathlib.Core.List.{List}
@@ -23,17 +23,17 @@ use Rattle.spec_load.specs.declared.Listed.the-variants as listed
 use Rattle.spec_load.specs.Load.{written, without-room, by-verdict, load}
 use Rattle.spec_load.specs.Listing.{listed-by, listing}
 use Rattle.spec_file.specs.laws.Theorem.{refused-is}
-use Rattle.spec_file.specs.laws.Numbered.{refusal-numbered}
+use Rattle.spec_file.specs.laws.Numbered.{Of-a-text, refusal-numbered}
 
 -- the text is at fault, or the bytes needed are more than those lent
 pub refused-load-numbered :
     (lent s : List ℕ) (r : Refusal) (p : ℕ) → load lent s .answer ≡ loaded.Refused r p
-    → ((1 ≤ number r) × (number r ≤ 10) × (p ≤ length s)) ⊎ ((number r ≡ 11) × (length lent < p) × (p ≤ greatest-table))
+    → (Of-a-text (number r) × (p ≤ length s)) ⊎ ((number r ≡ 11) × (length lent < p) × (p ≤ greatest-table))
 unfolding load
 refused-load-numbered lent s r p e = by (verdict s) refl e
   where
     Numbered : Type 0
-    Numbered = ((1 ≤ number r) × (number r ≤ 10) × (p ≤ length s)) ⊎ ((number r ≡ 11) × (length lent < p) × (p ≤ greatest-table))
+    Numbered = (Of-a-text (number r) × (p ≤ length s)) ⊎ ((number r ≡ 11) × (length lent < p) × (p ≤ greatest-table))
 
     room :
         (xs : List Tagged) (b : Bool) → verdict s ≡ accept xs → leb (length (table-of (file-of xs))) (length lent) ≡ b
@@ -53,12 +53,12 @@ refused-load-numbered lent s r p e = by (verdict s) refl e
 
 pub refused-listing-numbered :
     (skip : ℕ) (numbers places s : List ℕ) (r : Refusal) (p : ℕ) → listing skip numbers places s .answer ≡ listed.Refused r p
-    → (1 ≤ number r) × (number r ≤ 10) × (p ≤ length s)
+    → Of-a-text (number r) × (p ≤ length s)
 unfolding listing
 refused-listing-numbered skip numbers places s r p e = by (verdict s) refl e
   where
     by :
         (v : Verdict) → verdict s ≡ v → listed-by skip numbers places v .answer ≡ listed.Refused r p
-        → (1 ≤ number r) × (number r ≤ 10) × (p ≤ length s)
+        → Of-a-text (number r) × (p ≤ length s)
     by (refuse q z) v h = let same : refuse q z ≡ refuse r p = cc in refusal-numbered (refused-is s r p (v ∙ same))
     by (accept xs) v h = let z : _≡_ {A = ℕ} 0 1 = cc in absurd (omega arith)

@@ -1,17 +1,17 @@
--- The machine's tests decide the causes, and stand in the order of their numbers.
+-- The machine's tests decide the causes, and stand in the order of their turns.
 use mathlib.Core.Path.{_≡_, refl, sym, ap, subst, _∙_}
-use mathlib.Core.Bool.{Bool, true, false, not, _&&_, false≢true}
-use mathlib.Core.List.{List, [], _∷_, _++_}
+use mathlib.Core.Bool.{Bool, true, false, not, false≢true}
+use mathlib.Core.List.{List, [], _∷_, _++_, List·Memᴰ, List·Memᴰ·head, List·Memᴰ·tail}
 use mathlib.Core.Option.{Option, none, some}
 use Prim.Native.Nat.{ℕ, suc, _≤_, _<_}
 use native.Mathlib.Omega.{arith}
 use lib.Dec.{leb}
 use lib.ListN.{getD}
 use borrow.Author.Tests.{leb-true, leb-false, not-true}
-use Rattle.spec_lists.specs.Select.{holds-of, first, first-if}
+use Rattle.spec_lists.specs.Select.{holds-of, first}
 use Rattle.spec_lists.specs.Every.{Every, nil, cons}
 use Rattle.spec_lists.specs.laws.Both.{both}
-use Rattle.spec_lists.specs.laws.Every.{every, every-implies, every-split, first-none, first-is, none-first}
+use Rattle.spec_lists.specs.laws.Every.{every, every-implies, first-none, first-is, none-first}
 use Rattle.spec_calc.specs.Expression.{Tree}
 use Rattle.spec_calc.specs.Reader.{tree-of}
 use Rattle.spec_calc.specs.laws.Theorem.{parses-sound, parses-complete}
@@ -19,10 +19,10 @@ use Rattle.spec_grammar.specs.declared.Role.the-variants.{Calculation}
 use Rattle.spec_grammar.specs.Sentence.{Tagged}
 use Rattle.spec_file.specs.declared.Refusal.{Refusal}
 use Rattle.spec_file.specs.declared.Refusal.the-variants.{FileTooLong, BadByte, TooDeep, Ungrammatical, StringTooLong, TooMany, GivenAgain, BadLevel}
-use Rattle.spec_file.specs.declared.Refusal.the-variants.{UnknownWord, BadCalculation, NoRoom}
+use Rattle.spec_file.specs.declared.Refusal.the-variants.{UndefinedGroup, UnknownWord, BadCalculation, NoRoom}
 use Rattle.spec_file.specs.Contents.{has-role, text, place}
-use Rattle.spec_file.specs.Refusal.{number, Context, contexts, too-long, too-many, given-again, bad-level, unknown-word, letters-given}
-use Rattle.spec_file.specs.Refusal.{letters-among, Allowed, Applies, long, many, again, level, word, calculation}
+use Rattle.spec_file.specs.Refusal.{number, turns, turn, Context, contexts, too-long, too-many, given-again, undefined-group, bad-level}
+use Rattle.spec_file.specs.Refusal.{unknown-word, letters-given, letters-among, Allowed, Applies, long, many, again, nowhere-defined, level, word, calculation}
 use Rattle.spec_file.specs.Acceptance.{Nowhere, Caused, caused}
 use Rattle.spec_file.specs.Load.{bad-calculation, Cause, causes, Refusal-at, or-else, refused-by}
 
@@ -33,7 +33,7 @@ record Decides (k : Cause) : Type 0 where
   no : (c : Context) → k .applies c ≡ false → Applies c (k .refusal) → ⊥
 
 -- a test that says yes and no cannot be
-never : {b : Bool} → b ≡ false → b ≡ true → ⊥
+pub never : {b : Bool} → b ≡ false → b ≡ true → ⊥
 never e h = false≢true (sym e ∙ h)
 
 module _ (c : Context) where
@@ -67,78 +67,113 @@ not-many c e (many h) = never e h
 not-again : (c : Context) → given-again c ≡ false → Applies c GivenAgain → ⊥
 not-again c e (again h) = never e h
 
+pub not-defined : (c : Context) → undefined-group c ≡ false → Applies c UndefinedGroup → ⊥
+not-defined c e (nowhere-defined h) = never e h
+
 not-level : (c : Context) → bad-level c ≡ false → Applies c BadLevel → ⊥
 not-level c e (level h) = never e h
 
 not-word : (c : Context) → unknown-word c ≡ false → Applies c UnknownWord → ⊥
 not-word c e (word h) = never e h
 
--- some causes, each decided by its test, whose numbers go from n to 10
+-- some causes, each decided by its test, whose turns go from n to 10
 data Ordered : ℕ → List Cause → Type 0 where
   behind-all : Ordered 11 []
-  in-order : {n : ℕ} {k : Cause} {ks : List Cause} → number (k .refusal) ≡ n → Decides k → Ordered (suc n) ks → Ordered n (k ∷ ks)
+  in-order : {n : ℕ} {k : Cause} {ks : List Cause} → turn (k .refusal) ≡ n → Decides k → Ordered (suc n) ks → Ordered n (k ∷ ks)
 
-ordered : Ordered 5 causes
+ordered : Ordered 4 causes
 ordered =
     in-order refl (record { yes = λ c h. long h; no = not-long })
     (in-order refl (record { yes = λ c h. many h; no = not-many })
     (in-order refl (record { yes = λ c h. again h; no = not-again })
+    (in-order refl (record { yes = λ c h. nowhere-defined h; no = not-defined })
     (in-order refl (record { yes = λ c h. level h; no = not-level })
-    (in-order refl (record { yes = λ c h. word h; no = not-word }) (in-order refl (record { yes = bad; no = good }) behind-all)))))
+    (in-order refl (record { yes = λ c h. word h; no = not-word }) (in-order refl (record { yes = bad; no = good }) behind-all))))))
 
--- ---- numbers
+-- ---- turns
 
-by-number : List Refusal
-by-number =
-    NoRoom ∷ FileTooLong ∷ BadByte ∷ TooDeep ∷ Ungrammatical ∷ StringTooLong ∷ TooMany ∷ GivenAgain ∷ BadLevel ∷ UnknownWord ∷ BadCalculation ∷ NoRoom ∷ []
+by-turn : List Refusal
+by-turn =
+    FileTooLong ∷ BadByte ∷ TooDeep ∷ Ungrammatical ∷ StringTooLong ∷ TooMany ∷ GivenAgain ∷ UndefinedGroup ∷ BadLevel ∷ UnknownWord ∷ BadCalculation ∷ NoRoom ∷ []
 
-numbered : (r : Refusal) → getD by-number (number r) NoRoom ≡ r
-unfolding by-number
-numbered FileTooLong = refl
-numbered BadByte = refl
-numbered TooDeep = refl
-numbered Ungrammatical = refl
-numbered StringTooLong = refl
-numbered TooMany = refl
-numbered GivenAgain = refl
-numbered BadLevel = refl
-numbered UnknownWord = refl
-numbered BadCalculation = refl
-numbered NoRoom = refl
+turned : (r : Refusal) → getD by-turn (turn r) NoRoom ≡ r
+unfolding by-turn
+turned FileTooLong = refl
+turned BadByte = refl
+turned TooDeep = refl
+turned Ungrammatical = refl
+turned StringTooLong = refl
+turned TooMany = refl
+turned GivenAgain = refl
+turned UndefinedGroup = refl
+turned BadLevel = refl
+turned UnknownWord = refl
+turned BadCalculation = refl
+turned NoRoom = refl
 
-one-number : (a b : Refusal) → number a ≡ number b → a ≡ b
-one-number a b e = sym (numbered a) ∙ ap (λ (n : ℕ). getD by-number n NoRoom) e ∙ numbered b
+one-turn : (a b : Refusal) → turn a ≡ turn b → a ≡ b
+one-turn a b e = sym (turned a) ∙ ap (λ (n : ℕ). getD by-turn n NoRoom) e ∙ turned b
 
--- only 5 to 10 have causes at tokens
-pub five-to-ten : {c : Context} {r : Refusal} → Applies c r → (5 ≤ number r) × (number r ≤ 10)
-five-to-ten (long h) = omega arith
-five-to-ten (many h) = omega arith
-five-to-ten (again h) = omega arith
-five-to-ten (level h) = omega arith
-five-to-ten (word h) = omega arith
-five-to-ten (calculation h n) = omega arith
+-- each number stands in the order at its turn
+pub number-at-turn : (r : Refusal) → getD turns (turn r) 0 ≡ number r
+number-at-turn FileTooLong = refl
+number-at-turn BadByte = refl
+number-at-turn TooDeep = refl
+number-at-turn Ungrammatical = refl
+number-at-turn StringTooLong = refl
+number-at-turn TooMany = refl
+number-at-turn GivenAgain = refl
+number-at-turn UndefinedGroup = refl
+number-at-turn BadLevel = refl
+number-at-turn UnknownWord = refl
+number-at-turn BadCalculation = refl
+number-at-turn NoRoom = refl
+
+-- the refusals that have causes at tokens stand together
+cause-turns : {c : Context} {r : Refusal} → Applies c r → (4 ≤ turn r) × (turn r ≤ 10)
+cause-turns (long h) = omega arith
+cause-turns (many h) = omega arith
+cause-turns (again h) = omega arith
+cause-turns (nowhere-defined h) = omega arith
+cause-turns (level h) = omega arith
+cause-turns (word h) = omega arith
+cause-turns (calculation h n) = omega arith
+
+-- these refusals, in the order of their turns
+abbrev pub of-tokens : List Refusal
+of-tokens = StringTooLong ∷ TooMany ∷ GivenAgain ∷ UndefinedGroup ∷ BadLevel ∷ UnknownWord ∷ BadCalculation ∷ []
+
+pub cause-among : {c : Context} {r : Refusal} → Applies c r → List·Memᴰ r of-tokens
+cause-among (long h) = List·Memᴰ·head refl
+cause-among (many h) = List·Memᴰ·tail (List·Memᴰ·head refl)
+cause-among (again h) = List·Memᴰ·tail (List·Memᴰ·tail (List·Memᴰ·head refl))
+cause-among (nowhere-defined h) = List·Memᴰ·tail (List·Memᴰ·tail (List·Memᴰ·tail (List·Memᴰ·head refl)))
+cause-among (level h) = List·Memᴰ·tail (List·Memᴰ·tail (List·Memᴰ·tail (List·Memᴰ·tail (List·Memᴰ·head refl))))
+cause-among (word h) = List·Memᴰ·tail (List·Memᴰ·tail (List·Memᴰ·tail (List·Memᴰ·tail (List·Memᴰ·tail (List·Memᴰ·head refl)))))
+cause-among (calculation h n) =
+    List·Memᴰ·tail (List·Memᴰ·tail (List·Memᴰ·tail (List·Memᴰ·tail (List·Memᴰ·tail (List·Memᴰ·tail (List·Memᴰ·head refl))))))
 
 -- ---- from the tests to the causes
 
 module _ (cs : List Context) where
-  -- no number below n has a cause
+  -- no refusal whose turn is below n has a cause
   Below : ℕ → Type 0
-  Below n = (r : Refusal) → number r < n → Nowhere r cs
+  Below n = (r : Refusal) → turn r < n → Nowhere r cs
 
-  below-five : Below 5
+  below-four : Below 4
   unfolding Below
-  below-five r l = every (λ c a. omega (arith, five-to-ten a .0)) cs
+  below-four r l = every (λ c a. omega (arith, cause-turns a .0)) cs
 
-  below-next : {n : ℕ} (k : Cause) → number (k .refusal) ≡ n → Below n → Nowhere (k .refusal) cs → Below (suc n)
+  below-next : {n : ℕ} (k : Cause) → turn (k .refusal) ≡ n → Below n → Nowhere (k .refusal) cs → Below (suc n)
   unfolding Below
-  below-next {n} k e b w r l = go (leb n (number r)) refl
+  below-next {n} k e b w r l = go (leb n (turn r)) refl
     where
-      go : (t : Bool) → leb n (number r) ≡ t → Nowhere r cs
+      go : (t : Bool) → leb n (turn r) ≡ t → Nowhere r cs
       go true h =
-          let m = leb-true n (number r) h in
-          let same : number (k .refusal) ≡ number r = omega arith in
-          subst (λ (x : Refusal). Nowhere x cs) (one-number (k .refusal) r same) w
-      go false h = b r (leb-false n (number r) h)
+          let m = leb-true n (turn r) h in
+          let same : turn (k .refusal) ≡ turn r = omega arith in
+          subst (λ (x : Refusal). Nowhere x cs) (one-turn (k .refusal) r same) w
+      go false h = b r (leb-false n (turn r) h)
 
   no-cause : {n : ℕ} {ks : List Cause} → Ordered n ks → Below n → refused-by ks cs ≡ none → Below 11
   no-cause behind-all b e = b
@@ -153,11 +188,11 @@ module _ (cs : List Context) where
   -- where the tests find nothing, no refusal has a cause
   pub nowhere : refused-by causes cs ≡ none → (r : Refusal) → Nowhere r cs
   unfolding Below
-  nowhere e r = go (leb (number r) 10) refl
+  nowhere e r = go (leb (turn r) 10) refl
     where
-      go : (t : Bool) → leb (number r) 10 ≡ t → Nowhere r cs
-      go true h = no-cause ordered below-five e r (let m = leb-true (number r) 10 h in omega arith)
-      go false h = let m = leb-false (number r) 10 h in every (λ c a. omega (arith, five-to-ten a .1)) cs
+      go : (t : Bool) → leb (turn r) 10 ≡ t → Nowhere r cs
+      go true h = no-cause ordered below-four e r (let m = leb-true (turn r) 10 h in omega arith)
+      go false h = let m = leb-false (turn r) 10 h in every (λ c a. omega (arith, cause-turns a .1)) cs
 
   -- ---- and back
 
@@ -182,7 +217,7 @@ module _ (cs : List Context) where
 -- ---- the cause that is answered
 
 module _ (xs : List Tagged) where
-  -- is the lowest, at its first token
+  -- is the soonest, at its first token
   answered : {n : ℕ} {ks : List Cause} {x : Refusal-at} → Ordered n ks → Below (contexts xs) n → refused-by ks (contexts xs) ≡ some x → Caused xs (x .refusal) (x .place)
   unfolding Below
   answered behind-all b e = let z : _≡_ {A = ℕ} 0 1 = cc in absurd (omega arith)
@@ -206,12 +241,12 @@ module _ (xs : List Tagged) where
           (λ r l. b r (rw m at l)))
 
   pub caused-by : {x : Refusal-at} → refused-by causes (contexts xs) ≡ some x → Caused xs (x .refusal) (x .place)
-  caused-by e = answered ordered (below-five (contexts xs)) e
+  caused-by e = answered ordered (below-four (contexts xs)) e
 
   -- and such a cause is answered
   module _
       {r : Refusal} {c : Context} (earlier later : List Context) (s : contexts xs ≡ earlier ++ (c ∷ later)) (a : Applies c r) (w : Nowhere r earlier)
-      (lowest : (lower : Refusal) → number lower < number r → Nowhere lower (contexts xs))
+      (soonest : (sooner : Refusal) → turn sooner < turn r → Nowhere sooner (contexts xs))
     where
       first-here : (k : Cause) → Decides k → k .refusal ≡ r → first (k .applies) (contexts xs) ≡ some c
       first-here k d e = ap (first (k .applies)) s ∙ go earlier (subst (λ (q : Refusal). Nowhere q earlier) (sym e) w)
@@ -230,20 +265,20 @@ module _ (xs : List Tagged) where
               over [] nil = rw pass
               over (y ∷ early) (cons h n) = rw h (over early n)
 
-      answers : {n : ℕ} {ks : List Cause} → Ordered n ks → n ≤ number r → refused-by ks (contexts xs) ≡ some (record { refusal = r; place = place (c .here) })
-      answers behind-all l = absurd (omega (arith, five-to-ten a .1))
-      answers {n} (in-order {k = k} {ks = ks} m d o) l = go (leb (number r) n) refl (λ h. answers o h)
+      answers : {n : ℕ} {ks : List Cause} → Ordered n ks → n ≤ turn r → refused-by ks (contexts xs) ≡ some (record { refusal = r; place = place (c .here) })
+      answers behind-all l = absurd (omega (arith, cause-turns a .1))
+      answers {n} (in-order {k = k} {ks = ks} m d o) l = go (leb (turn r) n) refl (λ h. answers o h)
         where
           go :
-              (b : Bool) → leb (number r) n ≡ b → (suc n ≤ number r → refused-by ks (contexts xs) ≡ some (record { refusal = r; place = place (c .here) }))
+              (b : Bool) → leb (turn r) n ≡ b → (suc n ≤ turn r → refused-by ks (contexts xs) ≡ some (record { refusal = r; place = place (c .here) }))
               → or-else (k .refusal) (first (k .applies) (contexts xs)) (refused-by ks (contexts xs)) ≡ some (record { refusal = r; place = place (c .here) })
           go true h ih =
-              let j = leb-true (number r) n h in
-              let same : k .refusal ≡ r = one-number (k .refusal) r (omega arith) in
+              let j = leb-true (turn r) n h in
+              let same : k .refusal ≡ r = one-turn (k .refusal) r (omega arith) in
               rw (first-here k d same, same)
           go false h ih =
-              let j = leb-false (number r) n h in
-              rw (none-first (k .applies) (untrue (contexts xs) d (contexts xs) (lowest (k .refusal) (omega arith)))) (ih (omega arith))
+              let j = leb-false (turn r) n h in
+              rw (none-first (k .applies) (untrue (contexts xs) d (contexts xs) (soonest (k .refusal) (omega arith)))) (ih (omega arith))
 
   pub caused-is : {r : Refusal} {p : ℕ} → Caused xs r p → refused-by causes (contexts xs) ≡ some (record { refusal = r; place = p })
-  caused-is (caused earlier later s a w lowest) = answers earlier later s a w lowest ordered (five-to-ten a .0)
+  caused-is (caused earlier later s a w soonest) = answers earlier later s a w soonest ordered (cause-turns a .0)

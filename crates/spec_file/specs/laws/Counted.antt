@@ -1,4 +1,4 @@
--- What the causes 5 to 10 leave: how many of each item a file has, how long its texts are, and what holds of each token.
+-- What the causes leave: how many of each item a file has, how long its texts are, and what holds of each token.
 use mathlib.Core.Path.{_≡_, refl, sym, ap, subst, _∙_}
 use mathlib.Core.Bool.{Bool, true, false, cond, not, false≢true}
 use mathlib.Core.List.{List, [], _∷_, map}
@@ -20,7 +20,8 @@ use Rattle.spec_grammar.specs.Codes.{role-number}
 use Rattle.spec_grammar.specs.Sentence.{Tagged}
 use Rattle.spec_file.specs.Limit.{Section, user-groups, host-groups, members, access-groups, inputs, rules, references, most, item-of, order}
 use Rattle.spec_file.specs.Contents.{has-role, text, texts, until, Clause, clauses}
-use Rattle.spec_file.specs.Refusal.{Context, contexts-after, contexts, too-long, item, too-many, given-again, bad-level, unknown-word}
+use Rattle.spec_file.specs.Refusal.{Context, contexts-after, contexts, too-long, item, too-many, given-again, undefined-group, bad-level}
+use Rattle.spec_file.specs.Refusal.{unknown-word}
 use Rattle.spec_file.specs.Load.{bad-calculation, Cause, causes, or-else, refused-by}
 
 -- the sum over those that pass a test
@@ -106,6 +107,11 @@ module _ {P : Tagged → Type 0} where
   every-here b [] c = nil
   every-here b (x ∷ xs) (cons h c) = cons h (every-here (x ∷ b) xs c)
 
+  -- and back
+  pub every-context : (b : List Tagged) {xs : List Tagged} → Every P xs → Every (λ c. P (c .here)) (contexts-after b xs)
+  every-context b nil = nil
+  every-context b (cons {x = x} h c) = cons h (every-context (x ∷ b) c)
+
 -- ---- the causes
 
 -- a cause that applies nowhere, and the causes behind it
@@ -124,6 +130,7 @@ pub record Clear (cs : List Context) : Type 0 where
   pub short : Every (λ c. too-long c ≡ false) cs
   pub few : Every (λ c. too-many c ≡ false) cs
   pub once : Every (λ c. given-again c ≡ false) cs
+  pub defined : Every (λ c. undefined-group c ≡ false) cs
   pub levels : Every (λ c. bad-level c ≡ false) cs
   pub words : Every (λ c. unknown-word c ≡ false) cs
   pub calculations : Every (λ c. bad-calculation c ≡ false) cs
@@ -132,7 +139,8 @@ pub clear : (cs : List Context) → refused-by causes cs ≡ none → Clear cs
 clear cs e = go (applies-nowhere causes cs e)
   where
     go : Every (λ k. Every (λ c. k .applies c ≡ false) cs) causes → Clear cs
-    go (cons a (cons b (cons c (cons d (cons e (cons f nil)))))) = record { short = a; few = b; once = c; levels = d; words = e; calculations = f }
+    go (cons a (cons b (cons c (cons u (cons d (cons e (cons f nil))))))) =
+        record { short = a; few = b; once = c; defined = u; levels = d; words = e; calculations = f }
 
 -- ---- roles and sections are told apart by their numbers
 

@@ -1,26 +1,29 @@
--- A text is refused under a number from 1 to 10, at a place in the text or at its end.
-use mathlib.Core.Path.{_≡_, refl, sym, ap, subst, _∙_}
+-- A text is refused under a number from 1 to 10 or under 12, at a place in the text or at its end.
+use mathlib.Core.Path.{_≡_, refl, ap, subst}
 use mathlib.Core.Bool.{Bool, true, false, cond}
 use mathlib.Core.List.{List, [], _∷_, _++_, map}
+use mathlib.Core.Logic.{_⊎_, inl, inr}
 use mathlib.Core.Option.{Option, none, some}
-use Prim.Native.Nat.{ℕ, _+_, _≤_, _<_}
+use Prim.Native.Nat.{ℕ, _+_, _≤_}
 use native.Mathlib.Omega.{arith}
 use lib.Dec.{leb}
 use lib.ListN.{length, length-append}
 use Rattle.spec_lists.specs.Text.{bytes}
 use Rattle.spec_lists.specs.Every.{Every, nil, cons}
-use Rattle.spec_lists.specs.laws.Every.{every-split, every-implies}
+use Rattle.spec_lists.specs.laws.Every.{every-head, every-split, every-implies}
 use Rattle.spec_token.specs.Token.{Token, Spelled}
 use Rattle.spec_token.specs.Place.{Stands-in, bare, in-quotes}
 use Rattle.spec_token.specs.laws.Theorem.{tokens-stand, bad-within}
 use Rattle.spec_grammar.specs.Sentence.{Tagged, Stops, at-token, at-end}
 use Rattle.spec_file.specs.declared.Refusal.{Refusal}
+use Rattle.spec_file.specs.declared.Refusal.the-variants as cause
 use Rattle.spec_file.specs.Limit.{most-braces}
 use Rattle.spec_file.specs.Contents.{place}
 use Rattle.spec_file.specs.Depth.{opened, too-deep}
-use Rattle.spec_file.specs.Refusal.{number, Context, contexts-after, contexts}
-use Rattle.spec_file.specs.laws.Causes.{five-to-ten}
-use Rattle.spec_file.specs.Acceptance.{Text-reads, Caused, caused, Refusable, long-file, bad-byte, deep-brace, no-file, for-cause}
+use Rattle.spec_file.specs.Refusal.{number, Context, contexts}
+use Rattle.spec_file.specs.laws.Counted.{every-context}
+use Rattle.spec_file.specs.Refusal.{Applies, long, many, again, nowhere-defined, level, word, calculation}
+use Rattle.spec_file.specs.Acceptance.{Caused, caused, Refusable, long-file, bad-byte, deep-brace, no-file, for-cause}
 
 -- ---- a token's place lies in the text
 
@@ -30,9 +33,6 @@ stands-within s t (in-quotes before behind e n k) = let l = ap length e in let m
 
 tokens-within : {s : List ℕ} {ts : List Token} → Spelled s ts → Every (λ t. t .place ≤ length s) ts
 tokens-within {s} d = every-implies (stands-within s) (tokens-stand d)
-
-head-has : {A : Type 0} {P : A → Type 0} {x : A} {xs : List A} → Every P (x ∷ xs) → P x
-head-has (cons h e) = h
 
 -- ---- of each refusal
 
@@ -49,28 +49,51 @@ deep-within n k (cons {x = t} {xs = ts} l e) = go (leb (opened (t .kind) k) most
     go false h = l
 
 stops-within : {ts : List Token} {n p : ℕ} → Every (λ t. t .place ≤ n) ts → Stops ts n p → p ≤ n
-stops-within {n = n} e (at-token before t behind i v d) = head-has (every-split before (rw i at e) .1)
+stops-within {n = n} e (at-token before t behind i v d) = every-head (every-split before (rw i at e) .1)
 stops-within e (at-end v d) = omega arith
-
-contexts-have : {P : Tagged → Type 0} (b : List Tagged) {xs : List Tagged} → Every P xs → Every (λ c. P (c .here)) (contexts-after b xs)
-contexts-have b nil = nil
-contexts-have b (cons {x = x} h e) = cons h (contexts-have (x ∷ b) e)
 
 tagged-have : {P : Token → Type 0} (xs : List Tagged) → Every P (map (λ x. x .token) xs) → Every (λ x. P (x .token)) xs
 tagged-have [] e = nil
 tagged-have (x ∷ xs) (cons h e) = cons h (tagged-have xs e)
 
-caused-within : (n : ℕ) {xs : List Tagged} {r : Refusal} {p : ℕ} → Every (λ x. place x ≤ n) xs → Caused xs r p → (1 ≤ number r) × (number r ≤ 10) × (p ≤ n)
-caused-within n {xs} e (caused earlier later i a w lowest) =
-    let h = five-to-ten a in
-    let within : Every (λ c. place (c .here) ≤ n) (contexts xs) = contexts-have [] e in
-    (omega (arith, h .0), h .1, head-has (every-split earlier (rw i at within) .1))
+-- 1 to 10, or 12
+abbrev pub Of-a-text : ℕ → Type 0
+Of-a-text n = ((1 ≤ n) × (n ≤ 10)) ⊎ (n ≡ 12)
 
-pub refusal-numbered : {s : List ℕ} {r : Refusal} {p : ℕ} → Refusable s r p → (1 ≤ number r) × (number r ≤ 10) × (p ≤ length s)
-refusal-numbered (long-file l) = (omega arith, omega arith, omega arith)
-refusal-numbered (bad-byte l d) = let h = bad-within d in (omega arith, omega arith, omega arith)
-refusal-numbered {s} {p = p} (deep-brace {ts = ts} l d e) = (omega arith, omega arith, subst (Up-to (length s)) e (deep-within (length s) 0 (tokens-within d)))
-refusal-numbered (no-file l d e t) = (omega arith, omega arith, stops-within (tokens-within d) t)
+cause-of-a-text : {c : Context} {r : Refusal} → Applies c r → Of-a-text (number r)
+cause-of-a-text (long h) = inl (omega arith)
+cause-of-a-text (many h) = inl (omega arith)
+cause-of-a-text (again h) = inl (omega arith)
+cause-of-a-text (nowhere-defined h) = inr refl
+cause-of-a-text (level h) = inl (omega arith)
+cause-of-a-text (word h) = inl (omega arith)
+cause-of-a-text (calculation h n) = inl (omega arith)
+
+caused-within : (n : ℕ) {xs : List Tagged} {r : Refusal} {p : ℕ} → Every (λ x. place x ≤ n) xs → Caused xs r p → Of-a-text (number r) × (p ≤ n)
+caused-within n {xs} e (caused earlier later i a w soonest) =
+    let within : Every (λ c. place (c .here) ≤ n) (contexts xs) = every-context [] e in
+    (cause-of-a-text a, every-head (every-split earlier (rw i at within) .1))
+
+pub refusal-numbered : {s : List ℕ} {r : Refusal} {p : ℕ} → Refusable s r p → Of-a-text (number r) × (p ≤ length s)
+refusal-numbered (long-file l) = (inl (omega arith), omega arith)
+refusal-numbered (bad-byte l d) = let h = bad-within d in (inl (omega arith), omega arith)
+refusal-numbered {s} {p = p} (deep-brace {ts = ts} l d e) = (inl (omega arith), subst (Up-to (length s)) e (deep-within (length s) 0 (tokens-within d)))
+refusal-numbered (no-file l d e t) = (inl (omega arith), stops-within (tokens-within d) t)
 refusal-numbered {s} (for-cause {xs = xs} l t e c) =
     let within : Every (λ u. u .place ≤ length s) (t .spelled) = tokens-within (t .spelling) in
     caused-within (length s) (tagged-have xs (rw (← t .reading .tokens) at within)) c
+
+-- no number is greater than 12
+pub number-small : (r : Refusal) → number r ≤ 12
+number-small cause.FileTooLong = omega arith
+number-small cause.BadByte = omega arith
+number-small cause.TooDeep = omega arith
+number-small cause.Ungrammatical = omega arith
+number-small cause.StringTooLong = omega arith
+number-small cause.TooMany = omega arith
+number-small cause.GivenAgain = omega arith
+number-small cause.UndefinedGroup = omega arith
+number-small cause.BadLevel = omega arith
+number-small cause.UnknownWord = omega arith
+number-small cause.BadCalculation = omega arith
+number-small cause.NoRoom = omega arith

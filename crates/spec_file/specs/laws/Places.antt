@@ -16,7 +16,7 @@ use Rattle.spec_file.specs.declared.Warning.{Warning}
 use Rattle.spec_file.specs.Contents.{place}
 use Rattle.spec_file.specs.Refusal.{Context, contexts-after, contexts, Applies}
 use Rattle.spec_file.specs.Acceptance.{Text-reads, Caused, caused}
-use Rattle.spec_file.specs.Warning.{Warned, warning-of, with-place, warnings-among, warnings}
+use Rattle.spec_file.specs.Warning.{warning-of, with-place, warnings}
 
 -- what tokens say ascends as they do
 pub said-ascending : {s : List ℕ} {xs : List Tagged} → Text-reads s xs → Ascending (map place xs)
@@ -42,32 +42,29 @@ here-places b (x ∷ xs) = ap (λ (l : List ℕ). place x ∷ l) (here-places (x
 pub earliest :
     {s : List ℕ} {xs : List Tagged} {r : Refusal} {p : ℕ} → Text-reads s xs → Caused xs r p
     → Every (λ c. Applies c r → p ≤ place (c .here)) (contexts xs)
-earliest {xs = xs} t (caused {c} earlier later e a w lowest) =
+earliest {xs = xs} t (caused {c} earlier later e a w soonest) =
     let u : Ascending (map (λ d. place (d .here)) (contexts xs)) = subst Ascending (sym (here-places [] xs)) (said-ascending t) in
     let v = later-more (λ d. place (d .here)) earlier c later (subst (λ (l : List Context). Ascending (map (λ d. place (d .here)) l)) e u) in
     rw e (every-append (every-implies (λ d n b. absurd (n b)) w) (cons (λ b. omega arith) (every-implies (λ d l b. omega arith) v)))
 
 -- ---- warnings
 
-module _ (file : List Tagged) where
-  every-warned : (P : ℕ → Type 0) {xs : List Tagged} → Every (λ x. P (place x)) xs → Every (λ w. P (w .place)) (warnings-among file xs)
-  every-warned P nil = nil
-  every-warned P (cons {x = x} {xs = xs} h e) = go (warning-of file x) (every-warned P e)
-    where
-      go : (o : Option Warning) → Every (λ w. P (w .place)) (warnings-among file xs) → Every (λ w. P (w .place)) (with-place o x (warnings-among file xs))
-      go none d = d
-      go (some w) d = cons h d
+every-warned : (P : ℕ → Type 0) {xs : List Tagged} → Every (λ x. P (place x)) xs → Every (λ w. P (w .place)) (warnings xs)
+every-warned P nil = nil
+every-warned P (cons {x = x} {xs = xs} h e) = go (warning-of x) (every-warned P e)
+  where
+    go : (o : Option Warning) → Every (λ w. P (w .place)) (warnings xs) → Every (λ w. P (w .place)) (with-place o x (warnings xs))
+    go none d = d
+    go (some w) d = cons h d
 
-  warned-ascending : (xs : List Tagged) → Ascending (map place xs) → Ascending (map (λ w. w .place) (warnings-among file xs))
-  warned-ascending [] a = no-more
-  warned-ascending (x ∷ xs) (less h a) = go (warning-of file x) (warned-ascending xs a)
-    where
-      go :
-          (o : Option Warning) → Ascending (map (λ w. w .place) (warnings-among file xs))
-          → Ascending (map (λ w. w .place) (with-place o x (warnings-among file xs)))
-      go none b = b
-      go (some w) b = less (every-map (λ v. v .place) (every-warned (λ n. place x < n) (every-unmap place xs h))) b
+warned-ascending : (xs : List Tagged) → Ascending (map place xs) → Ascending (map (λ w. w .place) (warnings xs))
+warned-ascending [] a = no-more
+warned-ascending (x ∷ xs) (less h a) = go (warning-of x) (warned-ascending xs a)
+  where
+    go : (o : Option Warning) → Ascending (map (λ w. w .place) (warnings xs)) → Ascending (map (λ w. w .place) (with-place o x (warnings xs)))
+    go none b = b
+    go (some w) b = less (every-map (λ v. v .place) (every-warned (λ n. place x < n) (every-unmap place xs h))) b
 
 -- the warnings of a text come by place
 pub warnings-by-place : {s : List ℕ} {xs : List Tagged} → Text-reads s xs → Ascending (map (λ w. w .place) (warnings xs))
-warnings-by-place {xs = xs} t = warned-ascending xs xs (said-ascending t)
+warnings-by-place {xs = xs} t = warned-ascending xs (said-ascending t)

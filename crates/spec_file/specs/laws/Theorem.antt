@@ -1,4 +1,4 @@
--- A text is accepted exactly if it is acceptable, and for what it says; else the lowest refusal is answered, at its earliest place.
+-- A text is accepted exactly if it is acceptable, and for what it says; else the first refusal in turn is answered, at its earliest place.
 use mathlib.Core.Path.{_≡_, refl, sym, ap, subst, subst₂, _∙_}
 use mathlib.Core.Bool.{Bool, true, false, cond}
 use mathlib.Core.List.{List}
@@ -95,7 +95,7 @@ module _ (s : List ℕ) (r : Refusal) (p : ℕ) where
   refused-so : (q : Refusal) (o : ℕ) → refuse q o ≡ refuse r p → Refusable s q o → Refusable s r p
   refused-so q o e w = let a : q ≡ r = cc in let b : o ≡ p = cc in subst₂ (Refusable s) a b w
 
-  -- what is refused is refused by the lowest number that applies, at its earliest place
+  -- what is refused is refused by the first cause in turn, at its earliest place
   pub refused-is : verdict s ≡ refuse r p → Refusable s r p
   unfolding verdict
   refused-is e = by-length (leb (length s) most-bytes) refl e

@@ -96,6 +96,9 @@ module _ {A : Type 0} {P : A → Type 0} where
   every-both f nil d = nil
   every-both f (cons {x = x} p c) (cons q d) = cons (f x p q) (every-both f c d)
 
+  pub every-head : {x : A} {xs : List A} → Every P (x ∷ xs) → P x
+  every-head (cons p c) = p
+
   pub every-split : (xs : List A) {ys : List A} → Every P (xs ++ ys) → Every P xs × Every P ys
   every-split [] e = (nil, e)
   every-split (x ∷ xs) (cons p e) = (cons p (every-split xs e .0), every-split xs e .1)

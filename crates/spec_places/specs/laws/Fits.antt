@@ -10,7 +10,7 @@ use lib.ListN.{length, drop, length-append, length-map, length-take, length-drop
 use borrow.Author.Tests.{leb-true, not-false}
 use Rattle.spec_lists.specs.Select.{first-if}
 use Rattle.spec_lists.specs.Runs.{part}
-use Rattle.spec_lists.specs.laws.Both.{absurd-bool}
+use Rattle.spec_lists.specs.laws.Both.{neither}
 use Rattle.spec_calc.specs.declared.Reading.{Reading}
 use Rattle.spec_rule.specs.Rule.{stands}
 use Rattle.spec_rule.specs.Kept.{bit}
@@ -75,10 +75,6 @@ kept-least t rs c = go (is-table t) (answering-number t (c .group))
 pub not-first : {A : Type 0} (t : Bool) (x : A) (o : Option A) → first-if t x o ≡ none → (t ≡ false) × (o ≡ none)
 not-first true x o e = let z : _≡_ {A = ℕ} 0 1 = cc in absurd (omega arith)
 not-first false x o e = (refl, e)
-
-neither : (a b : Bool) → a || b ≡ false → (a ≡ false) × (b ≡ false)
-neither true b e = absurd-bool e
-neither false b e = (refl, e)
 
 fits : (c : Client) → long-name c ≡ false → bad-level c ≡ false → Fits c
 fits c l b =

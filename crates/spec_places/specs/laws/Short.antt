@@ -1,19 +1,18 @@
 -- Lent storage that is too short for a register: no place has a right, and a call is refused with 34 then and only then.
-use mathlib.Core.Path.{_≡_, refl, sym, _∙_}
+use mathlib.Core.Path.{_≡_, refl, sym}
 use mathlib.Core.Bool.{Bool, true, false, cond, not, _&&_, false≢true}
 use mathlib.Core.List.{List}
 use mathlib.Core.Logic.{_↔_, _⊎_, inl, inr}
 use mathlib.Core.Option.{Option, none, some, Option·map}
-use Prim.Native.Nat.{ℕ, _≤_, _<_}
+use Prim.Native.Nat.{ℕ, _<_}
 use native.Mathlib.Omega.{arith}
 use lib.Dec.{leb}
 use lib.ListN.{length}
 use borrow.Author.Tests.{leb-false, lt-leb}
 use Rattle.spec_lists.specs.Select.{first-if}
 use Rattle.spec_rule.specs.Decision.{no-access}
-use Rattle.spec_file.specs.declared.Refusal.{Refusal}
-use Rattle.spec_file.specs.declared.Refusal.the-variants as refusal
 use Rattle.spec_file.specs.Refusal as text
+use Rattle.spec_file.specs.laws.Numbered.{number-small}
 use Rattle.spec_table.specs.Check.{is-table}
 use Rattle.spec_decision.specs.Groups.{group-named}
 use Rattle.spec_load.specs.declared.Loaded.{Loaded}
@@ -95,23 +94,10 @@ set-other t n letter =
     first-other (not (is-table t)) NotTable (first-if input NoInput none) (λ e. omega arith)
     (first-other input NoInput none (λ e. omega arith) nothing-other)
 
-load-small : (r : Refusal) → text.number r ≤ 11
-load-small refusal.FileTooLong = omega arith
-load-small refusal.BadByte = omega arith
-load-small refusal.TooDeep = omega arith
-load-small refusal.Ungrammatical = omega arith
-load-small refusal.StringTooLong = omega arith
-load-small refusal.TooMany = omega arith
-load-small refusal.GivenAgain = omega arith
-load-small refusal.BadLevel = omega arith
-load-small refusal.UnknownWord = omega arith
-load-small refusal.BadCalculation = omega arith
-load-small refusal.NoRoom = omega arith
-
 load-other : (a : Loaded) (m : ℕ) → Other (refusal-of (table-loaded (reloaded-as a m)))
 unfolding Other
 load-other (loaded.Accepted n w) m e = nothing-other e
-load-other (loaded.Refused r p) m e = let z : text.number r ≡ 34 = cc in omega (arith, load-small r)
+load-other (loaded.Refused r p) m e = let z : text.number r ≡ 34 = cc in omega (arith, number-small r)
 
 -- ---- 34
 

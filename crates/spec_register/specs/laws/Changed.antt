@@ -1,6 +1,6 @@
 -- The bits that a call answers are set exactly at the places whose right it changed.
 use mathlib.Core.Path.{_≡_, refl, sym, ap, ap₂, _∙_}
-use mathlib.Core.Bool.{Bool, true, false, not, _||_, false≢true}
+use mathlib.Core.Bool.{Bool, true, false, not, false≢true}
 use mathlib.Core.List.{List, [], _∷_, map}
 use mathlib.Core.Logic.{_↔_}
 use mathlib.Core.Option.{Option, none, some}
@@ -9,6 +9,7 @@ use native.Mathlib.Omega.{arith}
 use lib.Dec.{eqb}
 use lib.ListN.{getD}
 use borrow.Author.Tests.{eqb-true, eq-eqb, not-false}
+use Rattle.spec_lists.specs.laws.Both.{neither}
 use Rattle.spec_rule.specs.declared.Access.{Access}
 use Rattle.spec_rule.specs.declared.Decision.{Decision}
 use Rattle.spec_rule.specs.Rule.{rank}
@@ -40,10 +41,6 @@ one-bit true true e = refl
 one-bit true false e = absurd (omega arith)
 one-bit false true e = absurd (omega arith)
 one-bit false false e = refl
-
-neither : (a b : Bool) → a || b ≡ false → (a ≡ false) × (b ≡ false)
-neither true b e = absurd (false≢true (sym e))
-neither false b e = (refl, e)
 
 alike : (d e : Decision) → differ d e ≡ false → d ≡ e
 alike d e f =

@@ -1,6 +1,6 @@
 -- The scanner finds exactly the tokens that a text is spelled by, and exactly its first bad byte.
 use mathlib.Core.Path.{_≡_, refl, sym, ap, subst, _∙_}
-use mathlib.Core.Bool.{Bool, true, false, not, _&&_, _||_, cond, false≢true}
+use mathlib.Core.Bool.{Bool, true, false, _||_, cond, false≢true}
 use mathlib.Core.List.{List, [], _∷_, _++_, append-nil}
 use Prim.Native.Nat.{ℕ, zero, suc, _+_, _≤_}
 use Prim.Native.Char.{code}
@@ -10,24 +10,20 @@ use lib.ListN.{length, length-append}
 use Rattle.spec_lists.specs.Text.{bytes, one-of, among}
 use Rattle.spec_lists.specs.Select.{all, run, after}
 use Rattle.spec_lists.specs.Every.{Every, nil, cons}
-use Rattle.spec_lists.specs.laws.Both.{both, or-false}
+use Rattle.spec_lists.specs.laws.Both.{both, neither, or-false}
 use Rattle.spec_token.specs.declared.Kind.{Kind}
 use Rattle.spec_token.specs.declared.Kind.the-variants.{String}
 use Rattle.spec_token.specs.Word.{blank, newline, name-byte}
 use Rattle.spec_token.specs.Token as spelled
-use Rattle.spec_token.specs.Token.{Token, Tokens, tokens, bad, then, Longest, Alone, open-paren, close-paren, open-brace, close-brace, comma}
+use Rattle.spec_token.specs.Token.{Tokens, tokens, bad, then, Alone, open-paren, close-paren, open-brace, close-brace, comma}
 use Rattle.spec_token.specs.Token.{Between-quotes, stringchar, escape, Spells, end, gap, bare-newline}
-use Rattle.spec_token.specs.Scanner.{word-kind, Quoted, closed, broken, unclosed, also, quoted, alone, punctuation, Lexeme, nothing, comment, quote}
+use Rattle.spec_token.specs.Scanner.{Quoted, closed, broken, unclosed, also, quoted, alone, punctuation, Lexeme, nothing, comment, quote}
 use Rattle.spec_token.specs.Scanner.{stop, word, wrong, other, lexeme-of, scan, scanned}
 use Rattle.spec_token.specs.laws.Quotes.{front}
 use Rattle.spec_token.specs.laws.Runs.{longest-run, run-of, after-of}
 use Rattle.spec_token.specs.laws.Spans.{after-short}
 use Rattle.spec_token.specs.laws.Words.{one-of-each, kind-sound, kind-complete}
 use Rattle.spec_token.specs.laws.Steps.{none-left, step-nothing, step-comment, step-stop, step-word, step-wrong, step-closed, step-broken, step-unclosed}
-
-neither : (a b : Bool) → a || b ≡ false → (a ≡ false) × (b ≡ false)
-neither true b e = absurd (false≢true (sym e))
-neither false b e = (refl, e)
 
 -- ---- what a byte begins
 
