@@ -27,7 +27,7 @@ pub fn packed(first: usize, second: usize, number: u64) -> u64
     at_most(first, 4294967295) + at_most(second, 65535) * 4294967296 + number * 281474976710656
 }
 
-// 01's number of a refusal.
+// The number of a refusal.
 fn refusal_number(k: Refusal) -> u64
     ensures { λ r. ⌜ r ≡ refusal.number k ⌝ }
 {
@@ -39,6 +39,7 @@ fn refusal_number(k: Refusal) -> u64
         Refusal::StringTooLong => 5,
         Refusal::TooMany => 6,
         Refusal::GivenAgain => 7,
+        Refusal::UndefinedGroup => 12,
         Refusal::BadLevel => 8,
         Refusal::UnknownWord => 9,
         Refusal::BadCalculation => 10,

@@ -1,4 +1,4 @@
-// Refusals 5 to 10: the causes in their order.
+// Refusals 5 to 7, 12, 8 to 10: the causes in their order.
 ghost use mathlib.Core.Path.{_≡_};
 ghost use mathlib.Core.List.{List};
 ghost use Prim.Native.Nat.{ℕ, _≤_};
@@ -12,7 +12,7 @@ use load_syntax::Judgment;
 use spec_file::Refusal;
 
 // How many causes there are.
-const CAUSES: usize = 6;
+const CAUSES: usize = 7;
 
 // The causes in the order in which they are looked for: spec_file/specs/Refusal.antt.
 fn cause(k: usize) -> Refusal
@@ -22,8 +22,9 @@ fn cause(k: usize) -> Refusal
         0 => Refusal::StringTooLong,
         1 => Refusal::TooMany,
         2 => Refusal::GivenAgain,
-        3 => Refusal::BadLevel,
-        4 => Refusal::UnknownWord,
+        3 => Refusal::UndefinedGroup,
+        4 => Refusal::BadLevel,
+        5 => Refusal::UnknownWord,
         _ => Refusal::BadCalculation,
     }
 }
@@ -45,6 +46,7 @@ fn first_of(
         Refusal::StringTooLong => load_limits::too_long(s, starts, ends, roles, n),
         Refusal::TooMany => load_limits::too_many(s, starts, ends, roles, n),
         Refusal::GivenAgain => load_repeats::given_again(s, starts, ends, roles, n, seen),
+        Refusal::UndefinedGroup => load_groups::undefined_group(s, starts, ends, roles, n, seen),
         Refusal::BadLevel => load_heads::bad_level(s, starts, ends, roles, n),
         Refusal::UnknownWord => load_heads::unknown_word(s, starts, ends, roles, n),
         Refusal::BadCalculation => load_calcs::bad_calculation(s, starts, ends, roles, n),
@@ -52,7 +54,7 @@ fn first_of(
     }
 }
 
-// The refusals 5 to 10, of n tokens: the first cause that applies, at its earliest place.
+// The first cause that applies to n tokens, at its earliest place.
 // The caller, load_judge, has the tokens from load_syntax.
 pub fn by_causes(
     s: &[u8],

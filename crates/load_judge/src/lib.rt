@@ -1,4 +1,4 @@
-// Refusals 2 to 10: the judgment on a text.
+// Refusals 2 to 10 and 12: the judgment on a text.
 ghost use Prim.Native.Nat.{_≤_};
 ghost use lib.ListN.{length};
 ghost use Rattle.load_tokens.specs.Stores.{arrays-of};
@@ -13,7 +13,7 @@ pub const SHORT: usize = 2048;
 
 pub const LONGEST: usize = 16384;
 
-// The refusals 2 to 10 of a text whose tokens have room in the arrays.
+// The refusals 2 to 10 and 12 of a text whose tokens have room in the arrays.
 fn judge_in(
     s: &[u8],
     kinds: &mut [u8],
@@ -62,7 +62,7 @@ fn judge_long(
     judge_in(s, &mut kinds, places, starts, ends, roles, &mut seen)
 }
 
-// The refusals 2 to 10. The arrays hold the tokens of a text that has none; else they are scratch.
+// The refusals 2 to 10 and 12. The arrays hold the tokens of a text that has none; else they are scratch.
 // The callers, warnings and load, have looked at the text's length and have arrays as long as the text.
 pub fn judge(
     s: &[u8],

@@ -4,4 +4,5 @@ pub mod Search
 pub mod Position
 pub mod Roles
 pub mod Spans
+pub mod Bounded
 pub mod laws

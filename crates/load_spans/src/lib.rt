@@ -84,8 +84,8 @@ fn keep(names: &mut [u16], k: usize, i: usize)
     }
 }
 
-// The tokens of a role, as many as there is room for, and how many they are. The callers, load_store and load_warnings, have n tokens from load_judge, whose
-// text is not too long.
+// The tokens of a role, as many as there is room for, and how many they are. The callers, load_groups and load_store, have n tokens of a text
+// that is not too long.
 pub fn collect(roles: &[u8], n: usize, q: u8, names: &mut [u16]) -> usize
     requires { ⌜ (n ≤ length (now roles)) × (n ≤ 16384) ⌝ }
     ensures { λ r. ⌜ Listed (now (names .entry)) (now (names .exit)) q (now (roles .entry)) n r ⌝ }

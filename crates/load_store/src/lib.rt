@@ -2,7 +2,7 @@
 ghost use mathlib.Core.List.{List};
 ghost use Prim.Native.Nat.{ℕ};
 ghost use Rattle.load_tokens.specs.Stores.{arrays-of};
-ghost use Rattle.load_warnings.specs.Bounded.{Bounded};
+ghost use Rattle.load_spans.specs.Bounded.{Bounded};
 ghost use Rattle.load_store.specs.Stored.{Fits, Stored};
 use load_tokens::HAG_NAME;
 use load_tokens::UAG_NAME;
@@ -38,17 +38,7 @@ pub fn store(
         load_write::Written::Done(size) => {
             let mut numbers = [0u8; 1];
             let mut at = [0u16; 1];
-            let count = load_warnings::warnings(
-                s,
-                places,
-                starts,
-                ends,
-                roles,
-                n,
-                1,
-                &mut numbers,
-                &mut at,
-            );
+            let count = load_warnings::warnings(places, roles, n, 1, &mut numbers, &mut at);
             Loaded::Accepted {
                 length: size,
                 warnings: count,

@@ -18,7 +18,7 @@ abbrev pub count : Judgment → ℕ
 count (Tokens n) = n
 count (Refused k p) = 0
 
--- the verdict if the refusals 5 to 10 are still to come
+-- the verdict if the causes are still to come
 abbrev pub open-verdict : List ℕ → Arrays → List ℕ → Judgment → Verdict
 open-verdict s a roles (Tokens n) = by-grammar (parsed (tagged-from s a roles 0 n))
 open-verdict s a roles (Refused k p) = refuse k p

@@ -6,13 +6,17 @@ use Prim.Native.Nat.{ℕ, _-_}
 use lib.Dec.{leb}
 use lib.ListN.{length, set, drop}
 use lib.Seq.{sets}
-use Rattle.load_tokens.specs.Arrays.{tagged-from}
+use Rattle.load_tokens.specs.Arrays.{Arrays, tagged-from}
 use Rattle.load_tokens.specs.Stores.{arrays-of}
 use Rattle.spec_file.specs.Warning.{number, Warned, warnings}
 
--- the warnings of the first n tokens
-abbrev pub warnings-of : List ℕ → List ℕ → List ℕ → List ℕ → List ℕ → ℕ → List Warned
-warnings-of s places starts ends roles n = warnings (tagged-from s (arrays-of [] places starts ends) roles 0 n)
+-- tokens with places and nothing else but their roles
+abbrev pub plain : List ℕ → Arrays
+plain places = arrays-of [] places [] []
+
+-- the warnings of the first n tokens; they look at no text (laws/Plain.antt)
+abbrev pub warnings-of : List ℕ → List ℕ → ℕ → List Warned
+warnings-of places roles n = warnings (tagged-from [] (plain places) roles 0 n)
 
 abbrev pub numbers-of : List Warned → List ℕ
 numbers-of ws = map (λ w. number (w .warning)) ws

@@ -1,4 +1,3 @@
 pub mod Code
 pub mod Filled
-pub mod Bounded
 pub mod laws

@@ -1,3 +1,3 @@
 pub mod Code
 pub mod Filled
-pub mod Kind
+pub mod Plain

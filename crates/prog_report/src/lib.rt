@@ -21,7 +21,7 @@ fn put_placed(word: &[u8], n: usize, p: usize, out: &mut [u8], at: usize) -> usi
     put_number(p, out, c)
 }
 
-// 01's number of a refusal.
+// The number of a refusal.
 pub fn refusal_number(k: Refusal) -> usize
     ensures { λ r. ⌜ r ≡ number k ⌝ }
 {
@@ -33,6 +33,7 @@ pub fn refusal_number(k: Refusal) -> usize
         Refusal::StringTooLong => 5,
         Refusal::TooMany => 6,
         Refusal::GivenAgain => 7,
+        Refusal::UndefinedGroup => 12,
         Refusal::BadLevel => 8,
         Refusal::UnknownWord => 9,
         Refusal::BadCalculation => 10,

@@ -33,17 +33,7 @@ fn list_in(
             place: p,
         },
         Judgment::Tokens(n) => {
-            let count = load_warnings::warnings(
-                text,
-                places,
-                starts,
-                ends,
-                roles,
-                n,
-                skip,
-                numbers,
-                at,
-            );
+            let count = load_warnings::warnings(places, roles, n, skip, numbers, at);
             Listed::Warnings(count)
         }
     }

@@ -1,6 +1,6 @@
 -- Laws of the numbers of answers.
 use mathlib.Core.Path.{_≡_, refl, sym, ap}
-use mathlib.Core.Bool.{Bool, true, false}
+use mathlib.Core.Bool.{true, false}
 use Prim.Native.Nat.{ℕ, _+_, _≤_, _<_}
 use native.Mathlib.Omega.{arith}
 use Rattle.spec_rule.specs.declared.Decision.{Decision}
@@ -8,8 +8,8 @@ use Rattle.spec_rule.specs.declared.Access.{Access}
 use Rattle.spec_rule.specs.declared.Access.the-variants as access
 use Rattle.spec_rule.specs.Rule.{rank}
 use Rattle.spec_file.specs.declared.Refusal.{Refusal}
-use Rattle.spec_file.specs.declared.Refusal.the-variants as cause
 use Rattle.spec_file.specs.Refusal as refusal
+use Rattle.spec_file.specs.laws.Numbered.{number-small}
 use Rattle.spec_load.specs.declared.Loaded.{Loaded}
 use Rattle.spec_load.specs.declared.Loaded.the-variants as loaded
 use Rattle.spec_load.specs.declared.Listed.{Listed}
@@ -21,17 +21,7 @@ use Rattle.spec_decision.specs.declared.Found.the-variants as found
 use Rattle.api_numbers.specs.Numbers.{packed, load-number, listed-number, right-number, answer-number, found-number}
 
 pub refusal-small : (k : Refusal) → refusal.number k < 256
-refusal-small cause.FileTooLong = omega arith
-refusal-small cause.BadByte = omega arith
-refusal-small cause.TooDeep = omega arith
-refusal-small cause.Ungrammatical = omega arith
-refusal-small cause.StringTooLong = omega arith
-refusal-small cause.TooMany = omega arith
-refusal-small cause.GivenAgain = omega arith
-refusal-small cause.BadLevel = omega arith
-refusal-small cause.UnknownWord = omega arith
-refusal-small cause.BadCalculation = omega arith
-refusal-small cause.NoRoom = omega arith
+refusal-small k = omega (arith, number-small k)
 
 pub rank-small : (a : Access) → rank a ≤ 2
 rank-small access.None = omega arith

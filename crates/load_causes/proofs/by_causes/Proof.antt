@@ -8,10 +8,10 @@ use Rattle.load_causes.proofs.by_causes.Statement.{statement}
 use Rattle.load_causes.proofs.by_causes.Tie as tie
 
 abbrev Inv-loop : tie.InvT-loop
-Inv-loop s places starts ends roles n seen₀ k₀ seen k = Judging s places starts ends roles n k × (k ≤ 6) × (length seen ≡ length seen₀)
+Inv-loop s places starts ends roles n seen₀ k₀ seen k = Judging s places starts ends roles n k × (k ≤ 7) × (length seen ≡ length seen₀)
 
 abbrev μ-loop : tie.MeasureT-loop
-μ-loop s places starts ends roles n seen₀ k₀ seen k = 6 - k
+μ-loop s places starts ends roles n seen₀ k₀ seen k = 7 - k
 
 loop-holds : tie.Need-loop-holds Inv-loop μ-loop
 loop-holds c = (judging-first _ _ _ _ _ _, omega arith, refl)

@@ -1,4 +1,4 @@
--- The refusals 5 to 10, each from the first token to which its cause applies.
+-- The refusals 5 to 7, 12, 8 to 10, each from the first token to which its cause applies.
 use mathlib.Core.Path.{_≡_, refl, sym, ap, _∙_}
 use mathlib.Core.Bool.{Bool, false, cond}
 use mathlib.Core.List.{List, [], _∷_}
@@ -14,14 +14,14 @@ use Rattle.load_tokens.specs.Arrays.{Arrays, tagged-from}
 use Rattle.load_tokens.specs.Stores.{arrays-of}
 use Rattle.spec_file.specs.declared.Refusal.{Refusal}
 use Rattle.spec_file.specs.declared.Refusal.the-variants.{FileTooLong, BadByte, TooDeep, Ungrammatical, NoRoom, StringTooLong, TooMany, GivenAgain, BadLevel}
-use Rattle.spec_file.specs.declared.Refusal.the-variants.{UnknownWord, BadCalculation}
+use Rattle.spec_file.specs.declared.Refusal.the-variants.{UndefinedGroup, UnknownWord, BadCalculation}
 use Rattle.spec_file.specs.Refusal.{Context, contexts}
 use Rattle.spec_file.specs.Load.{Cause, causes, refused-by}
 use Rattle.load_spans.specs.Roles.{arrays, tokens}
 use Rattle.load_spans.specs.Seek.{seek}
 use Rattle.load_spans.specs.laws.Seek.{refused-at}
 use Rattle.load_spans.specs.laws.Bare.{bare-from, bare-context, seek-bare, too-long-bare, too-many-bare, given-again-bare, bad-level-bare, unknown-word-bare}
-use Rattle.load_spans.specs.laws.Bare.{bad-calculation-bare}
+use Rattle.load_spans.specs.laws.Bare.{undefined-group-bare, bad-calculation-bare}
 use Rattle.load_syntax.specs.declared.Judgment.the-variants.{Tokens, Refused}
 use Rattle.load_spans.specs.Search.{first-of}
 use Rattle.load_causes.specs.Cause.{cause-at, applies, Judged-tokens}
@@ -32,25 +32,27 @@ use Rattle.load_causes.specs.Cause.{cause-at, applies, Judged-tokens}
 abbrev of-refusal : Refusal → Cause
 of-refusal r = record { refusal = r; applies = applies r }
 
-from-cause : (k : ℕ) → k < 6 → drop k causes ≡ of-refusal (cause-at k) ∷ drop (suc k) causes
+from-cause : (k : ℕ) → k < 7 → drop k causes ≡ of-refusal (cause-at k) ∷ drop (suc k) causes
 from-cause zero h = refl
 from-cause (suc zero) h = refl
 from-cause (suc (suc zero)) h = refl
 from-cause (suc (suc (suc zero))) h = refl
 from-cause (suc (suc (suc (suc zero)))) h = refl
 from-cause (suc (suc (suc (suc (suc zero))))) h = refl
-from-cause (suc (suc (suc (suc (suc (suc k)))))) h = absurd (omega arith)
+from-cause (suc (suc (suc (suc (suc (suc zero)))))) h = refl
+from-cause (suc (suc (suc (suc (suc (suc (suc k))))))) h = absurd (omega arith)
 
 pub last-cause :
-    (k : ℕ) → (k ≡ 0 → ⊥) → (k ≡ 1 → ⊥) → (k ≡ 2 → ⊥) → (k ≡ 3 → ⊥) → (k ≡ 4 → ⊥)
+    (k : ℕ) → (k ≡ 0 → ⊥) → (k ≡ 1 → ⊥) → (k ≡ 2 → ⊥) → (k ≡ 3 → ⊥) → (k ≡ 4 → ⊥) → (k ≡ 5 → ⊥)
     → BadCalculation ≡ cause-at k
-last-cause zero a b c d e = absurd (a refl)
-last-cause (suc zero) a b c d e = absurd (b refl)
-last-cause (suc (suc zero)) a b c d e = absurd (c refl)
-last-cause (suc (suc (suc zero))) a b c d e = absurd (d refl)
-last-cause (suc (suc (suc (suc zero)))) a b c d e = absurd (e refl)
-last-cause (suc (suc (suc (suc (suc zero))))) a b c d e = refl
-last-cause (suc (suc (suc (suc (suc (suc k)))))) a b c d e = refl
+last-cause zero a b c d e f = absurd (a refl)
+last-cause (suc zero) a b c d e f = absurd (b refl)
+last-cause (suc (suc zero)) a b c d e f = absurd (c refl)
+last-cause (suc (suc (suc zero))) a b c d e f = absurd (d refl)
+last-cause (suc (suc (suc (suc zero)))) a b c d e f = absurd (e refl)
+last-cause (suc (suc (suc (suc (suc zero))))) a b c d e f = absurd (f refl)
+last-cause (suc (suc (suc (suc (suc (suc zero)))))) a b c d e f = refl
+last-cause (suc (suc (suc (suc (suc (suc (suc k))))))) a b c d e f = refl
 
 -- ---- no cause looks at kinds or places
 
@@ -62,6 +64,7 @@ applies-bare Ungrammatical c = refl
 applies-bare StringTooLong c = too-long-bare c
 applies-bare TooMany c = too-many-bare c
 applies-bare GivenAgain c = given-again-bare c
+applies-bare UndefinedGroup c = undefined-group-bare c
 applies-bare BadLevel c = bad-level-bare c
 applies-bare UnknownWord c = unknown-word-bare c
 applies-bare BadCalculation c = bad-calculation-bare c
@@ -108,7 +111,7 @@ module _ (s places starts ends roles : List ℕ) (n : ℕ) where
       ∙ ap (seek (applies r) []) (ap (tagged-from s (arrays starts ends) roles 0) z ∙ bare-from s (arrays-of kinds places starts ends) roles 0 n)
       ∙ seek-bare (applies r) (applies-bare r) [] (file kinds)
 
-  module _ {k i : ℕ} (j : Judging k) (l : k < 6) (h : i ≡ first-of (applies (cause-at k)) s starts ends roles n) where
+  module _ {k i : ℕ} (j : Judging k) (l : k < 7) (h : i ≡ first-of (applies (cause-at k)) s starts ends roles n) where
     by-first :
         (kinds : List ℕ)
         → refused-by causes (contexts (file kinds))
@@ -131,5 +134,5 @@ module _ (s places starts ends roles : List ℕ) (n : ℕ) where
     pub judging-on : n ≤ i → Judging (k + 1)
     judging-on b = record { same = λ kinds. by-first kinds ∙ rw (le-ltb i n b, add-one k) }
 
-  pub judging-end : {k : ℕ} → Judging k → 6 ≤ k → (kinds : List ℕ) → Judged-tokens s (arrays-of kinds places starts ends) roles n (Tokens n)
+  pub judging-end : {k : ℕ} → Judging k → 7 ≤ k → (kinds : List ℕ) → Judged-tokens s (arrays-of kinds places starts ends) roles n (Tokens n)
   judging-end {k} j l kinds = record { same = rw (j .same kinds, drop-of-length-le causes {i = k} l); few = omega arith }

@@ -20,7 +20,7 @@ use Rattle.load_spans.specs.laws.Roles.{tally-is}
 use Rattle.load_syntax.specs.declared.Judgment.{Judgment}
 use Rattle.load_syntax.specs.declared.Judgment.the-variants.{Tokens, Refused}
 use Rattle.load_syntax.specs.Syntax.{count, final-verdict}
-use Rattle.load_warnings.specs.Bounded.{Bounded}
+use Rattle.load_spans.specs.Bounded.{Bounded}
 use Rattle.load_judge.specs.Judged.{Judged}
 
 module _ (s : List ℕ) (a : Arrays) (roles : List ℕ) (n : ℕ) (e : verdict s ≡ accept (tagged-from s a roles 0 n)) where

@@ -60,7 +60,7 @@ module _ {s : List ℕ} {a : Arrays} {roles : List ℕ} {r : Judgment} (l : Read
         has-places = omega arith;
       }
 
-  -- judged by 5 to 10
+  -- judged by the causes
   pub judged-late : {n : ℕ} {t : Judgment} → r ≡ Tokens n → Judged-tokens s a roles n t → Judged s (a .places) (a .starts) (a .ends) roles t
   judged-late {n} {t} e j =
       let f : n ≡ count r = sym (ap count e) in

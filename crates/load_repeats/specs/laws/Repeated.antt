@@ -3,7 +3,7 @@ use mathlib.Core.Path.{_≡_, refl, ap, _∙_}
 use mathlib.Core.Bool.{Bool, true, false, not, _&&_, _||_}
 use mathlib.Core.List.{List, [], _∷_}
 use Prim.Native.Nat.{ℕ, min}
-use Rattle.spec_lists.specs.Select.{any, run}
+use Rattle.spec_lists.specs.Select.{run}
 use Rattle.spec_grammar.specs.declared.Role.{Role}
 use Rattle.spec_grammar.specs.declared.Role.the-variants.{UagName, HagName, AsgName, Input, RuleWord, CalcWord}
 use Rattle.spec_grammar.specs.Codes.{same-role}
@@ -20,10 +20,6 @@ module _ {A : Type 0} (p q : A → Bool) (e : (x : A) → p x ≡ q x) where
   pub run-same : (xs : List A) → run p xs ≡ run q xs
   run-same [] = refl
   run-same (x ∷ xs) = rw (e x, run-same xs)
-
-  pub any-same : (xs : List A) → any p xs ≡ any q xs
-  any-same [] = refl
-  any-same (x ∷ xs) = rw (e x, any-same xs)
 
 run-all : {A : Type 0} (xs : List A) → run (λ x. true) xs ≡ xs
 run-all [] = refl

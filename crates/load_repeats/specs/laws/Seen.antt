@@ -1,7 +1,7 @@
 -- The search for a token given again: the tokens seen so far.
 use mathlib.Core.Path.{_≡_, refl, sym, ap, _∙_}
 use mathlib.Core.Bool.{Bool, true, false, not, _&&_, _||_}
-use mathlib.Core.List.{List, [], _∷_, _++_, map}
+use mathlib.Core.List.{List, [], _∷_, map}
 use Prim.Native.Nat.{ℕ, _+_, _≤_, _<_}
 use native.Mathlib.Numerals.{add-one}
 use native.Mathlib.Omega.{arith}
@@ -11,6 +11,7 @@ use lib.Seq.{take-suc-set, getD-take, getD-set-same, getD-set-other, length-take
 use borrow.Author.Tests.{eq-eqb, ne-eqb, eqb-true, eqb-false, lt-ltb, le-ltb}
 use Rattle.spec_lists.specs.Text.{same}
 use Rattle.spec_lists.specs.Select.{any, keep-if}
+use Rattle.spec_lists.specs.laws.Any.{any-same, any-append}
 use Rattle.spec_lists.specs.laws.Joined.{map-append}
 use Rattle.spec_grammar.specs.declared.Role.{Role}
 use Rattle.spec_grammar.specs.Codes.{role-number}
@@ -29,19 +30,10 @@ use Rattle.load_spans.specs.Search.{first-of, applies-at}
 use Rattle.load_spans.specs.laws.Codes.{role-same, role-other}
 use Rattle.load_spans.specs.laws.Search.{Searched, search-first, search-found, search-on, search-none}
 use Rattle.load_repeats.specs.Repeated.{since, alike, repeated}
-use Rattle.load_repeats.specs.laws.Repeated.{any-same}
 
 -- one of some texts is t
 abbrev pub spelt : List ℕ → List (List ℕ) → Bool
 spelt t ts = any (λ u. same u t) ts
-
-any-append : {A : Type 0} (p : A → Bool) (xs ys : List A) → any p (xs ++ ys) ≡ any p xs || any p ys
-any-append p [] ys = refl
-any-append p (x ∷ xs) ys = rw (any-append p xs ys) (go (p x))
-  where
-    go : (a : Bool) → a || (any p xs || any p ys) ≡ (a || any p xs) || any p ys
-    go true = refl
-    go false = refl
 
 or-last : (a b : Bool) → a || (b || false) ≡ b || a
 or-last true true = refl

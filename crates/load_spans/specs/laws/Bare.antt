@@ -1,6 +1,6 @@
 -- A token without its kind and place: what the causes and the table look at are texts and roles alone.
-use mathlib.Core.Path.{_≡_, refl, ap, _∙_}
-use mathlib.Core.Bool.{Bool, true, false, cond, not, _&&_, _||_}
+use mathlib.Core.Path.{_≡_, refl, sym, ap, _∙_}
+use mathlib.Core.Bool.{Bool, true, false, not, _&&_}
 use mathlib.Core.List.{List, [], _∷_, _++_, map}
 use mathlib.Core.Option.{Option, none, some}
 use Prim.Native.Nat.{ℕ, zero, suc}
@@ -8,15 +8,17 @@ use lib.Dec.{leb}
 use lib.ListN.{length, length-map}
 use Rattle.spec_lists.specs.Text.{same}
 use Rattle.spec_lists.specs.Select.{holds-of, any, select, prepend-if, run, keep-if, after, skip-if}
+use Rattle.spec_lists.specs.laws.Any.{any-map}
 use Rattle.spec_lists.specs.laws.Joined.{map-append, map-map}
 use Rattle.spec_token.specs.Word.{link-letter}
 use Rattle.spec_grammar.specs.declared.Role.{Role}
-use Rattle.spec_grammar.specs.declared.Role.the-variants.{UagName, HagName, AsgName, Input, RuleWord, CalcWord}
+use Rattle.spec_grammar.specs.declared.Role.the-variants.{UagName, HagName, AsgName, Input, RuleWord, UagNamed, HagNamed, CalcWord}
 use Rattle.spec_grammar.specs.Sentence.{Tagged}
 use Rattle.load_tokens.specs.Arrays.{Arrays, kind-of-number, tagged-at, tagged-from}
 use Rattle.spec_file.specs.Limit.{Section, most, item-of}
 use Rattle.spec_file.specs.Contents.{has-role, text, texts, until}
-use Rattle.spec_file.specs.Refusal.{Context, too-long, item, too-many, duplicates, given-again, bad-level, unknown-word, letters-given}
+use Rattle.spec_file.specs.Refusal.{Context, too-long, item, too-many, duplicates, given-again, undefined, undefined-group, bad-level, unknown-word}
+use Rattle.spec_file.specs.Refusal.{letters-given}
 use Rattle.spec_file.specs.Load.{bad-calculation}
 use Rattle.load_spans.specs.Roles.{arrays}
 use Rattle.load_spans.specs.Seek.{seek}
@@ -57,10 +59,6 @@ module _ (p : Tagged → Bool) (e : (x : Tagged) → p (bare x) ≡ p x) where
       go : (b : Bool) → skip-if b (map bare (after p xs)) (bare x ∷ map bare xs) ≡ map bare (skip-if b (after p xs) (x ∷ xs))
       go true = refl
       go false = refl
-
-pub any-map : {A B : Type 0} (p : B → Bool) (f : A → B) (xs : List A) → any p (map f xs) ≡ any (λ x. p (f x)) xs
-any-map p f [] = refl
-any-map p f (x ∷ xs) = ap (λ (b : Bool). p (f x) || b) (any-map p f xs)
 
 pub until-bare : (r : Role) (xs : List Tagged) → until r (map bare xs) ≡ map bare (until r xs)
 until-bare r = run-bare (λ x. not (has-role r x)) (λ x. refl)
@@ -111,6 +109,15 @@ given-again-bare c =
       again-bare Input (until AsgName (map bare (c .backwards))) (until AsgName (c .backwards)) c (until-bare AsgName (c .backwards)),
       again-bare CalcWord (until RuleWord (map bare (c .backwards))) (until RuleWord (c .backwards)) c (until-bare RuleWord (c .backwards)),
     )
+
+undefined-bare : (named defining : Role) (c : Context) → undefined named defining (bare-context c) ≡ undefined named defining c
+undefined-bare named defining c =
+    let f : Tagged → Bool = λ x. has-role defining x && same (text x) (text (c .here)) in
+    ap (λ (b : Bool). has-role named (c .here) && not b)
+    (ap (any f) (sym (map-append bare (c .backwards) (c .onwards))) ∙ any-map f bare (c .backwards ++ c .onwards))
+
+pub undefined-group-bare : (c : Context) → undefined-group (bare-context c) ≡ undefined-group c
+undefined-group-bare c = rw (undefined-bare UagNamed UagName c, undefined-bare HagNamed HagName c)
 
 letters-bare : (c : Context) → letters-given (bare-context c) ≡ letters-given c
 letters-bare c =

@@ -15,7 +15,7 @@ use Rattle.spec_lists.specs.Select.{select, prepend-if}
 use Rattle.load_tokens.specs.Arrays.{role-of-number, tagged-at, tagged-from}
 use Rattle.spec_file.specs.Contents.{has-role, text, texts}
 use Rattle.load_spans.specs.Roles.{Role-code, Spans-fit, arrays, tally}
-use Rattle.load_spans.specs.laws.Roles.{same-number}
+use Rattle.load_spans.specs.laws.Roles.{same-number, tally-bound}
 use Rattle.load_spans.specs.laws.Spans.{span-fits-at}
 use Rattle.load_spans.specs.Spans.{text-at, Listed-spans-fit}
 use Rattle.load_spans.specs.Listed.{indices, Listed, To-list}
@@ -116,6 +116,10 @@ listed-names {names} {list} {q} {roles} {n} {r} l h =
     ap (take r) (l .listed ∙ e)
     ∙ ap (λ (k : ℕ). take k (indices q roles 0 n ++ drop (0 + length (indices q roles 0 n)) names)) (l .count)
     ∙ take-append-seam (indices q roles 0 n) (drop (0 + length (indices q roles 0 n)) names)
+
+-- they are no more than all tokens
+pub listed-few : {names list : List ℕ} {q : ℕ} {roles : List ℕ} {n r : ℕ} → Listed names list q roles n r → r ≤ n
+listed-few {q = q} {roles = roles} {n = n} l = omega (arith, l .count, indices-length q roles 0 n, tally-bound q roles 0 n)
 
 pub listed-spans-fit : {s starts ends roles : List ℕ} {n : ℕ} (q : ℕ) → Spans-fit s starts ends roles n → Listed-spans-fit s starts ends (indices q roles 0 n)
 listed-spans-fit {roles = roles} {n = n} q l k h = span-fits-at (go (indices q roles 0 n) k h (indices-below q roles 0 n)) l

@@ -52,7 +52,7 @@ slice-aggregate-warnings-2 : tie.Need-slice-aggregate-warnings-2
 slice-aggregate-warnings-2 c = search needs
 
 warnings-requires : tie.Need-warnings-requires
-warnings-requires c κs = search needs
+warnings-requires c κs = (c .before .before .before .before .before .before .before .before .before .before .before .before .before .before .before .before .before .before .before .before .before .before .before .pre .0 .has-places, c .before .before .before .before .before .before .before .before .before .before .before .before .before .before .before .before .before .before .before .before .before .before .before .pre .0 .spans .has-roles)
 
 same-length : tie.Need-same-length
 same-length c = search needs

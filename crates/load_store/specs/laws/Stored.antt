@@ -7,7 +7,6 @@ use lib.Dec.{leb}
 use lib.ListN.{length, drop}
 use borrow.Author.Tests.{le-leb, lt-leb, leb-true, leb-false}
 use Rattle.load_tokens.specs.Arrays.{Arrays, tagged-from}
-use Rattle.load_tokens.specs.Stores.{arrays-of}
 use Rattle.spec_file.specs.Contents.{file-of}
 use Rattle.spec_file.specs.declared.Refusal.the-variants.{NoRoom}
 use Rattle.spec_file.specs.Warning.{warnings}
@@ -19,7 +18,7 @@ use Rattle.load_write.specs.declared.Written.the-variants as written
 use Rattle.load_write.specs.Table.{stored-table, Wrote}
 use Rattle.load_write.specs.laws.Whole.{table-is}
 use Rattle.load_warnings.specs.Filled.{Filled, warnings-of}
-use Rattle.load_warnings.specs.laws.Kind.{warnings-kindless}
+use Rattle.load_warnings.specs.laws.Plain.{warnings-plain}
 use Rattle.load_store.specs.Stored.{Stored}
 
 -- the tokens that define groups, as they were collected
@@ -33,10 +32,10 @@ is-table-of s a roles n u h = rw (u, h) (table-is s a roles n)
 module _ (s : List ℕ) (a : Arrays) (roles : List ℕ) (n : ℕ) (lent : List ℕ) {t : List ℕ} (e : t ≡ table-of (file-of (tagged-from s a roles 0 n))) where
   stored-all :
       {c : List ℕ} {size count : ℕ} → length t ≤ length lent → c ≡ t ++ drop (length t) lent → size ≡ length t
-      → count ≡ length (warnings (tagged-from s (arrays-of [] (a .places) (a .starts) (a .ends)) roles 0 n))
+      → count ≡ length (warnings-of (a .places) roles n)
       → Stored s a roles n lent c (loaded.Accepted size count)
   stored-all h g k w =
-      rw (g, k, w, warnings-kindless s a roles n, ← e, le-leb (length t) (length lent) h)
+      rw (g, k, w, warnings-plain s a roles n, ← e, le-leb (length t) (length lent) h)
 
   stored-none :
       {c : List ℕ} {size : ℕ} → length lent < length t → c ≡ lent → size ≡ length t
@@ -77,7 +76,7 @@ module _
   where
     pub stored-done :
         {size count : ℕ} {b d e f : List ℕ} {skip : ℕ} → r ≡ written.Done size
-        → Filled (warnings-of s (a .places) (a .starts) (a .ends) roles n) skip b d e f count
+        → Filled (warnings-of (a .places) roles n) skip b d e f count
         → Stored s a roles n lent c (loaded.Accepted size count)
     stored-done e t = let d = done w e in stored-all s a roles n lent (is-table-of s a roles n u h) (d .0) (d .1) (d .2) (t .count)
 

@@ -1,7 +1,7 @@
 -- The loop that writes the warnings.
 use mathlib.Core.Path.{_≡_, refl, sym, ap, _∙_}
 use mathlib.Core.Bool.{Bool, true, false, cond}
-use mathlib.Core.List.{List, [], _∷_, map}
+use mathlib.Core.List.{List, [], _∷_}
 use mathlib.Core.Option.{Option, none, some}
 use Prim.Native.Nat.{ℕ, suc, _+_, _-_, _≤_, _<_}
 use native.Mathlib.Omega.{arith}
@@ -11,17 +11,15 @@ use lib.Seq.{sets, set-out, drop-nil}
 use borrow.Author.Tests.{leb-true, leb-false, le-leb, lt-leb}
 use Rattle.spec_grammar.specs.Sentence.{Tagged}
 use Rattle.load_tokens.specs.Arrays.{tagged-at, tagged-from}
-use Rattle.load_tokens.specs.Stores.{arrays-of}
 use Rattle.spec_file.specs.declared.Warning.{Warning}
-use Rattle.spec_file.specs.declared.Warning.the-variants.{UnknownItem, UnknownPredicate, UndefinedGroup}
+use Rattle.spec_file.specs.declared.Warning.the-variants.{UnknownItem, UnknownPredicate}
 use Rattle.spec_file.specs.Contents.{place}
-use Rattle.spec_file.specs.Warning.{Warned, warning-of, with-place, warnings-among}
+use Rattle.spec_file.specs.Warning.{Warned, warning-of, with-place, warnings}
 use Rattle.load_spans.specs.Roles.{tokens}
 use Rattle.load_spans.specs.laws.Roles.{tokens-none, tokens-step}
-use Rattle.load_spans.specs.Listed.{indices}
 use Rattle.load_warnings.specs.laws.Code.{code-is}
-use Rattle.load_warnings.specs.Code.{code-of, code-at}
-use Rattle.load_warnings.specs.Filled.{warnings-of, numbers-of, places-of, wrote, Filled}
+use Rattle.load_warnings.specs.Code.{code-of, code}
+use Rattle.load_warnings.specs.Filled.{plain, warnings-of, numbers-of, places-of, wrote, Filled}
 
 -- ---- values written from the skip-th on
 
@@ -86,49 +84,43 @@ module _ (x : Tagged) (ws : List Warned) where
   no-more none h = refl
   no-more (some UnknownItem) h = absurd (omega (arith, h))
   no-more (some UnknownPredicate) h = absurd (omega (arith, h))
-  no-more (some UndefinedGroup) h = absurd (omega (arith, h))
 
 -- ---- the loop over the tokens
 
-module _ (s places starts ends roles : List ℕ) (n : ℕ) where
-  abbrev file : List Tagged
-  file = tagged-from s (arrays-of [] places starts ends) roles 0 n
-
+module _ (places roles : List ℕ) (n : ℕ) where
   abbrev here : ℕ → Tagged
-  here i = tagged-at s (arrays-of [] places starts ends) roles i
+  here i = tagged-at [] (plain places) roles i
 
   -- the number of the i-th token's warning
   abbrev pub code-here : ℕ → ℕ
-  code-here i = code-of (warning-of file (here i))
+  code-here i = code-of (warning-of (here i))
 
   -- the warnings from the i-th token on
   abbrev pub rest : ℕ → List Warned
-  rest i = warnings-among file (tokens s (arrays-of [] places starts ends) roles i n)
+  rest i = warnings (tokens [] (plain places) roles i n)
 
-  pub code-here-is :
-      (uags hags : List ℕ) (w i : ℕ) → uags ≡ indices 1 roles 0 n → hags ≡ indices 3 roles 0 n → w ≡ code-at s starts ends roles uags hags i
-      → w ≡ code-here i
-  code-here-is uags hags w i u h e = e ∙ rw (u, h) (sym (code-is s (arrays-of [] places starts ends) roles n i))
+  pub code-here-is : (w i : ℕ) → w ≡ code (getD roles i 0) → w ≡ code-here i
+  code-here-is w i e = e ∙ sym (code-is [] (plain places) roles i)
 
-  rest-step : (i : ℕ) → i < n → rest i ≡ with-place (warning-of file (here i)) (here i) (rest (i + 1))
-  rest-step i h = ap (warnings-among file) (tokens-step s (arrays-of [] places starts ends) roles i n h)
+  rest-step : (i : ℕ) → i < n → rest i ≡ with-place (warning-of (here i)) (here i) (rest (i + 1))
+  rest-step i h = ap warnings (tokens-step [] (plain places) roles i n h)
 
-  rest-first : rest 0 ≡ warnings-of s places starts ends roles n
-  rest-first = let z : n - 0 ≡ n = omega arith in ap (λ (m : ℕ). warnings-among file (tagged-from s (arrays-of [] places starts ends) roles 0 m)) z
+  rest-first : rest 0 ≡ warnings-of places roles n
+  rest-first = let z : n - 0 ≡ n = omega arith in ap (λ (m : ℕ). warnings (tagged-from [] (plain places) roles 0 m)) z
 
   rest-none : (i : ℕ) → n ≤ i → rest i ≡ []
-  rest-none i h = ap (warnings-among file) (tokens-none s (arrays-of [] places starts ends) roles i n h)
+  rest-none i h = ap warnings (tokens-none [] (plain places) roles i n h)
 
 -- with k warnings written before the i-th token, what is left to write comes to all
-module _ (s places starts ends roles : List ℕ) (n skip : ℕ) (numbers₀ at₀ : List ℕ) where
+module _ (places roles : List ℕ) (n skip : ℕ) (numbers₀ at₀ : List ℕ) where
   pub record Filling (b a : List ℕ) (k i : ℕ) : Type 0 where
     pub few : k ≤ i
-    pub count : k + length (rest s places starts ends roles n i) ≡ length (warnings-of s places starts ends roles n)
+    pub count : k + length (rest places roles n i) ≡ length (warnings-of places roles n)
     pub numbers-left :
-        written skip k b (numbers-of (rest s places starts ends roles n i))
-        ≡ sets numbers₀ 0 (drop skip (numbers-of (warnings-of s places starts ends roles n)))
+        written skip k b (numbers-of (rest places roles n i))
+        ≡ sets numbers₀ 0 (drop skip (numbers-of (warnings-of places roles n)))
     pub places-left :
-        written skip k a (places-of (rest s places starts ends roles n i)) ≡ sets at₀ 0 (drop skip (places-of (warnings-of s places starts ends roles n)))
+        written skip k a (places-of (rest places roles n i)) ≡ sets at₀ 0 (drop skip (places-of (warnings-of places roles n)))
     pub long-numbers : length b ≡ length numbers₀
     pub long-at : length a ≡ length at₀
 
@@ -136,7 +128,7 @@ module _ (s places starts ends roles : List ℕ) (n skip : ℕ) (numbers₀ at�
   fill-first =
       let z : 0 - skip ≡ 0 = omega arith in
       let y : skip - 0 ≡ skip = omega arith in
-      let f = rest-first s places starts ends roles n in
+      let f = rest-first places roles n in
       record {
         few = omega arith;
         count = omega (arith, ap length f);
@@ -147,13 +139,13 @@ module _ (s places starts ends roles : List ℕ) (n skip : ℕ) (numbers₀ at�
       }
 
   pub fill-warning :
-      {b c a d : List ℕ} {k i w : ℕ} → i < n → w ≡ code-here s places starts ends roles n i → (w ≡ 0 → ⊥)
+      {b c a d : List ℕ} {k i w : ℕ} → i < n → w ≡ code-here places roles n i → (w ≡ 0 → ⊥)
       → c ≡ wrote skip k b w → d ≡ wrote skip k a (getD places i 0) → Filling b a k i → Filling c d (k + 1) (i + 1)
   fill-warning {b} {c} {a} {d} {k} {i} {w} h e g p q l =
-      let f = rest-step s places starts ends roles n i h in
-      let o = warning-of (file s places starts ends roles n) (here s places starts ends roles n i) in
-      let x = here s places starts ends roles n i in
-      let r = rest s places starts ends roles n (i + 1) in
+      let f = rest-step places roles n i h in
+      let o = warning-of (here places roles n i) in
+      let x = here places roles n i in
+      let r = rest places roles n (i + 1) in
       let g′ : code-of o ≡ 0 → ⊥ = λ z. g (e ∙ z) in
       record {
         few = omega (arith, l .few);
@@ -170,11 +162,11 @@ module _ (s places starts ends roles : List ℕ) (n skip : ℕ) (numbers₀ at�
         long-at = rw q (length-wrote skip k a (getD places i 0) ∙ l .long-at);
       }
 
-  pub fill-none : {b a : List ℕ} {k i w : ℕ} → i < n → w ≡ code-here s places starts ends roles n i → w ≡ 0 → Filling b a k i → Filling b a k (i + 1)
+  pub fill-none : {b a : List ℕ} {k i w : ℕ} → i < n → w ≡ code-here places roles n i → w ≡ 0 → Filling b a k i → Filling b a k (i + 1)
   fill-none {b} {a} {k} {i} {w} h e g l =
-      let x = here s places starts ends roles n i in
-      let o = warning-of (file s places starts ends roles n) x in
-      let f = rest-step s places starts ends roles n i h ∙ no-more x (rest s places starts ends roles n (i + 1)) o (sym e ∙ g) in
+      let x = here places roles n i in
+      let o = warning-of x in
+      let f = rest-step places roles n i h ∙ no-more x (rest places roles n (i + 1)) o (sym e ∙ g) in
       record {
         few = omega (arith, l .few);
         count = omega (arith, l .count, ap length f);
@@ -184,9 +176,9 @@ module _ (s places starts ends roles : List ℕ) (n skip : ℕ) (numbers₀ at�
         long-at = l .long-at;
       }
 
-  pub fill-end : {b a : List ℕ} {k i : ℕ} → n ≤ i → Filling b a k i → Filled (warnings-of s places starts ends roles n) skip numbers₀ b at₀ a k
+  pub fill-end : {b a : List ℕ} {k i : ℕ} → n ≤ i → Filling b a k i → Filled (warnings-of places roles n) skip numbers₀ b at₀ a k
   fill-end {b} {a} {k} {i} h l =
-      let f = rest-none s places starts ends roles n i h in
+      let f = rest-none places roles n i h in
       record {
         count = omega (arith, l .count, ap length f);
         numbers = sym (ap (λ (ws : List Warned). written skip k b (numbers-of ws)) f ∙ written-none skip k b) ∙ l .numbers-left;

@@ -8,7 +8,7 @@ use lib.ListN.{length}
 use Rattle.spec_token.specs.laws.Kinds.{spelled-few}
 use Rattle.spec_grammar.specs.Sentence.{Tagged}
 use Rattle.spec_file.specs.declared.Warning.{Warning}
-use Rattle.spec_file.specs.Warning.{warning-of, with-place, warnings-among, warnings}
+use Rattle.spec_file.specs.Warning.{warning-of, with-place, warnings}
 use Rattle.spec_file.specs.Limit.{most-bytes}
 use Rattle.spec_file.specs.Load.{accept, verdict}
 use Rattle.spec_file.specs.laws.Theorem.{accepted-is}
@@ -17,11 +17,11 @@ pub length-map : {A B : Type 0} (f : A → B) (xs : List A) → length (map f xs
 length-map f [] = refl
 length-map f (x ∷ xs) = ap suc (length-map f xs)
 
-few-among : (file xs : List Tagged) → length (warnings-among file xs) ≤ length xs
-few-among file [] = omega arith
-few-among file (x ∷ xs) = go (warning-of file x) (few-among file xs)
+few-among : (xs : List Tagged) → length (warnings xs) ≤ length xs
+few-among [] = omega arith
+few-among (x ∷ xs) = go (warning-of x) (few-among xs)
   where
-    go : (o : Option Warning) → length (warnings-among file xs) ≤ length xs → length (with-place o x (warnings-among file xs)) ≤ suc (length xs)
+    go : (o : Option Warning) → length (warnings xs) ≤ length xs → length (with-place o x (warnings xs)) ≤ suc (length xs)
     go none h = omega arith
     go (some w) h = omega arith
 
@@ -30,6 +30,6 @@ few-warnings s xs e =
     let a = accepted-is s xs e in
     let t = spelled-few (a .as-read .spelling) in
     let l = sym (length-map (λ (x : Tagged). x .token) xs) ∙ ap length (a .as-read .reading .tokens) in
-    let w = few-among xs xs in
+    let w = few-among xs in
     let b = a .short in
     omega arith

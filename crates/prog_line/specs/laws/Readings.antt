@@ -10,6 +10,7 @@ use lib.ListN.{length, drop, getD, set, replicate, length-set}
 use lib.Seq.{drop-length, getD-set-same, getD-set-other, set-comm}
 use borrow.Author.Tests.{eqb-true, eqb-false}
 use Rattle.spec_lists.specs.Text.{one-of}
+use Rattle.spec_lists.specs.laws.Both.{neither}
 use Rattle.spec_calc.specs.declared.Reading.{Reading}
 use Rattle.spec_calc.specs.declared.Reading.the-variants.{NeverHeard}
 use Rattle.prog_reading.specs.declared.NamedReading.{NamedReading}
@@ -85,10 +86,6 @@ over-set rs i r (n ∷ ns) o =
     let z = neither (eqb i (n .letter)) (one-of (letters ns) i) o in
     ap (λ (q : List Reading). set q (n .letter) (n .reading)) (over-set rs i r ns (z .1))
     ∙ set-comm (over rs ns) i (n .letter) r (n .reading) (eqb-false i (n .letter) (z .0))
-  where
-    neither : (a b : Bool) → a || b ≡ false → (a ≡ false) × (b ≡ false)
-    neither true b h = let z : _≡_ {A = ℕ} 0 1 = cc in absurd (omega arith)
-    neither false b h = (refl, h)
 
 over-none : (ns : List Named) → over never-heard ns ≡ readings ns
 unfolding over readings

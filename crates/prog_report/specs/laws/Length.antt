@@ -6,8 +6,8 @@ use native.Mathlib.Omega.{arith}
 use lib.ListN.{length, length-append}
 use Rattle.spec_lists.specs.Text.{bytes}
 use Rattle.spec_file.specs.declared.Refusal.{Refusal}
-use Rattle.spec_file.specs.declared.Refusal.the-variants as cause
 use Rattle.spec_file.specs.Refusal as refusal
+use Rattle.spec_file.specs.laws.Numbered.{number-small}
 use Rattle.prog_text.specs.Text.{decimal-digits}
 use Rattle.prog_report.specs.Report.{placed, refusal-line}
 use Rattle.prog_text.specs.laws.Digits.{few-digits}
@@ -22,19 +22,6 @@ placed-length w n p =
       length-append (bytes " at ") (decimal-digits p),
     )
 
-small-number : (k : Refusal) → refusal.number k < 100
-small-number cause.FileTooLong = omega arith
-small-number cause.BadByte = omega arith
-small-number cause.TooDeep = omega arith
-small-number cause.Ungrammatical = omega arith
-small-number cause.StringTooLong = omega arith
-small-number cause.TooMany = omega arith
-small-number cause.GivenAgain = omega arith
-small-number cause.BadLevel = omega arith
-small-number cause.UnknownWord = omega arith
-small-number cause.BadCalculation = omega arith
-small-number cause.NoRoom = omega arith
-
 -- a refusal whose place has 20 digits at most
 pub short-refusal : (k : Refusal) (p : ℕ) → p < 100000000000000000000 → length (refusal-line k p) ≤ 64
 short-refusal k p h =
@@ -42,6 +29,6 @@ short-refusal k p h =
       arith,
       length-append (placed (bytes "refusal ") (refusal.number k) p) (10 ∷ []),
       placed-length (bytes "refusal ") (refusal.number k) p,
-      few-digits 1 (refusal.number k) (let z = small-number k in omega arith),
+      few-digits 1 (refusal.number k) (omega (arith, number-small k)),
       few-digits 19 p (omega arith),
     )

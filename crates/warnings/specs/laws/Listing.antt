@@ -16,7 +16,7 @@ use Rattle.load_judge.specs.Judged.{Judged}
 use Rattle.load_judge.specs.laws.Judged.{verdict-long}
 use Rattle.load_judge.specs.laws.Bounded.{judged-arrays, accepted-as, refused-as}
 use Rattle.load_warnings.specs.Filled.{Filled, warnings-of}
-use Rattle.load_warnings.specs.laws.Kind.{warnings-kindless}
+use Rattle.load_warnings.specs.laws.Plain.{warnings-plain}
 use Rattle.warnings.specs.laws.Over.{over}
 
 module _ {s places starts ends roles : List ℕ} {r : Judgment} (f : Judged s places starts ends roles r) (skip : ℕ) (numbers at : List ℕ) where
@@ -28,7 +28,7 @@ module _ {s places starts ends roles : List ℕ} {r : Judgment} (f : Judged s pl
 
   pub listed-warnings :
       {n count : ℕ} {c d : List ℕ} → r ≡ judgment.Tokens n
-      → Filled (warnings-of s places starts ends roles n) skip numbers c at d count
+      → Filled (warnings-of places roles n) skip numbers c at d count
       → record { answer = Warnings count; numbers = c; places = d } ≡ listing skip numbers at s
   unfolding listing
   listed-warnings {n} e t =
@@ -38,7 +38,7 @@ module _ {s places starts ends roles : List ℕ} {r : Judgment} (f : Judged s pl
         t .count,
         t .numbers,
         t .places,
-        warnings-kindless s (judged-arrays f) roles n,
+        warnings-plain s (judged-arrays f) roles n,
         over (drop skip (map (λ x. number (x .warning)) ws)) numbers,
         over (drop skip (map (λ x. x .place) ws)) at,
       )
