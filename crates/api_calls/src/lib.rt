@@ -36,7 +36,7 @@ fn find_checked(lent: &[u8], group: &[u8], letter: u32) -> Found
     ensures { λ r. ⌜ r ≡ look-up (now (lent .entry)) (now (group .entry)) letter ⌝ }
 {
     if table::is_table(lent) {
-        ask_checked::find_input_checked(lent, group, letter)
+        ask_input::find_input_checked(lent, group, letter)
     } else {
         Found::NotTable
     }

@@ -1,4 +1,5 @@
-// The answer to a question on any bytes, and the look-up of an input. ask_checked has both for a table that was checked before.
+// The answer to a question on any bytes, and the look-up of an input. ask_checked and ask_input have them for a table that was
+// checked before.
 use spec_calc::Reading;
 use spec_decision::Answer;
 use spec_decision::Found;
@@ -34,7 +35,7 @@ pub fn find_input(table: &[u8], group: &[u8], letter: u32) -> Found
     ensures { λ r. ⌜ r ≡ look-up (now (table .entry)) (now (group .entry)) letter ⌝ }
 {
     if table::is_table(table) {
-        ask_checked::find_input_checked(table, group, letter)
+        ask_input::find_input_checked(table, group, letter)
     } else {
         Found::NotTable
     }
@@ -45,7 +46,7 @@ pub fn look_up<'a>(table: &'a [u8], group: &[u8], letter: u32) -> &'a [u8]
     ensures { λ r. ⌜ now r ≡ part-in (look-up (now (table .entry)) (now (group .entry)) letter) (now (table .entry)) ⌝ }
 {
     if table::is_table(table) {
-        match ask_checked::input_of(table, group, letter) {
+        match ask_input::input_of(table, group, letter) {
             Index::At(i) => table_read::name_of(table, Section::Inputs, i),
             Index::Missing => &table[0..0],
         }

@@ -1,4 +1,4 @@
--- What the rules of an access group give, and which input of a group has a letter.
+-- What the rules of an access group give.
 use mathlib.Core.Path.{_≡_}
 use mathlib.Core.Bool.{Bool}
 use mathlib.Core.List.{List}
@@ -8,12 +8,9 @@ use Rattle.spec_calc.specs.declared.Reading.{Reading}
 use Rattle.spec_rule.specs.declared.Decision.{Decision}
 use Rattle.spec_rule.specs.Rule.{Rule}
 use Rattle.spec_rule.specs.Decision.{decision-by}
-use Rattle.spec_file.specs.Limit.{access-groups, inputs}
+use Rattle.spec_file.specs.Limit.{access-groups}
 use Rattle.spec_table.specs.View.{view}
 use Rattle.spec_table.specs.Policy.{rules-of, row}
-use Rattle.spec_decision.specs.LookUp.{input-of}
-use Rattle.table_read.specs.declared.Index.{Index}
-use Rattle.table_read.specs.Search.{Finds, group-for}
 use Rattle.ask_rule.specs.Rules.{question, Inputs-are}
 
 -- the rules of the i-th access group
@@ -24,7 +21,3 @@ group-rules b i = rules-of (view b) (row (view b) access-groups i)
 abbrev pub By-group : List ℕ → ℕ → List ℕ → List ℕ → List (List ℕ) → ℕ → List Float → List Bool → Decision → Type 0
 By-group b i user host roles level values goods r =
     (rs : List Reading) → Inputs-are values goods rs → r ≡ decision-by (question user host roles level rs) (group-rules b i)
-
--- the number of the input that has the letter, in the group that answers
-abbrev pub Finds-letter : List ℕ → List ℕ → ℕ → Index → Type 0
-Finds-letter b g l r = Finds (view b .records inputs) (input-of (view b) l (group-for b g)) r

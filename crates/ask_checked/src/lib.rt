@@ -1,10 +1,8 @@
-// The answer to a question, and the look-up of an input, on a table that was checked before.
+// The answer to a question on a table that was checked before.
 use spec_calc::Reading;
 use spec_decision::Answer;
-use spec_decision::Found;
 use spec_rule::Access;
 use spec_rule::Decision;
-use table_fields::STRINGS;
 use table_read::Index;
 use table_read::Section;
 ghost use mathlib.Core.Path.{_≡_};
@@ -15,11 +13,10 @@ ghost use Rattle.spec_rule.specs.Question.{lent-question};
 ghost use Rattle.spec_file.specs.Limit.{access-groups};
 ghost use Rattle.spec_table.specs.Check.{is-table};
 ghost use Rattle.spec_decision.specs.Decision.{decide};
-ghost use Rattle.spec_decision.specs.LookUp.{look-up};
 ghost use Rattle.table_read.specs.Stored.{Stored};
-ghost use Rattle.ask_checked.specs.Group.{By-group, Finds-letter};
+ghost use Rattle.ask_checked.specs.Group.{By-group};
 
-// A level or a letter as a number.
+// A level as a number.
 fn wide(n: u32) -> usize
     ensures { λ r. ⌜ r ≡ n ⌝ }
 {
@@ -66,8 +63,6 @@ fn decision_of_group(
     so_far
 }
 
-// ---- the question
-
 // The answer to a question on a table that was checked before: only the answering group's rules are tried.
 // Callers have asked is_table, or have the bytes of an accepted load (spec_demand/specs/laws/Exact: leaves-table); others call ask::decide.
 pub fn decide_checked(
@@ -110,38 +105,6 @@ pub fn decide_checked(
                 &goods,
             );
             Answer::Answered(d)
-        }
-    }
-}
-
-// ---- the look-up
-
-// The input of a letter. ask::look_up has asked is_table.
-pub fn input_of(table: &[u8], group: &[u8], letter: u32) -> Index
-    requires { ⌜ is-table (now table) ≡ true ⌝ }
-    ensures { λ r. ⌜ Finds-letter (now (table .entry)) (now (group .entry)) letter r ⌝ }
-{
-    match table_read::answering_group(table, group) {
-        Index::Missing => Index::Missing,
-        Index::At(i) => table_read::first_input(table, i, wide(letter)),
-    }
-}
-
-// Where the name of a letter's input stands, in a table that was checked before. Callers as of decide_checked; others call ask::find_input.
-pub fn find_input_checked(table: &[u8], group: &[u8], letter: u32) -> Found
-    requires { ⌜ is-table (now table) ≡ true ⌝ }
-    ensures { λ r. ⌜ r ≡ look-up (now (table .entry)) (now (group .entry)) letter ⌝ }
-{
-    match input_of(table, group, letter) {
-        Index::Missing => Found::NoInput,
-        Index::At(i) => {
-            let strings = table_fields::offset(table, STRINGS);
-            let at = table_read::field(table, Section::Inputs, i, 1);
-            let length = table_read::field(table, Section::Inputs, i, 2);
-            Found::Part {
-                at: strings + at,
-                length,
-            }
         }
     }
 }

@@ -125,7 +125,7 @@ pub fn group_named(table: &[u8], group: &[u8]) -> Index
     first_named(table, group)
 }
 
-// The access group that answers for a name. Inner: ask_checked calls it, of a checked table.
+// The access group that answers for a name. Inner: ask_checked and ask_input call it, of a checked table.
 pub fn answering_group(table: &[u8], group: &[u8]) -> Index
     requires { ⌜ is-table (now table) ≡ true ⌝ }
     ensures { λ r. ⌜ r ≡ index-of (answering-number (now (table .entry)) (now (group .entry))) ⌝ }
@@ -136,7 +136,7 @@ pub fn answering_group(table: &[u8], group: &[u8]) -> Index
     }
 }
 
-// The first input of an access group that has the letter. Inner: ask_checked calls it, with the answering group.
+// The first input of an access group that has the letter. Inner: ask_input calls it, with the answering group.
 pub fn first_input(table: &[u8], group: usize, letter: usize) -> Index
     requires { ⌜ Stored (now table) access-groups group ⌝ }
     ensures { λ r. ⌜ Finds-input (now (table .entry)) group letter r ⌝ }

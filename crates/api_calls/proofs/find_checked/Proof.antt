@@ -1,4 +1,4 @@
-use Rattle.ask_checked.specs.laws.LookUp.{look-not}
+use Rattle.ask_input.specs.laws.LookUp.{look-not}
 use mathlib.Core.Path.{sym, _∙_}
 use borrow.Author.Needs.{needs}
 use Rattle.api_calls.proofs.find_checked.Statement.{statement}

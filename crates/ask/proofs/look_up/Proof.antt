@@ -1,4 +1,4 @@
-use Rattle.ask_checked.specs.laws.LookUp.{look-not, look-none, part-found}
+use Rattle.ask_input.specs.laws.LookUp.{look-not, look-none, part-found}
 use Rattle.table_read.specs.laws.Search.{finds-at}
 use Rattle.spec_decision.specs.LookUp.{part-in}
 use mathlib.Core.Path.{sym, ap, _∙_}

@@ -7,7 +7,6 @@ use Prim.Native.Nat.{ℕ, _+_, _≤_, _<_}
 use native.Mathlib.Omega.{arith}
 use lib.ListN.{length, take}
 use borrow.Author.Tests.{le-leb, lt-leb}
-use Rattle.spec_rule.specs.declared.Access.the-variants as access
 use Rattle.spec_rule.specs.declared.Decision.{Decision}
 use Rattle.spec_rule.specs.Roles.{roles-fit}
 use Rattle.spec_rule.specs.Question.{Question}

@@ -20,7 +20,7 @@ use Rattle.table_read.specs.declared.Index.the-variants.{At, Missing}
 use Rattle.table_read.specs.Stored.{word-of}
 use Rattle.table_read.specs.Search.{Finds, not-found, index-of, group-for}
 use Rattle.table_read.specs.laws.Search.{finds-at, finds-none, finds-answering}
-use Rattle.ask_checked.specs.Group.{Finds-letter}
+use Rattle.ask_input.specs.Input.{Finds-letter}
 
 module _ (b g : List ℕ) (l : ℕ) where
   pub look-not : is-table b ≡ false → look-up b g l ≡ found.NotTable

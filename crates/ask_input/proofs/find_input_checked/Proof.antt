@@ -1,11 +1,11 @@
-use Rattle.ask_checked.specs.laws.LookUp.{look-none, look-part}
+use Rattle.ask_input.specs.laws.LookUp.{look-none, look-part}
 use Rattle.table_read.specs.laws.Stored.{header-there}
 use Rattle.table_read.specs.laws.Search.{finds-at}
 use native.Mathlib.Omega.{arith}
 use mathlib.Core.Path.{sym}
 use borrow.Author.Needs.{needs}
-use Rattle.ask_checked.proofs.find_input_checked.Statement.{statement}
-use Rattle.ask_checked.proofs.find_input_checked.Tie as tie
+use Rattle.ask_input.proofs.find_input_checked.Statement.{statement}
+use Rattle.ask_input.proofs.find_input_checked.Tie as tie
 
 input-of-requires : tie.Need-input-of-requires
 input-of-requires c κs = search needs
