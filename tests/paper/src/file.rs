@@ -1,4 +1,4 @@
-//! A file as the grammar gives it; refusals 5 to 10 and the warnings.
+//! A file as the grammar gives it; refusals 5 to 10 and 12, and the warnings.
 
 use crate::calculation;
 use crate::text::Token;
@@ -149,17 +149,23 @@ impl<'a> File<'a> {
         self.access_groups().into_iter().flat_map(|g| &g.rules).collect()
     }
 
-    /// Refusals 5 to 10: the lowest number, then the earliest place.
-    pub fn refusal(&self) -> Option<Refusal> {
-        let causes = [
+    /// Refusals 5 to 10 and 12 in the order in which they are judged, each with
+    /// the places that have it.
+    pub fn causes(&self) -> [(u8, Vec<usize>); 7] {
+        [
             (5, self.too_long()),
             (6, self.too_many()),
             (7, self.given_again()),
+            (12, self.undefined()),
             (8, self.bad_levels()),
             (9, self.bad_words()),
             (10, self.bad_calculations()),
-        ];
-        let (number, places) = causes.into_iter().find(|(_, places)| !places.is_empty())?;
+        ]
+    }
+
+    /// The first cause that there is, at its earliest place.
+    pub fn refusal(&self) -> Option<Refusal> {
+        let (number, places) = self.causes().into_iter().find(|(_, places)| !places.is_empty())?;
         Some(Refusal { number, place: places.into_iter().min()? })
     }
 
@@ -225,6 +231,17 @@ impl<'a> File<'a> {
         places
     }
 
+    /// Refusal 12: the names in rules that no definition has, users and hosts apart.
+    fn undefined(&self) -> Vec<usize> {
+        let (users, hosts) = (self.user_groups(), self.host_groups());
+        let mut places = Vec::new();
+        for rule in self.rules() {
+            places.extend(missing(&rule.users(), &users));
+            places.extend(missing(&rule.hosts(), &hosts));
+        }
+        places
+    }
+
     /// Refusal 8.
     fn bad_levels(&self) -> Vec<usize> {
         let rules = self.rules().into_iter();
@@ -269,14 +286,9 @@ impl<'a> File<'a> {
                 found.push(Warning { number: 1, place: name.place });
             }
         }
-        for rule in self.rules() {
-            for predicate in &rule.predicates {
-                match predicate {
-                    Predicate::Unknown(name) => found.push(Warning { number: 2, place: name.place }),
-                    Predicate::Users(names) => found.extend(undefined(names, &self.user_groups())),
-                    Predicate::Hosts(names) => found.extend(undefined(names, &self.host_groups())),
-                    Predicate::Calculation { .. } => {}
-                }
+        for predicate in self.rules().into_iter().flat_map(|r| &r.predicates) {
+            if let Predicate::Unknown(name) = predicate {
+                found.push(Warning { number: 2, place: name.place });
             }
         }
         found.sort_by_key(|w| w.place);
@@ -297,8 +309,8 @@ fn repeated<K: PartialEq>(items: impl Iterator<Item = (K, usize)>) -> Vec<usize>
     places
 }
 
-/// Warning 3 for each name that none of the groups has.
-fn undefined(names: &[Token], groups: &[&Group]) -> Vec<Warning> {
-    let unknown = names.iter().filter(|n| !groups.iter().any(|g| g.name.text == n.text));
-    unknown.map(|n| Warning { number: 3, place: n.place }).collect()
+/// The places of the names that none of the groups has.
+fn missing(names: &[Token], groups: &[&Group]) -> Vec<usize> {
+    let absent = names.iter().filter(|n| !groups.iter().any(|g| g.name.text == n.text));
+    absent.map(|n| n.place).collect()
 }

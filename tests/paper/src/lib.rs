@@ -2,10 +2,11 @@
 //! EPICS text that it follows, not from the proved code.
 //!
 //! The modules follow the paper's headings: `text` (tokens), `grammar`,
-//! `file` (refusals 5 to 10 and warnings), `table` (bytes and check),
+//! `file` (refusals 5 to 10 and 12, and warnings), `table` (bytes and check),
 //! `question` (decision and look-up), `calculation`, `programs`. `register` is
 //! document 02's first request, `script` its calls as lines; its second, roles,
-//! is part of `question`, its third, bad arithmetic, of `calculation`.
+//! is part of `question`, its third, bad arithmetic, of `calculation`, its fourth,
+//! undefined groups, of `file`.
 #![forbid(unsafe_code)]
 
 pub mod calculation;
@@ -53,7 +54,7 @@ pub struct Refusal {
     pub place: usize,
 }
 
-/// A warning: 1 unknown item, 2 unknown predicate, 3 undefined group.
+/// A warning: 1 unknown item, 2 unknown predicate.
 #[derive(Clone, Copy, Debug, PartialEq, Eq)]
 pub struct Warning {
     pub number: u8,
@@ -67,7 +68,7 @@ pub struct Loaded {
     pub warnings: usize,
 }
 
-/// Refusals 1 to 10, or the file.
+/// Refusals 1 to 10 and 12, or the file.
 pub fn read(text: &[u8]) -> Result<file::File<'_>, Refusal> {
     if text.len() > FILE_BYTES {
         return Err(Refusal { number: 1, place: 0 });

@@ -10,7 +10,8 @@ pub const HEADER_BYTES: usize = 36;
 /// Words of a record in sections 1 to 7. Section 8 is bytes.
 pub const WIDTHS: [usize; 7] = [4, 4, 2, 6, 3, 7, 3];
 
-/// A reference to a group that is not defined.
+/// A reference to a group that is not defined: a table may have it, though no
+/// accepted file writes it.
 pub const UNDEFINED: u16 = 65_535;
 
 /// Sections by their place in the header.

@@ -10,9 +10,11 @@ fn truth(text: &str) -> bool {
 }
 
 #[test]
-fn three_warnings_in_full() {
-    let file = b"UAG(a) {x}\nFOO(1)\nASG(DEFAULT) {RULE(1,WRITE) {UAG(b) BAR()}}\n";
-    assert_eq!(check(file), "warning 1 at 11\nwarning 3 at 51\nwarning 2 at 54\n");
+fn the_checker_in_full() {
+    let file = "UAG(a) {x}\nFOO(1)\nASG(DEFAULT) {RULE(1,WRITE) {UAG(b) BAR()}}\n";
+    assert_eq!(check(file.as_bytes()), "refusal 12 at 51\n");
+    let defined = file.replace("UAG(b)", "UAG(a)");
+    assert_eq!(check(defined.as_bytes()), "warning 1 at 11\nwarning 2 at 54\n");
 }
 
 #[test]
@@ -74,14 +76,11 @@ fn integer_calculation() {
     assert_eq!(check(b"ASG(a){RULE(1,READ){CALC(\"1\")}}"), "");
 }
 
-/// 001's example: three warnings, at `appdev`.
+/// 001's example is refused at its first `appdev`; spelt `appDev` it loads.
 #[test]
 fn linac() {
-    let file = include_bytes!("linac.acf");
-    let warnings = paper::warnings(file).expect("it loads");
-    assert_eq!(warnings.len(), 3);
-    for warning in warnings {
-        assert_eq!(warning.number, 3);
-        assert_eq!(&file[warning.place..warning.place + 6], b"appdev");
-    }
+    let file = include_str!("linac.acf");
+    let place = file.find("appdev").expect("it stands there");
+    assert_eq!(check(file.as_bytes()), format!("refusal 12 at {place}\n"));
+    assert_eq!(check(file.replace("appdev", "appDev").as_bytes()), "");
 }
