@@ -39,8 +39,8 @@
  *
  * Header and library are of one revision of the repository. A library knows no struct of this header; a function hrazvanut_abi_* whose
  * parameters or form of answer change gets another name, so that a header does not link with a library that it cannot talk to. Where the
- * rules change and the form does not, as in 5.0, MAJOR grows and the names stay. */
-#define HRAZVANUT_VERSION_MAJOR 5
+ * rules change and the form does not, as in 5.0 and 6.0, MAJOR grows and the names stay. */
+#define HRAZVANUT_VERSION_MAJOR 6
 #define HRAZVANUT_VERSION_MINOR 0
 #define HRAZVANUT_VERSION (HRAZVANUT_VERSION_MAJOR * 1000 + HRAZVANUT_VERSION_MINOR)
 
@@ -133,7 +133,7 @@ struct hrazvanut_register {
 /* The numbers of 01 and 02. A refused call writes nothing, grants nothing and finds nothing. */
 enum hrazvanut_refusal HRAZVANUT_ENUM_TYPE {
     HRAZVANUT_NOT_REFUSED = 0,
-    /* of a load; 1 to 10 of a list of warnings too */
+    /* of a load; all but 11 of a list of warnings too */
     HRAZVANUT_REFUSED_FILE_TOO_LONG = 1,
     HRAZVANUT_REFUSED_BAD_BYTE = 2,
     HRAZVANUT_REFUSED_TOO_DEEP = 3,
@@ -141,6 +141,7 @@ enum hrazvanut_refusal HRAZVANUT_ENUM_TYPE {
     HRAZVANUT_REFUSED_STRING_TOO_LONG = 5,
     HRAZVANUT_REFUSED_TOO_MANY = 6,
     HRAZVANUT_REFUSED_GIVEN_AGAIN = 7,
+    HRAZVANUT_REFUSED_UNDEFINED_GROUP = 12, /* it came later, and is judged here: behind 7, before 8 */
     HRAZVANUT_REFUSED_RULE_LEVEL = 8,
     HRAZVANUT_REFUSED_UNKNOWN_WORD = 9,
     HRAZVANUT_REFUSED_CALCULATION = 10,
@@ -165,11 +166,10 @@ enum hrazvanut_access HRAZVANUT_ENUM_TYPE {
     HRAZVANUT_WRITE = 2
 };
 
-/* 01's numbers. */
+/* 01's numbers; 02 took 3 out. */
 enum hrazvanut_warning_kind HRAZVANUT_ENUM_TYPE {
     HRAZVANUT_UNKNOWN_ITEM = 1,
-    HRAZVANUT_UNKNOWN_PREDICATE = 2,
-    HRAZVANUT_UNDEFINED_GROUP = 3
+    HRAZVANUT_UNKNOWN_PREDICATE = 2
 };
 
 struct hrazvanut_warning {
@@ -186,7 +186,7 @@ struct hrazvanut_warnings {
 /* Of a load. */
 struct hrazvanut_loaded {
     enum hrazvanut_refusal refusal;
-    size_t place;                 /* of a refusal 1 to 10, in bytes from the start of the text */
+    size_t place;                 /* of a refusal but 11, in bytes from the start of the text */
     size_t needed;                /* of refusal 11: the bytes that the table needs */
     size_t warnings;              /* how many an accepted file has */
     struct hrazvanut_table table; /* where it was written; no bytes if refused */
@@ -466,6 +466,7 @@ static inline const char *hrazvanut_refusal_words(enum hrazvanut_refusal refusal
     case HRAZVANUT_REFUSED_STRING_TOO_LONG: return "string too long";
     case HRAZVANUT_REFUSED_TOO_MANY: return "table limit passed";
     case HRAZVANUT_REFUSED_GIVEN_AGAIN: return "name or letter given again";
+    case HRAZVANUT_REFUSED_UNDEFINED_GROUP: return "undefined group";
     case HRAZVANUT_REFUSED_RULE_LEVEL: return "level neither 0 nor 1";
     case HRAZVANUT_REFUSED_UNKNOWN_WORD: return "permission or log word unknown";
     case HRAZVANUT_REFUSED_CALCULATION: return "calculation not allowed";
@@ -486,7 +487,7 @@ static inline const char *hrazvanut_refusal_words(enum hrazvanut_refusal refusal
 
 /* Reads the text of an access security file and writes its table at the start of the room. Accepted: those bytes are the table that 01
  * lays down, and every byte behind it is as it was. Refused: every byte of the room is as it was, so that a table there still stands. The
- * refusal is the lowest number that applies, at its earliest place. HRAZVANUT_TABLE bytes are enough for every file. */
+ * refusal is the first that applies in the order of the enum, at its earliest place. HRAZVANUT_TABLE bytes are enough for every file. */
 static inline struct hrazvanut_loaded hrazvanut_load(struct hrazvanut_text text, struct hrazvanut_room room)
 {
     uint8_t none = 0;
@@ -495,8 +496,8 @@ static inline struct hrazvanut_loaded hrazvanut_load(struct hrazvanut_text text,
     return hrazvanut_abi_loaded(answer, room);
 }
 
-/* The warnings of a text, by place. Those behind the first `skip` are written, as many as there is room for. A text that a load refuses with
- * 1 to 10 is refused here too, and nothing is written. The text is read anew for each 64 that are written. */
+/* The warnings of a text, by place. Those behind the first `skip` are written, as many as there is room for. A text that a load
+ * refuses with another number than 11 is refused here too, and nothing is written. The text is read anew for each 64 that are written. */
 static inline struct hrazvanut_listed hrazvanut_list_warnings(struct hrazvanut_text text, size_t skip, struct hrazvanut_warnings room)
 {
     uint8_t numbers[64];
@@ -525,8 +526,8 @@ static inline struct hrazvanut_listed hrazvanut_list_warnings(struct hrazvanut_t
 /* ---- a table */
 
 /* Whether the bytes begin with a well-formed table: one that a question can be asked of. That is no proof against damage, for a byte
- * changed in a name leaves it well-formed; and it holds of tables that no load writes, with shared strings or names given twice. Keep
- * a sum of your own beside a table that is stored or sent. */
+ * changed in a name leaves it well-formed; and it holds of tables that no load writes, with shared strings, names given twice or
+ * groups that are not defined, which have no members. Keep a sum of your own beside a table that is stored or sent. */
 static inline bool hrazvanut_is_table(struct hrazvanut_table table)
 {
     return hrazvanut_abi_is_table(hrazvanut_abi_bytes(table.start, table.length), table.length) == 1;

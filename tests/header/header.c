@@ -47,10 +47,10 @@ static bool is_text(struct hrazvanut_text text, const char *s)
 
 static void words(void)
 {
-    static const int known[] = {0, 1, 2, 3, 4, 5, 6, 7, 8, 9, 10, 11, 20, 21, 22, 23, 24, 25, 26, 34};
+    static const int known[] = {0, 1, 2, 3, 4, 5, 6, 7, 8, 9, 10, 11, 12, 20, 21, 22, 23, 24, 25, 26, 34};
     size_t k = 0;
     int n;
-    CHECK(HRAZVANUT_VERSION == 5000 && HRAZVANUT_VERSION / 1000 == HRAZVANUT_VERSION_MAJOR);
+    CHECK(HRAZVANUT_VERSION == 6000 && HRAZVANUT_VERSION / 1000 == HRAZVANUT_VERSION_MAJOR);
     CHECK(HRAZVANUT_ROLES == 16 && HRAZVANUT_ROLE_LENGTH == 60);
     CHECK(hrazvanut_abi_bytes(NULL, 0) != NULL);
     CHECK(hrazvanut_string(NULL).length == 0);
@@ -63,6 +63,7 @@ static void words(void)
         k += here;
     }
     CHECK(strcmp(hrazvanut_refusal_words(HRAZVANUT_REFUSED_NO_ROOM), "lent table too short") == 0);
+    CHECK(strcmp(hrazvanut_refusal_words((enum hrazvanut_refusal)12), "undefined group") == 0);
     CHECK(strcmp(hrazvanut_refusal_words(HRAZVANUT_REFUSED_NO_INPUT), "no such input in the group") == 0);
     CHECK(strcmp(hrazvanut_refusal_words((enum hrazvanut_refusal)23), "client's name over 60 bytes") == 0);
     CHECK(strcmp(hrazvanut_refusal_words((enum hrazvanut_refusal)24), "all 64 places taken") == 0);
@@ -115,9 +116,18 @@ static void too_many(void)
     refused(text, HRAZVANUT_REFUSED_TOO_MANY, 64 * 8 + 4);
 }
 
+/* Refused for a group that no definition has: behind 7, before 8, 9 and 10. */
+static void undefined(void)
+{
+    refused("UAG(a) {x}\nFOO(1)\nASG(DEFAULT) {RULE(1,WRITE) {UAG(b) BAR()}}\n", HRAZVANUT_REFUSED_UNDEFINED_GROUP, 51);
+    refused("UAG(a) ASG(a) {RULE(1,READ) {UAG(a) HAG(a)}}", HRAZVANUT_REFUSED_UNDEFINED_GROUP, 40);
+    refused("ASG(a) {RULE(2,read) {CALC(\"A\") UAG(b)}}", HRAZVANUT_REFUSED_UNDEFINED_GROUP, 36);
+    refused("ASG(a) {RULE(1,READ) {UAG(b)}} ASG(a)", HRAZVANUT_REFUSED_GIVEN_AGAIN, 35);
+}
+
 static void loads(void)
 {
-    static const char text[] = "UAG(a) {x}\nFOO(1)\nASG(DEFAULT) {RULE(1,WRITE) {UAG(b) BAR()}}\n";
+    static const char text[] = "UAG(a) {x}\nFOO(1)\nASG(DEFAULT) {RULE(1,WRITE) {UAG(a) BAR()}}\n";
     struct hrazvanut_text none = ZERO;
     struct hrazvanut_room nowhere = ZERO;
     struct hrazvanut_loaded loaded;
@@ -127,11 +137,11 @@ static void loads(void)
     loaded = load(text);
     length = loaded.table.length;
     CHECK(loaded.refusal == HRAZVANUT_NOT_REFUSED);
-    CHECK(loaded.place == 0 && loaded.needed == 0 && loaded.warnings == 3);
+    CHECK(loaded.place == 0 && loaded.needed == 0 && loaded.warnings == 2);
     CHECK(loaded.table.start == lent && length > 36 && length < sizeof lent);
     CHECK(lent[0] == 1 && lent[1] == 0 && lent[2] == length && lent[3] == 0);
     CHECK(lent[length] == 0xa5 && memcmp(lent + length, lent + length + 1, sizeof lent - length - 1) == 0);
-    CHECK(hrazvanut_abi_load((const uint8_t *)text, sizeof text - 1, lent, sizeof lent) == (length | UINT64_C(3) << 32));
+    CHECK(hrazvanut_abi_load((const uint8_t *)text, sizeof text - 1, lent, sizeof lent) == (length | UINT64_C(2) << 32));
     CHECK(hrazvanut_abi_load((const uint8_t *)text, sizeof text - 1, lent, length - 1) == (length | UINT64_C(11) << 48));
 
     loaded = hrazvanut_load(hrazvanut_string(text), room_of(length));
@@ -150,6 +160,7 @@ static void loads(void)
     refused("UAG(a123456789012345678901234567890123456789012345678901234567890)", HRAZVANUT_REFUSED_STRING_TOO_LONG, 4);
     too_many();
     refused("UAG(a) UAG(a)", HRAZVANUT_REFUSED_GIVEN_AGAIN, 11);
+    undefined();
     refused("ASG(a) {RULE(2,READ)}", HRAZVANUT_REFUSED_RULE_LEVEL, 13);
     refused("ASG(a) {RULE(1,read)}", HRAZVANUT_REFUSED_UNKNOWN_WORD, 15);
     refused("ASG(a) {RULE(1,READ) {CALC(\"A\")}}", HRAZVANUT_REFUSED_CALCULATION, 27);
@@ -191,7 +202,7 @@ static void warnings_of(size_t many)
 
 static void warnings(void)
 {
-    static const char text[] = "UAG(a) {x}\nFOO(1)\nASG(DEFAULT) {RULE(1,WRITE) {UAG(b) BAR()}}\n";
+    static const char text[] = "UAG(a) {x}\nFOO(1)\nASG(DEFAULT) {RULE(1,WRITE) {UAG(a) BAR()}}\nBAZ()\n";
     static const size_t counts[] = {0, 1, 63, 64, 65, 127, 128, 129, 200};
     struct hrazvanut_warning three[3];
     uint8_t numbers[3];
@@ -199,10 +210,10 @@ static void warnings(void)
     size_t i;
     CHECK(list(text, 0, three, 3).written == 3);
     CHECK(three[0].kind == HRAZVANUT_UNKNOWN_ITEM && three[0].place == 11);
-    CHECK(three[1].kind == HRAZVANUT_UNDEFINED_GROUP && three[1].place == 51);
-    CHECK(three[2].kind == HRAZVANUT_UNKNOWN_PREDICATE && three[2].place == 54);
+    CHECK(three[1].kind == HRAZVANUT_UNKNOWN_PREDICATE && three[1].place == 54);
+    CHECK(three[2].kind == HRAZVANUT_UNKNOWN_ITEM && three[2].place == 62);
     CHECK(hrazvanut_abi_list_warnings((const uint8_t *)text, sizeof text - 1, 1, numbers, 3, places, 1) == 3);
-    CHECK(numbers[0] == 3 && numbers[1] == 2 && places[0] == 51);
+    CHECK(numbers[0] == 2 && numbers[1] == 1 && places[0] == 54);
     for (i = 0; i < sizeof counts / sizeof *counts; i++)
         warnings_of(counts[i]);
 }
@@ -290,6 +301,23 @@ static void names_and_levels(struct hrazvanut_table table)
     q = of_ann();
     q.user.length--;
     CHECK(answers(ask(table, &q), HRAZVANUT_READ, false));
+}
+
+/* A table that no load writes: the references, of 6 bytes each, have the number of no group. */
+static void undefined_groups(void)
+{
+    struct hrazvanut_question q = of_ann();
+    struct hrazvanut_table table = load(site).table;
+    uint8_t *user = lent + (lent[30] | lent[31] << 8), *host = user + 6;
+    CHECK(answers(ask(table, &q), HRAZVANUT_WRITE, true));
+    host[0] = host[1] = 0xff;
+    CHECK(hrazvanut_is_table(table) && answers(ask(table, &q), HRAZVANUT_READ, false));
+    host[0] = host[1] = 0;
+    CHECK(hrazvanut_is_table(table) && answers(ask(table, &q), HRAZVANUT_WRITE, true));
+    user[0] = user[1] = 0xff;
+    CHECK(hrazvanut_is_table(table) && answers(ask(table, &q), HRAZVANUT_READ, false));
+    user[0] = 1, user[1] = 0;
+    CHECK(!hrazvanut_is_table(table));
 }
 
 static void readings(struct hrazvanut_table table)
@@ -529,6 +557,7 @@ static void questions(void)
     names_and_levels(table);
     readings(table);
     numbers(table);
+    undefined_groups();
     letters();
     roles();
     pools();

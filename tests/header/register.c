@@ -346,7 +346,7 @@ static void last_reading(void)
 /* A reload answers as a load does. */
 static void reloads(void)
 {
-    static const char text[] = "UAG(a) {x}\nFOO(1)\nASG(DEFAULT) {INPA(x) RULE(1,READ) {CALC(\"A\")} RULE(1,WRITE) {UAG(b) BAR()}}\n";
+    static const char text[] = "UAG(a) {x}\nFOO(1)\nASG(DEFAULT) {INPA(x) RULE(1,READ) {CALC(\"A\")} RULE(1,WRITE) {UAG(a) BAR()}}\n";
     static uint8_t stored[sizeof lent];
     struct hrazvanut_client c = client_of("", "ann", "pc1", 1);
     struct hrazvanut_reloaded r;
@@ -357,6 +357,8 @@ static void reloads(void)
     r = reload_into("ASG(a) {RULE(2,READ)}", lent, sizeof lent);
     CHECK(r.loaded.refusal == HRAZVANUT_REFUSED_RULE_LEVEL && r.loaded.place == 13 && r.changed == 0);
     CHECK(r.loaded.needed == 0 && r.loaded.warnings == 0 && r.loaded.table.start == NULL && r.loaded.table.length == 0);
+    r = reload_into("ASG(a) {RULE(1,READ) {UAG(b)}}", lent, sizeof lent);
+    CHECK(r.loaded.refusal == HRAZVANUT_REFUSED_UNDEFINED_GROUP && r.loaded.place == 26 && r.loaded.needed == 0 && r.changed == 0);
     r = reload_into(text, lent, 36);
     length = r.loaded.needed;
     CHECK(r.loaded.refusal == HRAZVANUT_REFUSED_NO_ROOM && length > 36 && r.loaded.place == 0 && r.changed == 0);
@@ -365,7 +367,7 @@ static void reloads(void)
     CHECK(memcmp(stored, lent, sizeof lent) == 0 && has(0, HRAZVANUT_WRITE, true));
     r = reload_into(text, lent, length);
     CHECK(r.loaded.refusal == HRAZVANUT_NOT_REFUSED && r.loaded.table.start == lent && r.loaded.table.length == length);
-    CHECK(r.loaded.place == 0 && r.loaded.needed == 0 && r.loaded.warnings == 3 && r.changed == 1);
+    CHECK(r.loaded.place == 0 && r.loaded.needed == 0 && r.loaded.warnings == 2 && r.changed == 1);
     CHECK(memcmp(stored + length, lent + length, sizeof lent - length) == 0 && has(0, HRAZVANUT_NONE, false));
     table = r.loaded.table;
     CHECK(set("", 0, HRAZVANUT_VALUE, 1).changed == 1 && has(0, HRAZVANUT_READ, false));

@@ -51,7 +51,6 @@ static const char *warning_words(enum hrazvanut_warning_kind kind)
     switch (kind) {
     case HRAZVANUT_UNKNOWN_ITEM: return "unknown item, left out";
     case HRAZVANUT_UNKNOWN_PREDICATE: return "unknown predicate, its rule never passes";
-    case HRAZVANUT_UNDEFINED_GROUP: return "undefined group, it has no members";
     }
     return "unknown warning";
 }
