@@ -3,6 +3,7 @@
 use paper::programs;
 use processes::compare::{Bench, Go, Rules};
 use processes::process::How;
+use std::ffi::OsStr;
 use std::path::{Path, PathBuf};
 
 fn bytes(path: &Path) -> Vec<u8> {
@@ -16,17 +17,23 @@ fn entries(folder: &Path) -> Vec<PathBuf> {
     paths
 }
 
-/// An amended one, named `ask/NAME`, is held to `paper`.
+/// An amended one, named `check/NAME` or `ask/NAME`, is held to `paper`.
 pub fn run(bench: &mut Bench, folder: &Path, amended: &[&str]) -> Go {
+    let is_amended = |kind: &str, name: Option<&OsStr>| {
+        amended.contains(&&*format!("{kind}/{}", name.unwrap_or_default().to_string_lossy()))
+    };
     for path in entries(&folder.join("check")) {
         if path.extension().is_some_and(|e| e == "acf") {
-            bench.check(&bytes(&path), &How::Pipe, &bytes(&path.with_extension("out")))?;
+            let (file, mut output) = (bytes(&path), bytes(&path.with_extension("out")));
+            if is_amended("check", path.file_stem()) {
+                output = programs::check(&file).into_bytes();
+            }
+            bench.check(&file, &How::Pipe, &output)?;
         }
     }
     for path in entries(&folder.join("ask")) {
         let (input, mut output) = (bytes(&path.join("stdin")), bytes(&path.join("stdout")));
-        let name = format!("ask/{}", path.file_name().unwrap_or_default().to_string_lossy());
-        if amended.contains(&&name[..]) {
+        if is_amended("ask", path.file_name()) {
             let rules = std::fs::read(path.join("rules.acf")).unwrap_or_default();
             output = programs::ask(&rules, &input).into_bytes();
         }

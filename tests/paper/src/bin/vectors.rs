@@ -1,7 +1,8 @@
 //! Holds `paper` to a folder of test vectors: `vectors FOLDER [AMENDED ...]`.
 //! Prints a line for each difference and one with the counts; exit code 1 on a
-//! difference. AMENDED are the vectors, as `ask/NAME` or `calc/LINE`, whose answers
-//! a request has changed: one of these that agrees, or is not there, is a difference.
+//! difference. AMENDED are the vectors, as `check/NAME`, `ask/NAME` or `calc/LINE`,
+//! whose answers a request has changed: one of these that agrees, or is not there,
+//! is a difference.
 
 use paper::calculation::{holds, parse, value};
 use paper::{programs, script, Reading, Readings, TABLE_BYTES};
@@ -17,12 +18,16 @@ struct Score {
 }
 
 impl Score {
+    fn is_amended(&self, name: &str) -> bool {
+        self.awaited.iter().any(|awaited| awaited == name)
+    }
+
     /// A vector that a request may have amended.
     fn compare_named(&mut self, name: &str, what: &str, agrees: bool) {
-        let Some(place) = self.awaited.iter().position(|awaited| awaited == name) else {
+        if !self.is_amended(name) {
             return self.compare(what, agrees);
-        };
-        self.awaited.remove(place);
+        }
+        self.awaited.retain(|awaited| awaited != name);
         if agrees {
             self.compare(&format!("{name} agrees, though amended"), false);
         } else {
@@ -55,8 +60,7 @@ fn entries(folder: &Path) -> Vec<PathBuf> {
     paths
 }
 
-/// The checker's output, the table, the length and the number of warnings;
-/// the bytes behind the table stay; a buffer one byte short is refused.
+/// The checker's output, and what the load writes if no request has amended it.
 fn check(folder: &Path, score: &mut Score) {
     for path in entries(&folder.join("check")) {
         if path.extension().is_none_or(|e| e != "acf") {
@@ -64,25 +68,36 @@ fn check(folder: &Path, score: &mut Score) {
         }
         let file = bytes(&path);
         let output = text(&path.with_extension("out"));
-        score.compare(&format!("output of {}", path.display()), programs::check(&file) == output);
-        let stored = path.with_extension("table");
-        let mut lent = vec![0xa5; TABLE_BYTES];
-        match paper::load(&file, &mut lent) {
-            Ok(loaded) => {
-                let table = bytes(&stored);
-                let same = loaded.length == table.len()
-                    && loaded.warnings == output.lines().count()
-                    && lent[..loaded.length] == table[..]
-                    && lent[loaded.length..].iter().all(|b| *b == 0xa5);
-                score.compare(&format!("table of {}", path.display()), same);
-                let short = paper::load(&file, &mut lent[..table.len() - 1]);
-                let refusal = paper::Refusal { number: 11, place: table.len() };
-                score.compare(&format!("refusal 11 of {}", path.display()), short == Err(refusal));
-            }
-            Err(_) => {
-                let untouched = lent.iter().all(|b| *b == 0xa5);
-                score.compare(&format!("no table of {}", path.display()), untouched && !stored.exists());
-            }
+        let name = format!("check/{}", path.file_stem().unwrap_or_default().to_string_lossy());
+        let amended = score.is_amended(&name);
+        let agrees = programs::check(&file) == output;
+        score.compare_named(&name, &format!("output of {}", path.display()), agrees);
+        if !amended {
+            load(&path, &file, &output, score);
+        }
+    }
+}
+
+/// The table, the length and the number of warnings; the bytes behind the table
+/// stay; a buffer one byte short is refused.
+fn load(path: &Path, file: &[u8], output: &str, score: &mut Score) {
+    let stored = path.with_extension("table");
+    let mut lent = vec![0xa5; TABLE_BYTES];
+    match paper::load(file, &mut lent) {
+        Ok(loaded) => {
+            let table = bytes(&stored);
+            let same = loaded.length == table.len()
+                && loaded.warnings == output.lines().count()
+                && lent[..loaded.length] == table[..]
+                && lent[loaded.length..].iter().all(|b| *b == 0xa5);
+            score.compare(&format!("table of {}", path.display()), same);
+            let short = paper::load(file, &mut lent[..table.len() - 1]);
+            let refusal = paper::Refusal { number: 11, place: table.len() };
+            score.compare(&format!("refusal 11 of {}", path.display()), short == Err(refusal));
+        }
+        Err(_) => {
+            let untouched = lent.iter().all(|b| *b == 0xa5);
+            score.compare(&format!("no table of {}", path.display()), untouched && !stored.exists());
         }
     }
 }
