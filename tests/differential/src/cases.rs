@@ -28,6 +28,9 @@ fn of_register(random: &mut Random, comparison: &mut Comparison) -> Go {
         6 => table::free(random),
         _ => Vec::new(),
     };
+    if random.percent(15) {
+        table::undefine(random, &mut room);
+    }
     if random.percent(10) {
         table::damage(random, &mut room);
     }
@@ -67,10 +70,13 @@ fn of_file(random: &mut Random, comparison: &mut Comparison) -> Go {
         let lengths = (random.below(count + 4), random.below(count + 4));
         comparison.list(random, &text, skip, lengths)?;
     }
-    match table {
-        Some(table) => of_slice(random, comparison, &table, 2),
-        None => Ok(()),
+    let Some(mut table) = table else { return Ok(()) };
+    of_slice(random, comparison, &table, 2)?;
+    if random.percent(20) {
+        table::undefine(random, &mut table);
+        of_slice(random, comparison, &table, 2)?;
     }
+    Ok(())
 }
 
 /// About the length that is needed, or any.
@@ -100,6 +106,9 @@ fn of_table(random: &mut Random, comparison: &mut Comparison) -> Go {
             random.bytes(length)
         }
     };
+    if random.percent(30) {
+        table::undefine(random, &mut slice);
+    }
     if random.percent(60) {
         table::damage(random, &mut slice);
     }

@@ -4,6 +4,7 @@
 use inputs::question::Owned;
 use inputs::random::Random;
 use library::{Asked, Decision, Found, List, Load, Pool};
+use paper::table::View;
 use paper::Access;
 use std::collections::BTreeMap;
 use std::fmt::Debug;
@@ -107,7 +108,8 @@ impl Comparison {
 
     pub fn is_table(&mut self, slice: &[u8]) -> Go {
         let paper = paper::is_table(slice);
-        self.count(format!("table {paper}"));
+        let undefined = paper && View::open(slice).is_some_and(|view| view.has_undefined());
+        self.count(format!("table {paper}{}", if undefined { " with undefined groups" } else { "" }));
         self.same(paper, library::is_table(slice), || format!("is_table\n{}", hex(slice)))
     }
 

@@ -38,6 +38,14 @@ pub fn warned_file() -> Vec<u8> {
     b"F()".repeat(5_461)
 }
 
+/// Two files of which the first defines what its rule names and the second not.
+pub fn spelt_files() -> [Vec<u8>; 2] {
+    ["lift", "Lift"].map(|name| {
+        let rules = format!("UAG(lift){{ann}}ASG(DEFAULT){{RULE(1,READ)RULE(1,WRITE){{UAG({name})FOO()}}}}");
+        rules.into_bytes()
+    })
+}
+
 /// Each byte in each place.
 fn each_byte() -> Vec<Vec<u8>> {
     let with = |byte: u8| {

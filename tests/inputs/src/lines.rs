@@ -262,7 +262,8 @@ pub fn rules(random: &mut Random) -> Option<Vec<u8>> {
         0 => None,
         1 => Some(Vec::new()),
         2 => Some(huge_file(random)),
-        3..=5 => Some(file::any(random)),
+        3..=4 => Some(file::any(random)),
+        5 => Some(file::misspelt::any(random)),
         6..=20 => Some(by_values(random)),
         _ => Some(file::right(random)),
     }

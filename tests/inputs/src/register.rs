@@ -91,6 +91,9 @@ fn site(random: &mut Random) -> Vec<u8> {
     groups.extend((0..empty).map(|number| format!("ASG(e{number})")));
     random.shuffle(&mut groups);
     groups.push("UAG(u){ann,bob}UAG(v){bob,\"role/op\"}HAG(h){pc1,pc2}HAG(g){pc2}".to_string());
+    if random.percent(90) {
+        groups.push("UAG(none)".to_string());
+    }
     groups.concat().into_bytes()
 }
 

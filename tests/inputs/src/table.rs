@@ -2,8 +2,21 @@
 
 use super::calculation;
 use crate::random::Random;
-use paper::table::{HEADER_BYTES, WIDTHS};
+use paper::table::{View, HEADER_BYTES, REFERENCES, UNDEFINED, WIDTHS};
 use paper::MOST;
+
+/// Of some references, or of all, the group is not defined: no file has that.
+pub fn undefine(random: &mut Random, table: &mut [u8]) {
+    let Some(count) = View::open(table).map(|view| view.count(REFERENCES)) else { return };
+    let section = usize::from(u16::from_le_bytes([table[30], table[31]]));
+    let chance = *random.pick(&[30, 60, 100]);
+    for reference in 0..count {
+        if random.percent(chance) {
+            let at = section + 2 * WIDTHS[REFERENCES] * reference;
+            table[at..at + 2].copy_from_slice(&UNDEFINED.to_le_bytes());
+        }
+    }
+}
 
 /// Change a table a little: a word, a byte, its length, what stands behind.
 pub fn damage(random: &mut Random, table: &mut Vec<u8>) {

@@ -255,6 +255,11 @@ impl<'a> View<'a> {
         (self.get(REFERENCES, n, 0), self.pair(REFERENCES, n, 1))
     }
 
+    /// Whether some reference is to a group that is not defined.
+    pub fn has_undefined(&self) -> bool {
+        (0..self.count(REFERENCES)).any(|n| self.reference(n).0 == UNDEFINED.into())
+    }
+
     /// Where a string stands in the slice.
     pub fn place(&self, text: Text) -> usize {
         self.offsets[STRINGS] + text.0

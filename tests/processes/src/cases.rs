@@ -21,8 +21,18 @@ pub fn run(case: u64, random: &mut Random, bench: &mut Bench) -> Go {
         2 => asked(Some(&every::long_file()), QUESTION, bench),
         3 => checked(&every::long_file(), &How::Pipe, bench),
         4 => checked(&every::warned_file(), &How::Pipe, bench),
+        5 => spelt(bench),
         _ => made(random, bench),
     }
+}
+
+/// Both programs on a group that is defined, and on one that is not.
+fn spelt(bench: &mut Bench) -> Go {
+    for file in every::spelt_files() {
+        checked(&file, &How::Pipe, bench)?;
+        asked(Some(&file), QUESTION, bench)?;
+    }
+    Ok(())
 }
 
 fn asked(rules: Option<&[u8]>, input: &[u8], bench: &mut Bench) -> Go {

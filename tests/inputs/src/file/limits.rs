@@ -1,8 +1,8 @@
 //! Files at the limits: counts, open braces, bytes.
 
 use super::near::damage_tokens;
-use super::words::{must_part, one_of, word, words, Token};
-use super::{right, tokens, Wrong};
+use super::words::{must_part, word, words, Token};
+use super::{misspelt, right, tokens, Wrong};
 use crate::damage_bytes;
 use crate::random::Random;
 use paper::{FILE_BYTES, LETTERS};
@@ -43,7 +43,8 @@ pub fn near_limits(random: &mut Random) -> Vec<u8> {
         }
         text.extend(token);
     }
-    text
+    let changed = if random.percent(20) { misspelt::of(random, &text) } else { None };
+    changed.unwrap_or(text)
 }
 
 struct Counts {
@@ -68,15 +69,26 @@ fn spread(random: &mut Random, count: usize, parts: usize) -> Vec<usize> {
     shares
 }
 
-fn short_names(count: usize) -> Vec<Token> {
+/// So that a thousand of them have room: a letter each, of `choices` of them.
+fn short_names(count: usize, choices: usize) -> Vec<Token> {
     let mut file = Vec::new();
     for i in 0..count {
         if i > 0 {
             file.push(word(","));
         }
-        file.push(vec![b'a' + (i % 26) as u8]);
+        file.push(vec![b'a' + (i % choices) as u8]);
     }
     file
+}
+
+/// The first groups of a kind have names of a letter, which rules name.
+fn group_name(number: usize) -> Token {
+    let letter = b'a' + number.min(25) as u8;
+    if number < 26 {
+        vec![letter]
+    } else {
+        word(&format!("u{number}"))
+    }
 }
 
 impl Counts {
@@ -86,11 +98,11 @@ impl Counts {
         let shares = spread(random, self.members, self.users + self.hosts);
         let mut items = Vec::new();
         for (i, share) in shares.into_iter().enumerate() {
-            let keyword = if i < self.users { "UAG" } else { "HAG" };
-            let mut item = vec![word(keyword), word("("), word(&format!("u{i}")), word(")")];
+            let (keyword, number) = if i < self.users { ("UAG", i) } else { ("HAG", i - self.users) };
+            let mut item = vec![word(keyword), word("("), group_name(number), word(")")];
             if share > 0 {
                 item.push(word("{"));
-                item.extend(short_names(share));
+                item.extend(short_names(share, 26));
                 item.push(word("}"));
             }
             items.push(item);
@@ -115,8 +127,10 @@ impl Counts {
         for references in rules {
             let mut rule = words(&["RULE", "(", "1", ",", "READ", ")"]);
             if *references > 0 {
-                rule.extend([word("{"), one_of(random, &["UAG", "HAG"]), word("(")]);
-                rule.extend(short_names(*references));
+                let users = self.hosts == 0 || self.users > 0 && random.percent(50);
+                let (keyword, defined) = if users { ("UAG", self.users) } else { ("HAG", self.hosts) };
+                rule.extend(words(&["{", keyword, "("]));
+                rule.extend(short_names(*references, defined.clamp(1, 26)));
                 rule.extend(words(&[")", "}"]));
             }
             body.push(rule);
@@ -175,8 +189,8 @@ pub fn of_length(random: &mut Random) -> Vec<u8> {
             text.extend(items.iter().cycle().take(missing));
         }
         _ => {
-            text.extend(b"ASG(zz){RULE(1,READ){");
-            text.extend(b"UAG(q)".iter().cycle().take(missing.saturating_sub(23) / 6 * 6));
+            text.extend(b"UAG(q)ASG(zz){RULE(1,READ){");
+            text.extend(b"UAG(q)".iter().cycle().take(missing.saturating_sub(29) / 6 * 6));
             text.extend(b"}}");
         }
     }

@@ -1,6 +1,7 @@
 //! Files. They are made as tokens, which may then be damaged, and joined.
 
 mod limits;
+pub mod misspelt;
 mod near;
 mod unknown;
 mod words;
@@ -10,19 +11,21 @@ use crate::random::Random;
 use paper::LETTERS;
 use unknown::{unknown_item, unknown_predicate};
 use words::{
-    joined, name, one_of, quoted, sized_name, text_of, word, words, Token, GROUP_NAMES, MEMBER_NAMES,
-    QUOTED_NAMES,
+    joined, name, one_of, quoted, respelled, sized_name, text_of, word, words, Token, GROUP_NAMES,
+    MEMBER_NAMES, QUOTED_NAMES,
 };
 
 const ALPHABET: &[u8] = b"(){},\"\\#\n\r\t aAZz019_-+:.[]<>;/*\x00\x7f\x80\xff=";
 
-/// How a file is made: how many of each, of which names, and how often
-/// something is wrong.
+/// How a file is made: how many of each, of which names, which groups it
+/// defines, and how often something is wrong.
 struct Shape {
     items: usize,
     rules: usize,
     groups: Vec<&'static str>,
     members: Vec<&'static str>,
+    users: Vec<Token>,
+    hosts: Vec<Token>,
     wrong: Wrong,
 }
 
@@ -32,6 +35,7 @@ struct Wrong {
     grammar: usize,
     length: usize,
     again: usize,
+    undefined: usize,
     level: usize,
     word: usize,
     calculation: usize,
@@ -40,8 +44,8 @@ struct Wrong {
 impl Wrong {
     fn any(random: &mut Random) -> Wrong {
         let mut chance = || if random.percent(35) { *random.pick(&[2, 5, 10, 40]) } else { 0 };
-        let [length, again, level, word, calculation] = [(); 5].map(|_| chance());
-        Wrong { grammar: usize::from(random.percent(10)), length, again, level, word, calculation }
+        let [length, again, undefined, level, word, calculation] = [(); 6].map(|_| chance());
+        Wrong { grammar: usize::from(random.percent(10)), length, again, undefined, level, word, calculation }
     }
 }
 
@@ -54,6 +58,8 @@ impl Shape {
             rules: random.between(1, 5),
             groups: some(random, &GROUP_NAMES, groups),
             members: some(random, &MEMBER_NAMES, members),
+            users: Vec::new(),
+            hosts: Vec::new(),
             wrong,
         }
     }
@@ -73,7 +79,8 @@ fn some(random: &mut Random, names: &[&'static str], count: usize) -> Vec<&'stat
 /// A file of any kind.
 pub fn any(random: &mut Random) -> Vec<u8> {
     match random.below(100) {
-        0..=34 => right(random),
+        0..=22 => right(random),
+        23..=34 => misspelt::any(random),
         35..=54 => {
             let wrong = Wrong::any(random);
             let file = tokens(random, wrong);
@@ -113,16 +120,20 @@ pub fn right(random: &mut Random) -> Vec<u8> {
     joined(random, &file)
 }
 
-/// A name that may be a wrong one: too long, or no STRING.
-fn name_or_wrong(random: &mut Random, names: &[&str], wrong: &Wrong) -> Token {
+/// Now and then a wrong name: too long, or no STRING.
+fn wrong_name(random: &mut Random, wrong: &Wrong) -> Option<Token> {
     if random.percent(wrong.grammar) {
-        one_of(random, &["1", "1.5", "UAG", "INPA", "-3", "+.5e-7"])
+        Some(one_of(random, &["1", "1.5", "UAG", "INPA", "-3", "+.5e-7"]))
     } else if random.percent(wrong.length) {
         let length = random.between(59, 63);
-        sized_name(random, length)
+        Some(sized_name(random, length))
     } else {
-        name(random, names)
+        None
     }
+}
+
+fn name_or_wrong(random: &mut Random, names: &[&str], wrong: &Wrong) -> Token {
+    wrong_name(random, wrong).unwrap_or_else(|| name(random, names))
 }
 
 /// Names used once each; a wrong choice uses one again.
@@ -165,30 +176,41 @@ impl Once {
     }
 }
 
+/// The definitions are made first, for the rules to name them; they stand before
+/// and behind.
 fn tokens(random: &mut Random, wrong: Wrong) -> Vec<Token> {
-    let shape = Shape::new(random, wrong);
+    let mut shape = Shape::new(random, wrong);
     let mut once = [(); 3].map(|_| Once::new(random, &shape.groups));
     if random.percent(60) {
         once[2].next("DEFAULT");
     }
-    let mut file = Vec::new();
-    for _ in 0..shape.items {
-        match random.below(10) {
-            0..=2 => group(random, "UAG", &mut once[0], &shape, &mut file),
-            3..=4 => group(random, "HAG", &mut once[1], &shape, &mut file),
-            5..=8 => access_group(random, &mut once[2], &shape, &mut file),
-            _ => unknown_item(random, &mut file),
+    let mut items: Vec<(usize, Vec<Token>)> =
+        (0..shape.items).map(|_| (random.below(10), Vec::new())).collect();
+    for (kind, item) in &mut items {
+        match kind {
+            0..=2 => group(random, "UAG", &mut once[0], &shape, item),
+            3..=4 => group(random, "HAG", &mut once[1], &shape, item),
+            _ => {}
         }
     }
-    file
+    shape.users.clone_from(&once[0].used);
+    shape.hosts.clone_from(&once[1].used);
+    for (kind, item) in &mut items {
+        match kind {
+            0..=4 => {}
+            5..=8 => access_group(random, &mut once[2], &shape, item),
+            _ => unknown_item(random, item),
+        }
+    }
+    items.into_iter().flat_map(|(_, item)| item).collect()
 }
 
-fn list(random: &mut Random, names: &[&str], wrong: &Wrong, most: usize, file: &mut Vec<Token>) {
+fn list(random: &mut Random, most: usize, file: &mut Vec<Token>, mut name: impl FnMut(&mut Random) -> Token) {
     for i in 0..random.between(1, most) {
         if i > 0 {
             file.push(word(","));
         }
-        file.push(name_or_wrong(random, names, wrong));
+        file.push(name(random));
     }
 }
 
@@ -196,7 +218,7 @@ fn group(random: &mut Random, keyword: &str, once: &mut Once, shape: &Shape, fil
     file.extend([word(keyword), word("("), once.name(random, &shape.wrong), word(")")]);
     if random.percent(85) {
         file.push(word("{"));
-        list(random, &shape.members, &shape.wrong, 5, file);
+        list(random, 5, file, |random| name_or_wrong(random, &shape.members, &shape.wrong));
         file.push(word("}"));
     }
 }
@@ -268,16 +290,8 @@ fn predicates(random: &mut Random, letters: &[u8], shape: &Shape) -> Vec<Token> 
     for _ in 0..random.between(1, 4) {
         let mut part = Vec::new();
         match random.below(10) {
-            0..=3 => {
-                part.extend(words(&["UAG", "("]));
-                list(random, &shape.groups, &shape.wrong, 3, &mut part);
-                part.push(word(")"));
-            }
-            4..=6 => {
-                part.extend(words(&["HAG", "("]));
-                list(random, &shape.groups, &shape.wrong, 3, &mut part);
-                part.push(word(")"));
-            }
+            0..=3 => references(random, "UAG", &shape.users, shape, &mut part),
+            4..=6 => references(random, "HAG", &shape.hosts, shape, &mut part),
             7 if random.percent(40) => unknown_predicate(random, &mut part),
             _ => {}
         }
@@ -291,6 +305,24 @@ fn predicates(random: &mut Random, letters: &[u8], shape: &Shape) -> Vec<Token> 
     }
     random.shuffle(&mut parts);
     parts.concat()
+}
+
+/// Names of groups that the file defines; a wrong choice takes any.
+fn references(random: &mut Random, keyword: &str, defined: &[Token], shape: &Shape, file: &mut Vec<Token>) {
+    let wrong = &shape.wrong;
+    if defined.is_empty() && !random.percent(wrong.undefined) {
+        return;
+    }
+    file.extend(words(&[keyword, "("]));
+    list(random, 3, file, |random| match wrong_name(random, wrong) {
+        Some(name) => name,
+        None if defined.is_empty() || random.percent(wrong.undefined) => name(random, &shape.groups),
+        None => {
+            let name = random.pick(defined).clone();
+            respelled(random, name)
+        }
+    });
+    file.push(word(")"));
 }
 
 fn calc(random: &mut Random, letters: &[u8], wrong: &Wrong) -> Vec<Token> {

@@ -56,8 +56,8 @@ const TOKEN_TEMPLATES: [&str; 29] = [
     "ASG(a){RULE(1,READ@)}",
     "ASG(a){RULE(1,READ,@)@}",
     "ASG(a){RULE(1,READ){@}}",
-    "ASG(a){RULE(1,READ){@(x)}}",
-    "ASG(a){RULE(1,READ){CALC(@)UAG(x@)}}",
+    "UAG(x)HAG(x)ASG(a){RULE(1,READ){@(x)}}",
+    "UAG(x)ASG(a){RULE(1,READ){CALC(@)UAG(x@)}}",
     "ASG(a){RULE(1,READ){f(@){a@}@}}",
     "ASG(a){RULE(1,READ){f(){a}{b,c@}}}",
     "f(@a@)@",
@@ -97,7 +97,7 @@ pub fn one_word(random: &mut Random) -> Vec<u8> {
         ("", "(a)"),
         ("ASG(a){", "(a)}"),
         ("ASG(a){RULE(", ",READ)}"),
-        ("ASG(a){RULE(1,READ){", "(a)}}"),
+        ("UAG(a)HAG(a)ASG(a){RULE(1,READ){", "(a)}}"),
         ("ASG(a){RULE(1,READ){f(){", "}}}"),
     ]);
     [before.as_bytes(), &word, behind.as_bytes()].concat()

@@ -78,6 +78,23 @@ pub fn quoted(name: &str) -> Token {
     word(&if name.starts_with('"') { name.to_string() } else { format!("\"{name}\"") })
 }
 
+/// The same name, now and then with the quotes put on or taken off.
+pub fn respelled(random: &mut Random, name: Token) -> Token {
+    if random.percent(75) {
+        return name;
+    }
+    match name.strip_prefix(b"\"").and_then(|rest| rest.strip_suffix(b"\"")) {
+        None => [b"\"", &name[..], b"\""].concat(),
+        Some(inner) if is_plain(inner) => inner.to_vec(),
+        Some(_) => name,
+    }
+}
+
+/// A word that is neither a keyword nor a number.
+fn is_plain(name: &[u8]) -> bool {
+    name.first().is_some_and(u8::is_ascii_lowercase) && name.iter().all(u8::is_ascii_alphanumeric)
+}
+
 /// A STRING of this many bytes without its quotes.
 pub fn sized_name(random: &mut Random, length: usize) -> Token {
     let letter = *random.pick(b"xyZ");
