@@ -5,10 +5,12 @@
 
 pub mod arithmetic;
 mod exports;
+pub mod groups;
 mod register;
 mod roles;
 
 use arithmetic::judged;
+use paper::table::View;
 use paper::{Access, Answer, Question, Reading, Refusal, LETTERS};
 use roles::Given;
 use std::sync::OnceLock;
@@ -16,7 +18,9 @@ use std::sync::OnceLock;
 /// Whether this fault is the chosen one. 1 to 22 are of the library, 23 to 38
 /// of the asker, 39 to 44 of the checker, 45 to 83 of the library's register,
 /// 84 to 104 of the library's roles, 105 of the asker's, 106 to 122 of the
-/// library's calculation, 123 of its register's, 124 of the asker's.
+/// library's calculation, 123 of its register's, 124 of the asker's, 125 to 150
+/// of the library's groups (146 of its register's), 151 of the checker's, 152 of
+/// the asker's.
 pub fn fault(number: u32) -> bool {
     static CHOSEN: OnceLock<u32> = OnceLock::new();
     let chosen = CHOSEN.get_or_init(|| {
@@ -38,8 +42,7 @@ pub unsafe extern "C" fn hrazvanut_abi_load(
     table_len: usize,
 ) -> u64 {
     let (text, table) = (part(text, text_len), std::slice::from_raw_parts_mut(table, table_len));
-    let answer = paper::load(text, table);
-    match answer {
+    match groups::load(text, table) {
         Ok(loaded) => {
             let (mut length, mut warnings) = (loaded.length, loaded.warnings);
             if fault(1) && length < table.len() {
@@ -85,7 +88,7 @@ pub unsafe extern "C" fn hrazvanut_abi_list_warnings(
     let text = part(text, text_len);
     let numbers = std::slice::from_raw_parts_mut(numbers, numbers_len);
     let places = std::slice::from_raw_parts_mut(places, places_len);
-    match paper::warnings(text) {
+    match groups::listed(text) {
         Ok(warnings) => {
             let room = if fault(8) { numbers_len.min(places_len) } else { usize::MAX };
             let listed = warnings.iter().skip(skip).take(room);
@@ -117,6 +120,9 @@ fn is_table(table: &[u8]) -> bool {
     let length = table.get(2..4).map_or(0, |w| usize::from(u16::from_le_bytes([w[0], w[1]])));
     if fault(10) {
         return right && length == table.len(); // a longer slice
+    }
+    if fault(149) && right {
+        return !View::open(table).is_some_and(|view| view.has_undefined());
     }
     if fault(11) && table.len() > 4 {
         let mut form_set = table.to_vec();
@@ -176,7 +182,8 @@ unsafe fn decision(table: &[u8], question: Question, given: &Given, checked: boo
     } else if given.refused_early(&question) {
         Err(26)
     } else if checked || is_table(table) {
-        paper::decide_checked(&judged(table, fault(113), |_| question.readings), &question)
+        let table = groups::without_lists(table);
+        paper::decide_checked(&judged(&table, fault(113), |_| question.readings), &question)
     } else {
         Err(20)
     };

@@ -1,9 +1,10 @@
-//! The register over `paper` in lent bytes, with the faults 45 to 83, 103 and 123.
-//! A place's record is laid out as this stub likes: taken, right, level, the three
-//! lengths, the three names.
+//! The register over `paper` in lent bytes, with the faults 45 to 83, 103, 123 and
+//! 146. A place's record is laid out as this stub likes: taken, right, level, the
+//! three lengths, the three names.
 
 use crate::arithmetic::judged;
 use crate::fault;
+use crate::groups::taken;
 use paper::question::NOTHING;
 use paper::register::{changed, Rights};
 use paper::table::{View, ACCESS_GROUPS};
@@ -344,7 +345,11 @@ pub fn reload(lent: &mut Lent, text: &[u8], table: &mut [u8]) -> u64 {
         return lent.refused(34);
     }
     let mut register = lent.register();
-    match register.load(text, table) {
+    let loaded = match register.load(text, table) {
+        Err(Refusal { number: 12, .. }) if fault(146) => taken(text, table), // groups not asked for
+        other => other,
+    };
+    match loaded {
         Ok(loaded) => {
             let after = if fault(47) { lent.rights() } else { rights(&register, table) };
             if !fault(50) {

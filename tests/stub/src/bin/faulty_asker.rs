@@ -1,11 +1,12 @@
-//! The asker by `paper`, with a fault of its own: HRAZVANUT_FAULT, 23 to 38, 105
-//! and 124.
+//! The asker by `paper`, with a fault of its own: HRAZVANUT_FAULT, 23 to 38, 105,
+//! 124 and 152.
 
 use paper::programs::{self, answer_line, question};
 use paper::{Reading, LETTERS, TABLE_BYTES};
 use std::io::{self, Read, Write};
 use stub::arithmetic::judged;
 use stub::fault;
+use stub::groups::taken;
 
 /// What the line would be read as, if it is misread. None if it is skipped.
 fn misread(line: &[u8]) -> Option<Vec<u8>> {
@@ -57,9 +58,13 @@ fn input() -> io::Result<Vec<u8>> {
     }
 }
 
-/// What is printed; with fault 124 only the result of a calculation is looked at.
+/// What is printed; with fault 124 only the result of a calculation is looked at,
+/// with 152 a rule may name a group that is not defined.
 fn printed(rules: &[u8], input: &[u8]) -> String {
     let mut table = vec![0; TABLE_BYTES];
+    if fault(152) && taken(rules, &mut table).is_ok() {
+        return programs::lines(input).into_iter().map(|line| answer_line(&table, line)).collect();
+    }
     let loaded = paper::load(rules, &mut table).ok().filter(|_| fault(124));
     let Some(loaded) = loaded else { return programs::ask(rules, input) };
     table.truncate(loaded.length);

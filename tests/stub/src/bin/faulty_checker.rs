@@ -1,4 +1,5 @@
-//! The checker by `paper`, with a fault of its own: HRAZVANUT_FAULT, 39 to 44.
+//! The checker by `paper`, with a fault of its own: HRAZVANUT_FAULT, 39 to 44
+//! and 151.
 
 use std::io::{self, Read, Write};
 use stub::fault;
@@ -25,6 +26,9 @@ fn main() -> io::Result<()> {
         std::process::abort();
     }
     let mut lines = paper::programs::check(&text);
+    if fault(151) && lines.starts_with("refusal 12") {
+        lines = lines.replace("refusal 12", "warning 3"); // as it was
+    }
     if fault(42) {
         let kept = lines.lines().take(1000).map(|line| format!("{line}\n"));
         lines = kept.collect(); // no more than a thousand warnings
