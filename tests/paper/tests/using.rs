@@ -26,7 +26,7 @@ fn files() {
             count += 1;
         }
     }
-    assert_eq!(count, 22);
+    assert_eq!(count, 23);
 }
 
 /// Rows that begin with a line and what the asker prints, under their rules.
@@ -54,5 +54,8 @@ fn three_lines() {
         let block = lines.take_while(|line| line.starts_with("    "));
         block.map(|line| format!("{}\n", line.trim())).collect::<String>()
     };
-    assert_eq!(programs::check(indented("\nFor the three lines").as_bytes()), indented("\nit prints"));
+    let three = indented("\nFor the three lines");
+    assert_eq!(programs::check(three.as_bytes()), indented("\nit prints"));
+    let mended = three.replace("UAG(b)", "UAG(a)");
+    assert_eq!(programs::check(mended.as_bytes()), indented("is accepted, and it prints"));
 }
