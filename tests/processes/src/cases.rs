@@ -13,6 +13,9 @@ const RULES: &[u8] =
 
 const QUESTION: &[u8] = b"- ann pc1 1 A:0.25\n";
 
+/// How many cases are the same for each seed.
+pub const FIXED: u64 = 6;
+
 /// The first cases are the same for each seed; the others are made.
 pub fn run(case: u64, random: &mut Random, bench: &mut Bench) -> Go {
     match case {

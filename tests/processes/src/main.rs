@@ -1,7 +1,7 @@
 //! Runs the built programs as processes and compares what they print with
 //! `paper`'s, byte for byte.
 //!
-//!     processes [-v] BIN SEED COUNT [CASE]                until COUNT lines are compared
+//!     processes [-v] BIN SEED COUNT [CASE]                until COUNT lines are compared, and all fixed cases
 //!     processes [-v] BIN vectors FOLDER [AMENDED ...]     on a folder of vectors
 //!
 //! BIN is the folder of `checker` and `asker`. Exit code 0 and one line if all
@@ -31,12 +31,12 @@ fn folder(text: &str) -> PathBuf {
     absolute(text).unwrap_or_else(|_| usage())
 }
 
-/// Run cases until there are enough lines, or the only one.
+/// Run cases until the fixed ones are through and there are enough lines, or the only one.
 fn compare(bench: &mut Bench, seed: u64, count: u64, only: Option<u64>) -> Go {
     for case in only.unwrap_or(0).. {
         let done = cases::run(case, &mut Random::of_case(seed, case), bench);
         done.map_err(|Difference(what)| Difference(format!("seed {seed}, case {case}: {what}")))?;
-        if only.is_some() || bench.lines >= count {
+        if only.is_some() || case + 1 >= cases::FIXED && bench.lines >= count {
             break;
         }
     }
