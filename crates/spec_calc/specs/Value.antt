@@ -1,9 +1,9 @@
--- The value of a calculation, and when it is true. 01, "The calculation"; 02, ticket 3.
+-- The value of a calculation, what makes it bad, and when it is true. 01, "The calculation"; 02, tickets 3 and 5.
 use mathlib.Core.Path.{_≡_}
 use mathlib.Core.Bool.{Bool, true, false, cond, not, _&&_, _||_}
-use mathlib.Core.List.{List, [], _∷_, _++_}
+use mathlib.Core.List.{List, [], _∷_, _++_, List·Memᴰ}
 use mathlib.Core.Option.{Option, none, some}
-use Prim.Native.Nat.{ℕ}
+use Prim.Native.Nat.{ℕ, _≤_, min}
 use lib.ListN.{getD}
 use lib.Ieee as Ieee
 use lib.Ieee.{Float, nan, inf, fin, binary64, ofBits}
@@ -14,7 +14,7 @@ use Rattle.spec_calc.specs.declared.Operator.the-variants.{Or, And, Less
 use Rattle.spec_calc.specs.declared.Reading.{Reading}
 use Rattle.spec_calc.specs.declared.Reading.the-variants.{NeverHeard, Invalid, Value}
 use Rattle.spec_calc.specs.declared.Worth.{Worth}
-use Rattle.spec_calc.specs.declared.Worth.the-variants.{NoCalculation, Bad, Is}
+use Rattle.spec_calc.specs.declared.Worth.the-variants.{NoCalculation, BadBy, BadByArithmetic, Is}
 use Rattle.spec_calc.specs.Expression.{Tree, number-tree, letter-tree, minus, negation, binary, choice}
 
 abbrev pub zero-value : Float
@@ -102,9 +102,33 @@ Finite-parts rs t = Every (λ u. finite (value rs u) ≡ true) (evaluated rs t)
 abbrev pub finite-throughout : List Reading → Tree → Bool
 finite-throughout rs t = all (λ u. finite (value rs u)) (evaluated rs t)
 
--- bad, 01: "If any letter in the text, in either branch, has a bad reading"; bad too, 02: "An infinite or not-a-number value of any evaluated part"; else the value
+-- 02, ticket 5: "the lowest letter in its text whose reading is bad"; as a statement, and as the function that finds it (laws/Lowest.antt: lowest-bad-is)
+pub record Lowest-bad (rs : List Reading) (is : List ℕ) (i : ℕ) : Type 0 where
+  pub among : List·Memᴰ i is
+  pub bad : good (reading rs i) ≡ false
+  pub lowest : Every (λ j. good (reading rs j) ≡ false → i ≤ j) is
+
+abbrev pub lower : ℕ → Option ℕ → ℕ
+lower i none = i
+lower i (some j) = min i j
+
+-- the lowest of some letters that are not good
+abbrev pub lowest : (ℕ → Bool) → List ℕ → Option ℕ
+lowest good-one [] = none
+lowest good-one (i ∷ is) = cond (good-one i) (lowest good-one is) (some (lower i (lowest good-one is)))
+
+abbrev pub lowest-bad : List Reading → List ℕ → Option ℕ
+lowest-bad rs = lowest (λ i. good (reading rs i))
+
+-- 02: "a value, or bad with the lowest letter in its text whose reading is bad, or, with none such, bad by arithmetic"
+abbrev pub worth-by : Option ℕ → Bool → Float → Worth
+worth-by (some i) whole x = BadBy i
+worth-by none true x = Is x
+worth-by none false x = BadByArithmetic
+
+-- 01: "If any letter in the text, in either branch, has a bad reading"; 02: "An infinite or not-a-number value of any evaluated part"
 abbrev pub tree-worth : List Reading → Tree → Worth
-tree-worth rs t = cond (all (λ i. good (reading rs i)) (letters t)) (cond (finite-throughout rs t) (Is (value rs t)) Bad) Bad
+tree-worth rs t = worth-by (lowest-bad rs (letters t)) (finite-throughout rs t) (value rs t)
 
 -- of what a text says, if it is a calculation
 abbrev pub worth : List Reading → Option Tree → Worth
@@ -125,7 +149,8 @@ near-one x = Ieee.lt lower-bound x && Ieee.lt x upper-bound
 -- 01: "[..] has a bad reading, the calculation is false. Otherwise it is true exactly if 0.99 < result < 1.01"; 02: "makes the whole calculation false"
 abbrev pub true-worth : Worth → Bool
 true-worth NoCalculation = false
-true-worth Bad = false
+true-worth (BadBy i) = false
+true-worth BadByArithmetic = false
 true-worth (Is x) = near-one x
 
 abbrev pub holds : List Reading → Tree → Bool

@@ -1,10 +1,13 @@
 pub mod Bounds
 pub mod Complete
 pub mod Evaluated
+pub mod Letters
+pub mod Lowest
 pub mod Numeral
 pub mod Readings
 pub mod Sound
 pub mod Spelling
 pub mod Symbols
 pub mod Theorem
+pub mod Worth
 pub mod Levels

@@ -5,10 +5,12 @@ pub enum Reading {
     Value(f64),
 }
 
-// What a text comes to: no calculation; bad, where a letter of it has a bad reading or an evaluated part of it is not finite; or a value.
+// What a text comes to: no calculation; bad by a letter, A being 0, the lowest of it whose reading is bad; bad by arithmetic, where an evaluated
+// part of it is not finite; or a value.
 pub enum Worth {
     NoCalculation,
-    Bad,
+    BadBy(u8),
+    BadByArithmetic,
     Is(f64),
 }
 

@@ -1,14 +1,17 @@
--- The answer to a question on a table. 01, "The question"; 02, ticket 2.
+-- The answer to a question on a table. 01, "The question"; 02, tickets 2 and 5.
 use mathlib.Core.Bool.{Bool, false, cond}
 use mathlib.Core.List.{List, []}
 use mathlib.Core.Option.{Option, none, some}
 use Prim.Native.Nat.{ℕ}
 use Rattle.spec_rule.specs.declared.Access.{Access}
 use Rattle.spec_rule.specs.declared.Access.the-variants as access
+use Rattle.spec_rule.specs.declared.Decision.{Decision}
+use Rattle.spec_rule.specs.declared.Stop.{Stop}
+use Rattle.spec_rule.specs.declared.Stop.the-variants.{Nothing}
 use Rattle.spec_rule.specs.Roles.{roles-fit}
 use Rattle.spec_rule.specs.Question.{Question}
 use Rattle.spec_rule.specs.Rule.{Rule}
-use Rattle.spec_rule.specs.Decision.{decision-by}
+use Rattle.spec_rule.specs.Decision.{with-letter, decision-by}
 use Rattle.spec_rule.specs.Answering.{a-level, answering}
 use Rattle.spec_file.specs.Limit.{access-groups}
 use Rattle.spec_table.specs.Layout.{Content}
@@ -49,6 +52,17 @@ trap-in (Answered d) = d .trap
 trap-in NotTable = false
 trap-in BadLevel = false
 trap-in BadRoles = false
+
+-- 02: "the letter, or that there is none (as when refused)"
+abbrev pub letter-in : Answer → Stop
+letter-in (Answered d) = d .letter
+letter-in NotTable = Nothing
+letter-in BadLevel = Nothing
+letter-in BadRoles = Nothing
+
+-- what an answer gives
+abbrev pub decision-in : Answer → Decision
+decision-in a = with-letter (access-in a) (trap-in a) (letter-in a)
 
 -- "without DEFAULT the answer is NONE, no trap": no group, no rules
 abbrev pub rules-in : Content → Option (List ℕ) → List Rule

@@ -1,8 +1,8 @@
--- 01, "Proved and run cases": those that are proved, together as a single list; 02's of requests 3 and 4; and 001's example of a role. Each is computed
+-- 01, "Proved and run cases": those that are proved, together as a single list; 02's of requests 3 to 5; and 001's example of a role. Each is computed
 -- from its text by the definitions.
 use mathlib.Core.Path.{_≡_}
 use mathlib.Core.Bool.{Bool, true, false}
-use mathlib.Core.List.{List, [], _∷_, map}
+use mathlib.Core.List.{List, [], _∷_, _++_, map}
 use mathlib.Core.Option.{some}
 use Prim.Native.Nat.{ℕ, _+_, _-_}
 use Prim.Native.String.{String}
@@ -13,9 +13,14 @@ use Rattle.spec_token.specs.Word.{greatest-letter}
 use Rattle.spec_calc.specs.declared.Reading.{Reading}
 use Rattle.spec_calc.specs.declared.Reading.the-variants.{NeverHeard, Value}
 use Rattle.spec_calc.specs.Symbol.{decimal}
-use Rattle.spec_calc.specs.Value.{zero-value, one-value}
+use Rattle.spec_calc.specs.Value.{zero-value, one-value, worth}
+use Rattle.spec_calc.specs.declared.Worth.{Worth}
+use Rattle.spec_calc.specs.declared.Worth.the-variants.{BadBy, BadByArithmetic, Is}
+use Rattle.spec_calc.specs.Reader.{tree-of}
+use Rattle.spec_rule.specs.declared.Access.{Access}
 use Rattle.spec_rule.specs.declared.Access.the-variants as access
-use Rattle.spec_rule.specs.Decision.{with-trap}
+use Rattle.spec_rule.specs.declared.Stop.the-variants.{Nothing, Letter}
+use Rattle.spec_rule.specs.Decision.{with-trap, with-letter}
 use Rattle.spec_rule.specs.Question.{Question, asking, question-of}
 use Rattle.spec_rule.specs.Rule.{calculation-holds}
 use Rattle.spec_file.specs.declared.Refusal.the-variants.{GivenAgain, UndefinedGroup}
@@ -56,10 +61,10 @@ site = "ASG(DEFAULT) {INPA(B1:PGA) RULE(1,READ) RULE(1,WRITE,TRAPWRITE) {CALC(\"
 
 -- the list
 pub record Proved-cases : Type 0 where
-  -- "the four questions above"
-  pub question-1 : asked site (ann "" 1 (heard-a (decimal 25 2))) ≡ Answered (with-trap access.Write true)
-  pub question-2 : asked site (ann "" 1 (heard-a nan)) ≡ Answered (with-trap access.Read false)
-  pub question-3 : asked site (ann "" 1 silent) ≡ Answered (with-trap access.Read false)
+  -- "the four questions above"; 02, ticket 5: "01's three answers gain `-`, `A`, `A`"
+  pub question-1 : asked site (ann "" 1 (heard-a (decimal 25 2))) ≡ Answered (with-letter access.Write true Nothing)
+  pub question-2 : asked site (ann "" 1 (heard-a nan)) ≡ Answered (with-letter access.Read false (Letter 0))
+  pub question-3 : asked site (ann "" 1 silent) ≡ Answered (with-letter access.Read false (Letter 0))
   pub question-4 : asked site (ann "" 2 (heard-a (decimal 25 2))) ≡ BadLevel
   -- "`0.99`, `1.01` and `99/100` false, `1` true"; 02: "the case `0/0>1?0:1`, now false"
   pub under-bound : true-of "0.99" ≡ false
@@ -189,3 +194,47 @@ pub record Group-cases : Type 0 where
   -- "A table with number 65,535 is still a table.", and its reference has no members
   pub still-table : is-table without-group ≡ true
   pub no-members : decide without-group (ann "" 0 silent) ≡ none
+
+-- what a calculation answers, with only the letters D and F heard, both 1
+abbrev pub four-and-six : List Reading
+four-and-six = set (set silent 3 (Value one-value)) 5 (Value one-value)
+
+abbrev pub answers : String → Worth
+answers s = worth four-and-six (tree-of (bytes s))
+
+-- what a question of ann without readings is answered by the rules of DEFAULT, which has the inputs A to C
+abbrev pub stopped-in : String → Answer
+stopped-in rules =
+    decide (load buffer (bytes "UAG(u) {bob} HAG(h) {pc2} ASG(DEFAULT) {INPA(a) INPB(b) INPC(c) " ++ (bytes rules ++ bytes "}")) .bytes) (ann "" 1 silent)
+
+abbrev pub nobody-stops : Access → Answer
+nobody-stops a = Answered (with-letter a false Nothing)
+
+abbrev pub stops-at : Access → ℕ → Answer
+stops-at a i = Answered (with-letter a false (Letter i))
+
+-- 02, ticket 5
+pub record Letter-cases : Type 0 where
+  -- "the lowest letter in its text whose reading is bad": not the first, not one whose reading is good, in either branch, in either case of the letter
+  pub not-the-first : answers "D+C+B" ≡ BadBy 1
+  pub not-a-good-one : answers "D+f+G" ≡ BadBy 6
+  pub branch-not-chosen : answers "1?D:A" ≡ BadBy 0
+  pub small-letter : answers "e" ≡ BadBy 4
+  -- "or, with none such, bad by arithmetic"
+  pub by-arithmetic : answers "D/0" ≡ BadByArithmetic
+  pub letter-before-arithmetic : answers "D/0+U" ≡ BadBy 20
+  pub a-value : answers "D" ≡ Is one-value
+  -- "the first rule of the group": not the last, nor that of the lowest letter
+  pub first-rule : stopped-in "RULE(1,WRITE) {CALC(\"C\")} RULE(1,WRITE) {CALC(\"A\")}" ≡ stops-at access.None 2
+  pub lower-permission-first : stopped-in "RULE(1,READ) {CALC(\"B\")} RULE(1,WRITE) {CALC(\"A\")}" ≡ stops-at access.None 1
+  -- "whose permission is above the access answered"
+  pub passed-by : stopped-in "RULE(1,READ) {CALC(\"B\")} RULE(1,WRITE) {CALC(\"A\")} RULE(1,READ)" ≡ stops-at access.Read 0
+  pub no-higher : stopped-in "RULE(1,READ) {CALC(\"A\")} RULE(1,READ)" ≡ nobody-stops access.Read
+  pub write-anyway : stopped-in "RULE(1,WRITE) {CALC(\"A\")} RULE(1,WRITE)" ≡ nobody-stops access.Write
+  pub gives-none : stopped-in "RULE(1,NONE) {CALC(\"A\")}" ≡ nobody-stops access.None
+  -- "and which fails by nothing else"
+  pub by-user-too : stopped-in "RULE(1,WRITE) {UAG(u) CALC(\"A\")}" ≡ nobody-stops access.None
+  pub by-host-too : stopped-in "RULE(1,WRITE) {HAG(h) CALC(\"A\")}" ≡ nobody-stops access.None
+  pub by-level-too : stopped-in "RULE(0,WRITE) {CALC(\"A\")}" ≡ nobody-stops access.None
+  pub switched-off-too : stopped-in "RULE(1,WRITE) {METHOD() CALC(\"A\")}" ≡ nobody-stops access.None
+  pub by-arithmetic-only : stopped-in "RULE(1,WRITE) {CALC(\"0/0\")}" ≡ nobody-stops access.None

@@ -9,8 +9,10 @@ use Prim.Native.Nat.{ℕ, _≤_, _<_}
 use lib.Ieee.{Float}
 use lib.ListN.{length, getD, replicate}
 use Rattle.spec_calc.specs.declared.Reading.the-variants.{NeverHeard}
+use Rattle.spec_calc.specs.declared.Worth.the-variants.{BadBy, BadByArithmetic, Is}
 use Rattle.spec_rule.specs.declared.Access.{Access}
 use Rattle.spec_rule.specs.declared.Access.the-variants as access
+use Rattle.spec_rule.specs.declared.Stop.the-variants.{Nothing, Letter}
 use Rattle.spec_rule.specs.declared.Decision.{Decision}
 use Rattle.spec_file.specs.declared.Refusal.the-variants.{StringTooLong, TooMany, GivenAgain, UndefinedGroup, UnknownWord, BadCalculation}
 use Rattle.spec_file.specs.declared.Refusal.the-variants as refusal
@@ -37,10 +39,12 @@ use Rattle.spec_demand.specs.Vocabulary.{Lent, lent, places-bytes, all-r
 use Rattle.spec_demand.specs.Vocabulary.{Never-more-to-clients}
 use Rattle.spec_demand.specs.Vocabulary.{calculation-holds, Some, Yields-true, Finite-values, Gives-on-finite-values, access-groups, name, rules-of}
 use Rattle.spec_demand.specs.Vocabulary.{Names-undefined, Groups-defined, references, number-field, Group-cases}
+use Rattle.spec_demand.specs.Vocabulary.{letter-in, worth, Comes-to, Bad-by, Bad-by-arithmetic, Tells, rule-in, Letter-cases}
 use Rattle.spec_demand.specs.laws.Cited as proved
 
 -- DEMAND 1. Total: no file, table, name, level or reading makes it index outside, trap or run on. A refusal carries a number, a load's
 -- also a place. A refused load leaves the table byte for byte, a refused question answers NONE without trap, a buffer of zeros grants nothing.
+-- 02, ticket 5: a refused question has no letter.
 --
 -- Every definition is a function of all texts, bytes and questions: each has an answer. That the code gives this answer, in bounds and
 -- without fail, is what its contracts prove. The rest of the demand:
@@ -59,8 +63,9 @@ pub record Total : Type 0 where
   -- every call of the library but a register's, a load among them, if it is refused; of a register's see register-refused
   pub refused-call : (b : List ℕ) (c : Call) (t : Told) → refusal-of b c ≡ some t → after-call b c ≡ b
   pub refused-question :
-      (b : List ℕ) (q : Question) (n : ℕ) → number (decide b q) ≡ some n → (access-in (decide b q) ≡ access.None) × (trap-in (decide b q) ≡ false)
-  pub zeros : (n : ℕ) (q : Question) → (access-in (decide (replicate n 0) q) ≡ access.None) × (trap-in (decide (replicate n 0) q) ≡ false)
+      (b : List ℕ) (q : Question) (n : ℕ) → number (decide b q) ≡ some n
+      → (access-in (decide b q) ≡ access.None) × (trap-in (decide b q) ≡ false) × (letter-in (decide b q) ≡ Nothing)
+  pub zeros : (n : ℕ) (q : Question) → let a = decide (replicate n 0) q in (access-in a ≡ access.None) × (trap-in a ≡ false) × (letter-in a ≡ Nothing)
 
 pub demand-1 : Total
 demand-1 =
@@ -75,7 +80,7 @@ demand-1 =
     }
 
 -- DEMAND 2. Exact: a file is accepted exactly when the ACF grammar and the stated limits allow it, its table is the one laid down, and each
--- question gets the access and trap flag of the EPICS rules, with silent, invalid and non-finite readings counted as bad.
+-- question gets the access and trap flag of the EPICS rules, with silent, invalid and non-finite readings counted as bad. 02, ticket 5: and the letter.
 pub record Exact : Type 0 where
   -- ---- Which files. Tokens are 01's sentences, the grammar is 001's productions, the limits are the refusals' causes; no reader stands in them.
   pub either : (s : List ℕ) → ((xs : List Tagged) × Acceptable s xs) ⊎ ((r : Refusal) × (p : ℕ) × Refusable s r p)
@@ -115,7 +120,8 @@ pub record Exact : Type 0 where
   pub table-stands :
       (s : List ℕ) (xs : List Tagged) → Acceptable s xs → (rest : List ℕ)
       → Table (table-of (file-of xs) ++ rest) × (length (table-of (file-of xs)) ≤ greatest-table)
-  -- ---- Which answers: 20, then 21, then 26, then the decision of 001's three steps, by any table and by the file of a loaded one.
+  -- ---- Which answers: 20, then 21, then 26, then the decision of 001's three steps, by any table and by the file of a loaded one. A decision is access, trap
+  -- and letter; when it has which letter, over the rules of the group, is Chosen in By-table and By-file.
   pub not-table : (b : List ℕ) (q : Question) → (decide b q ≡ NotTable) ↔ (Table b → ⊥)
   pub bad-level : (b : List ℕ) (q : Question) → (decide b q ≡ BadLevel) ↔ (Table b × (greatest-level < q .level))
   pub bad-roles : (b : List ℕ) (q : Question) → (decide b q ≡ BadRoles) ↔ (Table b × (q .level ≤ greatest-level) × (Roles-fit (q .roles) → ⊥))
@@ -390,3 +396,38 @@ numbers-given = proved.numbers-given
 -- `Lift` for `lift`, what counts as defined, the order and the place; and a table with that number
 pub group-cases : Group-cases
 group-cases = proved.group-cases
+
+-- REQUEST 5. Which reading stopped me: "The calculation's answer shall be a value, or bad with the lowest letter in its text whose reading is bad, or, with none
+-- such, bad by arithmetic." Of the function that the code is proved to be:
+pub worth-exactly :
+    (rs : List Reading) (s : List ℕ)
+    → ((x : Float) → (worth rs (tree-of s) ≡ Is x) ↔ Comes-to rs s x)
+    × ((i : ℕ) → (worth rs (tree-of s) ≡ BadBy i) ↔ Bad-by rs s i)
+    × ((worth rs (tree-of s) ≡ BadByArithmetic) ↔ Bad-by-arithmetic rs s)
+worth-exactly rs s = (proved.comes-to-is rs s, proved.bad-by-is rs s, proved.bad-by-arithmetic-is rs s)
+
+-- "The decision passes on the letter [..]. Demand 2 covers it.": so it does above, by-table and by-file. What it tells a fitter, by any table and by the file of
+-- a loaded one: if the letter i is given, then with any readings that make the calculation of that rule true, among them those, if any, that differ from the
+-- question's at i alone, the access would be at least that rule's permission, which is above the access answered.
+pub letter-tells :
+    (b : List ℕ) (q : Question) (d : Decision) (i : ℕ) → decide b q ≡ Answered d → d .letter ≡ Letter i
+    → Tells (name (view b) access-groups) (rules-of (view b)) (view b .records access-groups) q d i (λ rs. access-in (decide b (reading-instead q rs)))
+letter-tells = proved.tells-by-table
+
+pub letter-tells-by-file :
+    (s : List ℕ) (xs : List Tagged) → Acceptable s xs → (rest : List ℕ) (q : Question) (d : Decision) (i : ℕ)
+    → let b = table-of (file-of xs) ++ rest in
+    decide b q ≡ Answered d → d .letter ≡ Letter i
+    → Tells (λ a. a .name) (λ a. map (rule-in (file-of xs)) (a .rules)) (file-of xs .asgs) q d i (λ rs. access-in (decide b (reading-instead q rs)))
+letter-tells-by-file = proved.tells-by-file
+
+-- "A fitter who is refused wants the channel to look at.": on a loaded table that letter has an input in the group that answers, so that the look-up
+-- (demand 2: inputs) has a process variable's name for it
+pub letter-named :
+    (s : List ℕ) (xs : List Tagged) → Acceptable s xs → (rest : List ℕ) (q : Question) (d : Decision) (i : ℕ)
+    → decide (table-of (file-of xs) ++ rest) q ≡ Answered d → d .letter ≡ Letter i → (n : List ℕ) × Names-input (file-of xs) (q .group) i n
+letter-named = proved.letter-named
+
+-- the lowest letter, and which rules it is of; 01's three answers stand among its own cases
+pub letter-cases : Letter-cases
+letter-cases = proved.letter-cases

@@ -6,6 +6,8 @@ pub use Rattle.spec_token.specs.Place.{Ascending, Stands-in}
 pub use Rattle.spec_grammar.specs.Sentence.{Tagged}
 pub use Rattle.spec_calc.specs.declared.Reading.{Reading}
 pub use Rattle.spec_calc.specs.Expression.{Tree, Parses}
+pub use Rattle.spec_calc.specs.Value.{worth}
+pub use Rattle.spec_calc.specs.Answer.{Bad-by, Bad-by-arithmetic, Comes-to}
 pub use Rattle.spec_calc.specs.Readings.{Gone-bad}
 pub use Rattle.spec_calc.specs.Reader.{tree-of}
 pub use Rattle.spec_rule.specs.Roles.{Roles-fit}
@@ -15,6 +17,7 @@ pub use Rattle.spec_rule.specs.Answering.{greatest-level}
 pub use Rattle.spec_file.specs.declared.Refusal.{Refusal}
 pub use Rattle.spec_file.specs.Refusal.{number as refusal-number, turn, Context, contexts, Applies}
 pub use Rattle.spec_file.specs.Contents.{place, file-of}
+pub use Rattle.spec_file.specs.Meaning.{rule-in}
 pub use Rattle.spec_file.specs.Acceptance.{Text-reads, Caused, Acceptable, Refusable}
 pub use Rattle.spec_file.specs.Warning.{Warned, warnings, Given}
 pub use Rattle.spec_file.specs.Defined.{Names-undefined, Groups-defined}
@@ -28,14 +31,15 @@ pub use Rattle.spec_table.specs.Layout.{greatest-table}
 pub use Rattle.spec_load.specs.Load.{written, without-room, load}
 pub use Rattle.spec_load.specs.Listing.{warnings-written, listing}
 pub use Rattle.spec_decision.specs.LookUp.{look-up, part-in, Names-input, Finds-input, number as look-up-number}
-pub use Rattle.spec_decision.specs.Decision.{number, access-in, trap-in, decide}
+pub use Rattle.spec_decision.specs.Decision.{number, access-in, trap-in, letter-in, decide}
 pub use Rattle.spec_decision.specs.Privilege.{By-table, By-file}
 pub use Rattle.spec_edition.specs.Edition.{Edition, Later, Says-no}
 pub use Rattle.spec_demand.specs.Calls.{Call, after-call, is-accepted, No-accepted-load, Told, refusal-of}
 pub use Rattle.spec_demand.specs.Memory.{Memory, Storage, bytes-in, Step, calls-of, Made, Nobody-else-writes}
-pub use Rattle.spec_demand.specs.Cases.{Proved-cases, Arithmetic-cases, Role-cases, Group-cases}
+pub use Rattle.spec_demand.specs.Cases.{Proved-cases, Arithmetic-cases, Role-cases, Group-cases, Letter-cases}
 pub use Rattle.spec_rule.specs.Decision.{no-access}
 pub use Rattle.spec_rule.specs.Privilege.{Some, Answers, Yields-true}
+pub use Rattle.spec_rule.specs.Letter.{Tells}
 pub use Rattle.spec_rule.specs.Finite.{Finite-values, Gives-on-finite-values}
 pub use Rattle.spec_decision.specs.Groups.{Numbered, groups-of, group-name}
 pub use Rattle.spec_register.specs.Register.{Client, most-clients, client-at, readings-at}

@@ -7,6 +7,7 @@ pub mod Memory
 pub mod Instance
 pub mod Cited
 pub mod Privilege
+pub mod Letter
 pub mod Refusals
 pub mod Answered
 pub mod Register

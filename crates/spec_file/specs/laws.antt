@@ -10,3 +10,4 @@ pub mod Warnings
 pub mod Numbered
 pub mod Named
 pub mod Defined
+pub mod Inputs

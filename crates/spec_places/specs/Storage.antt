@@ -3,21 +3,19 @@ use mathlib.Core.Bool.{Bool, cond, _&&_}
 use mathlib.Core.List.{List, [], _∷_, _++_, map}
 use mathlib.Core.Option.{Option, none, some}
 use Prim.Native.Nat.{ℕ, suc, _+_, _*_, min}
-use lib.Dec.{eqb, leb}
+use lib.Dec.{leb}
 use lib.Ieee.{Float}
 use lib.ListN.{length, getD, replicate}
 use Rattle.spec_lists.specs.Runs.{part}
 use Rattle.spec_calc.specs.declared.Reading.{Reading}
 use Rattle.spec_calc.specs.States.{readings}
-use Rattle.spec_rule.specs.declared.Access.{Access}
-use Rattle.spec_rule.specs.declared.Access.the-variants as access
 use Rattle.spec_rule.specs.declared.Decision.{Decision}
-use Rattle.spec_rule.specs.Decision.{with-trap, no-access}
-use Rattle.spec_rule.specs.Kept.{bit, says-stands}
+use Rattle.spec_rule.specs.Decision.{no-access}
+use Rattle.spec_rule.specs.Number.{decision-from}
+use Rattle.spec_rule.specs.Kept.{says-stands}
 use Rattle.spec_file.specs.Limit.{most, access-groups, longest-name}
 use Rattle.spec_register.specs.Register.{Client, Register, most-clients, letters}
 use Rattle.spec_register.specs.Right.{from, places}
-use mathlib.Core.Bool.{true, false}
 
 -- the lent bytes of a table, and those of a register
 pub record Lent : Type 0 where
@@ -49,7 +47,7 @@ abbrev pub client-bytes : Client → List ℕ
 client-bytes c =
     1 ∷ c .level ∷ length (c .group) ∷ length (c .user) ∷ length (c .host) ∷ (c .group ++ (c .user ++ c .host))
 
--- where stands what a place keeps: the number of the answering group and 1, or 0; its right; and of each rule of that group whether it stands
+-- where stands what a place keeps: the number of the answering group and 1, or 0; its right as a number; and of each rule of that group whether it stands
 abbrev pub kept-at : ℕ → ℕ
 kept-at p = at-place p + 185
 
@@ -100,22 +98,9 @@ zeroed t n m v = record { table = t; places = replicate n 0; states = replicate 
 
 -- ---- its right
 
-abbrev pub code : Access → Bool → ℕ
-code access.None t = 0
-code access.Read t = 1
-code access.Write t = 2 + bit t
-
-abbrev pub right-code : Decision → ℕ
-right-code d = code (d .access) (d .trap)
-
-abbrev pub decoded : ℕ → Decision
-decoded n =
-    cond (eqb n 1) (with-trap access.Read false)
-    (cond (eqb n 2) (with-trap access.Write false) (cond (eqb n 3) (with-trap access.Write true) no-access))
-
 -- bytes too short for a register have no right
 abbrev pub are-places : List ℕ → Bool
 are-places b = leb places-bytes (length b)
 
 abbrev pub right-in : List ℕ → ℕ → Decision
-right-in b p = cond (are-places b && leb (suc p) most-clients) (decoded (getD b (kept-at p + 1) 0)) no-access
+right-in b p = cond (are-places b && leb (suc p) most-clients) (decision-from (getD b (kept-at p + 1) 0)) no-access

@@ -12,14 +12,15 @@ use Rattle.spec_calc.specs.declared.Reading.the-variants.{NeverHeard, Invalid, 
 use Rattle.spec_rule.specs.Question.{Question, question-of}
 use Rattle.spec_rule.specs.Rule.{Rule}
 use Rattle.spec_rule.specs.Decision.{decision-by}
-use Rattle.spec_rule.specs.Kept.{stand-bits, truths, kept-decision}
+use Rattle.spec_rule.specs.Kept.{stand-bits, outcome-bytes, kept-decision}
+use Rattle.spec_rule.specs.Number.{decision-number}
 use Rattle.spec_file.specs.Limit.{access-groups}
 use Rattle.spec_table.specs.View.{view}
 use Rattle.spec_table.specs.Check.{is-table}
 use Rattle.spec_table.specs.Policy.{rules-of, row}
 use Rattle.spec_register.specs.Register.{Client, never-heard}
 use Rattle.spec_decision.specs.Groups.{answering-number}
-use Rattle.spec_places.specs.Storage.{at-place, client-bytes, kept-at, nothing-kept, client-in, right-code}
+use Rattle.spec_places.specs.Storage.{at-place, client-bytes, kept-at, nothing-kept, client-in}
 
 -- the rules of the i-th access group
 abbrev pub rules-at : List ℕ → ℕ → List Rule
@@ -33,7 +34,7 @@ asked c rs = question-of (c .group) (c .user) (c .host) (c .level) rs
 abbrev pub kept-by : List ℕ → (ℕ → List Reading) → Client → Option ℕ → List ℕ
 kept-by t rs c none = nothing-kept
 kept-by t rs c (some i) =
-    suc i ∷ right-code (decision-by (asked c (rs i)) (rules-at t i)) ∷ stand-bits (asked c (rs i)) (rules-at t i)
+    suc i ∷ decision-number (decision-by (asked c (rs i)) (rules-at t i)) ∷ stand-bits (asked c (rs i)) (rules-at t i)
 
 abbrev pub kept : List ℕ → (ℕ → List Reading) → Client → List ℕ
 kept t rs c = cond (is-table t) (kept-by t rs c (answering-number t (c .group))) nothing-kept
@@ -52,11 +53,11 @@ abbrev pub each : (List ℕ → ℕ → List ℕ) → ℕ → List ℕ → List 
 each f zero b = b
 each f (suc p) b = each f p (f b p)
 
--- the right by what stands of the rules and by their calculations now
+-- the right by what stands of the rules and by what their calculations come to now
 abbrev pub kept-right : List Rule → List Reading → List ℕ → ℕ → ℕ
 kept-right rules rs b p =
-    right-code
-    (kept-decision (part (record { first = kept-at p + 2; count = length rules }) b) (truths rs rules) rules)
+    decision-number
+    (kept-decision (part (record { first = kept-at p + 2; count = length rules }) b) (outcome-bytes rs rules) rules)
 
 -- a place that the i-th group answers for, with that group's readings
 abbrev pub renewed : List ℕ → ℕ → List Reading → List ℕ → ℕ → List ℕ

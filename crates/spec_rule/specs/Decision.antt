@@ -1,17 +1,23 @@
--- What the rules of a group give a question together, access and trap in one. 01, "The question".
+-- What the rules of a group give a question together: access, trap and letter in one. 01, "The question"; 02, ticket 5.
 use mathlib.Core.Bool.{Bool, false, cond}
 use mathlib.Core.List.{List}
 use lib.Dec.{eqb}
 use Rattle.spec_rule.specs.declared.Access.{Access}
 use Rattle.spec_rule.specs.declared.Access.the-variants as access
+use Rattle.spec_rule.specs.declared.Stop.{Stop}
+use Rattle.spec_rule.specs.declared.Stop.the-variants.{Nothing}
 use Rattle.spec_rule.specs.declared.Decision.{Decision}
 use Rattle.spec_rule.specs.Question.{Question}
-use Rattle.spec_rule.specs.Rule.{Rule, rank, passes, greater, access-by, trap-by}
+use Rattle.spec_rule.specs.Rule.{Rule, rank, access-by, trap-by, letter-by}
 
+abbrev pub with-letter : Access → Bool → Stop → Decision
+with-letter a t s = record { access = a; trap = t; letter = s }
+
+-- one that no reading stopped
 abbrev pub with-trap : Access → Bool → Decision
-with-trap a t = record { access = a; trap = t }
+with-trap a t = with-letter a t Nothing
 
--- 01: "NONE, no trap"
+-- 01: "NONE, no trap"; 02: "or that there is none (as when refused)"
 abbrev pub no-access : Decision
 no-access = with-trap access.None false
 
@@ -23,18 +29,6 @@ grant a t = with-trap a (cond (eqb (rank a) (rank access.Write)) t false)
 abbrev pub granted : Rule → Decision
 granted r = grant (r .permission) (r .trap)
 
--- what one rule gives
-abbrev pub by-rule : Question → Rule → Decision
-by-rule q r = cond (passes q r) (granted r) no-access
-
 -- what rules give together
 abbrev pub decision-by : Question → List Rule → Decision
-decision-by q rs = record { access = access-by q rs; trap = trap-by q rs }
-
--- what some rules give, then others behind them: the greater access, and the trap of the first that give WRITE
-abbrev pub then : Decision → Decision → Decision
-then v w =
-    record {
-      access = greater (v .access) (w .access);
-      trap = cond (eqb (rank (v .access)) (rank access.Write)) (v .trap) (w .trap);
-    }
+decision-by q rs = with-letter (access-by q rs) (trap-by q rs) (letter-by q (access-by q rs) rs)

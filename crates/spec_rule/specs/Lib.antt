@@ -3,7 +3,10 @@ pub mod Roles
 pub mod Question
 pub mod Rule
 pub mod Decision
+pub mod Verdict
 pub mod Kept
 pub mod Privilege
 pub mod Finite
+pub mod Letter
+pub mod Number
 pub mod laws

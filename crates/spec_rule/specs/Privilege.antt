@@ -1,22 +1,24 @@
--- The access privilege of a client, as relations: 001, "is determined as follows", steps 1 to 3. No function that decides stands here.
+-- The access privilege of a client, as relations: 001, "is determined as follows", steps 1 to 3; 02, tickets 2, 3 and 5. No function that decides stands here.
 use mathlib.Core.Path.{_≡_}
 use mathlib.Core.Bool.{true, false}
 use mathlib.Core.List.{List, [], _∷_, _++_}
 use mathlib.Core.Logic.{_↔_, _⊎_}
 use mathlib.Core.Option.{Option, none, some}
-use Prim.Native.Nat.{ℕ, _≤_}
+use Prim.Native.Nat.{ℕ, _≤_, _<_}
 use lib.Ieee.{lt}
 use Rattle.spec_lists.specs.Text.{lowered}
 use Rattle.spec_lists.specs.Every.{Every}
 use Rattle.spec_calc.specs.declared.Reading.{Reading}
 use Rattle.spec_calc.specs.Expression.{Tree, Parses}
-use Rattle.spec_calc.specs.Value.{reading, good, letters, value, Finite-parts, lower-bound, upper-bound}
+use Rattle.spec_calc.specs.Answer.{Inputs-good, Bad-by}
+use Rattle.spec_calc.specs.Value.{value, Finite-parts, lower-bound, upper-bound}
 use Rattle.spec_rule.specs.declared.Access.{Access}
 use Rattle.spec_rule.specs.declared.Access.the-variants as access
+use Rattle.spec_rule.specs.declared.Stop.the-variants.{Letter}
 use Rattle.spec_rule.specs.declared.Decision.{Decision}
 use Rattle.spec_rule.specs.Roles.{role-prefix}
 use Rattle.spec_rule.specs.Question.{Question}
-use Rattle.spec_rule.specs.Rule.{Rule}
+use Rattle.spec_rule.specs.Rule.{Rule, rank, without-calculation}
 use Rattle.spec_rule.specs.Decision.{no-access}
 use Rattle.spec_rule.specs.Answering.{default-name}
 
@@ -64,10 +66,14 @@ pub data Matches-client (user : List ℕ) (roles : List (List ℕ)) (member : Li
 pub record Yields-true (rs : List Reading) (s : List ℕ) : Type 0 where
   pub tree : Tree
   pub says : Parses s tree
-  pub inputs : Every (λ i. good (reading rs i) ≡ true) (letters tree)
+  pub inputs : Inputs-good rs tree
   pub parts : Finite-parts rs tree
   pub above : lt lower-bound (value rs tree) ≡ true
   pub below : lt (value rs tree) upper-bound ≡ true
+
+-- the readings make the calculation of the rule true, if it has one
+abbrev pub Makes-true : List Reading → Rule → Type 0
+Makes-true rs r = (s : List ℕ) → r .calculation ≡ some s → Yields-true rs s
 
 -- what the rule r asks of the question q
 pub record Asks (q : Question) (r : Rule) : Type 0 where
@@ -79,7 +85,7 @@ pub record Asks (q : Question) (r : Rule) : Type 0 where
   -- 01: "its ASCII letters lowered first, stored bytes as they are"
   pub host : Belongs (λ member. member ≡ lowered (q .host)) (r .hags)
   -- "If CALC is specified, the calculation must yield the value 1, i.e. TRUE."
-  pub calculation : (s : List ℕ) → r .calculation ≡ some s → Yields-true (q .readings) s
+  pub calculation : Makes-true (q .readings) r
 
 -- the rule r passes for the question q
 pub record Passes (q : Question) (r : Rule) : Type 0 where
@@ -99,13 +105,27 @@ pub record Greatest (Given : Access → Type 0) (a : Access) : Type 0 where
   pub read : (a ≡ access.Read) ↔ ((Given access.Write → ⊥) × Given access.Read)
   pub neither : (a ≡ access.None) ↔ ((Given access.Write → ⊥) × (Given access.Read → ⊥))
 
+-- 02: a rule "whose calculation is bad by a letter", i, "and which fails by nothing else": it passes if its calculation is left out
+pub record Stopped-by (q : Question) (r : Rule) (i : ℕ) : Type 0 where
+  pub calculation : List ℕ
+  pub has : r .calculation ≡ some calculation
+  pub bad : Bad-by (q .readings) calculation i
+  pub otherwise : Passes q (without-calculation r)
+
+-- such a rule "whose permission is above the access answered"
+abbrev pub Stopped-above : Question → Access → Rule → Type 0
+Stopped-above q a r = (rank a < rank (r .permission)) × ((i : ℕ) × Stopped-by q r i)
+
 pub record Chosen (q : Question) (rs : List Rule) (d : Decision) : Type 0 where
   pub maximum : Greatest (λ a. Some (Gives q a) rs) (d .access)
   -- "The TRAPWRITE setting used for a client is determined by the first WRITE rule that passes the rule checks."
   pub trap : (d .trap ≡ true) ↔ ((r : Rule) × First-such (Gives q access.Write) rs r × (r .trap ≡ true))
+  -- 02: "The decision passes on the letter, or that there is none [..], of the first rule of the group whose permission is above the access answered, whose
+  -- calculation is bad by a letter and which fails by nothing else."
+  pub letter : (i : ℕ) → (d .letter ≡ Letter i) ↔ ((r : Rule) × First-such (Stopped-above q (d .access)) rs r × Stopped-by q r i)
 
 -- steps 1 to 3: the groups gs, with their names and rules, give the question q the decision d
 pub data Determined {G : Type 0} (name : G → List ℕ) (rules : G → List Rule) (gs : List G) (q : Question) : Decision → Type 0 where
   by-group : {g : G} {d : Decision} → Answers name (q .group) gs (some g) → Chosen q (rules g) d → Determined name rules gs q d
-  -- 01: "without DEFAULT the answer is NONE, no trap"
+  -- 01: "without DEFAULT the answer is NONE, no trap"; and no letter
   by-no-group : Answers name (q .group) gs none → Determined name rules gs q no-access

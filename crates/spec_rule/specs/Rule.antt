@@ -1,18 +1,24 @@
--- What a rule asks of a question, and what the rules of a group give. 01, "The question"; 001, the access rule in steps 1 to 3.
+-- What a rule asks of a question, and what the rules of a group give. 01, "The question"; 001, the access rule in steps 1 to 3; 02, ticket 5.
 use mathlib.Core.Bool.{Bool, true, false, cond, not, _&&_}
 use mathlib.Core.List.{List, [], _∷_, map}
 use mathlib.Core.Option.{Option, none, some}
-use Prim.Native.Nat.{ℕ}
+use Prim.Native.Nat.{ℕ, suc}
 use lib.Dec.{leb, eqb}
 use lib.ListN.{length, take, drop}
 use Rattle.spec_lists.specs.Text.{same, lowered}
 use Rattle.spec_lists.specs.Select.{any, select, first}
 use Rattle.spec_calc.specs.declared.Reading.{Reading}
+use Rattle.spec_calc.specs.declared.Worth.{Worth}
+use Rattle.spec_calc.specs.declared.Worth.the-variants.{NoCalculation, BadBy, BadByArithmetic, Is}
 use Rattle.spec_calc.specs.Expression.{Tree}
-use Rattle.spec_calc.specs.Value.{worth, true-worth}
+use Rattle.spec_calc.specs.Value.{worth, near-one, true-worth}
 use Rattle.spec_calc.specs.Reader.{tree-of}
 use Rattle.spec_rule.specs.declared.Access.{Access}
 use Rattle.spec_rule.specs.declared.Access.the-variants as access
+use Rattle.spec_rule.specs.declared.Stop.{Stop}
+use Rattle.spec_rule.specs.declared.Stop.the-variants.{Nothing, Letter}
+use Rattle.spec_rule.specs.declared.Outcome.{Outcome}
+use Rattle.spec_rule.specs.declared.Outcome.the-variants as outcomes
 use Rattle.spec_rule.specs.Roles.{role-prefix}
 use Rattle.spec_rule.specs.Question.{Question}
 
@@ -27,13 +33,27 @@ pub record Rule : Type 0 where
   pub hags : List (List (List ℕ))
   pub calculation : Option (List ℕ)
 
+-- the rule with its calculation left out
+abbrev pub without-calculation : Rule → Rule
+without-calculation r =
+    record {
+      level = r .level;
+      permission = r .permission;
+      trap = r .trap;
+      switched-off = r .switched-off;
+      uags = r .uags;
+      hags = r .hags;
+      calculation = none;
+    }
+
 -- 01: "permission (0, 1, 2)"; 001: "WRITE permission implies READ permission."
 abbrev pub rank : Access → ℕ
 rank access.None = 0
 rank access.Read = 1
 rank access.Write = 2
 
--- ---- Functions that decide what Privilege.antt states. Nobody has to believe them: laws/Privilege.antt proves that they agree with it.
+-- ---- Functions that decide what Privilege.antt states. Nobody has to believe them: laws/Asked.antt, Stopped.antt and Privilege.antt
+-- prove that they agree with it.
 
 -- 01: "the user is a member of one of its UAGs (or it names none)"; "Several UAG lists in one rule count as one."
 -- A predicate says which members match: `matches-question` for users, equality with the lowered name for hosts.
@@ -103,3 +123,36 @@ trap-of (some r) = r .trap
 -- 01: "Trap is that of the first passing WRITE rule, and off if there is none."
 abbrev pub trap-by : Question → List Rule → Bool
 trap-by q rs = trap-of (first gives-write (select (passes q) rs))
+
+-- what a rule's calculation comes to
+abbrev pub judged : Worth → Outcome
+judged NoCalculation = outcomes.False
+judged (BadBy i) = outcomes.Stopped i
+judged BadByArithmetic = outcomes.False
+judged (Is x) = cond (near-one x) outcomes.True outcomes.False
+
+abbrev pub outcome : List Reading → Option (List ℕ) → Outcome
+outcome rs none = outcomes.True
+outcome rs (some s) = judged (worth rs (tree-of s))
+
+-- 02: "whose permission is above the access answered, whose calculation is bad by a letter"
+abbrev pub stop-above : Access → Access → Outcome → Stop
+stop-above a permission outcomes.True = Nothing
+stop-above a permission outcomes.False = Nothing
+stop-above a permission (outcomes.Stopped i) = cond (leb (suc (rank a)) (rank permission)) (Letter i) Nothing
+
+-- "and which fails by nothing else"
+abbrev pub stop-by : Question → Access → Rule → Stop
+stop-by q a r = cond (stands q r) (stop-above a (r .permission) (outcome (q .readings) (r .calculation))) Nothing
+
+abbrev pub or-else : Stop → Stop → Stop
+or-else Nothing s = s
+or-else (Letter i) s = Letter i
+
+abbrev pub first-stop : List Stop → Stop
+first-stop [] = Nothing
+first-stop (s ∷ ss) = or-else s (first-stop ss)
+
+-- "the letter, or that there is none [..], of the first rule" such
+abbrev pub letter-by : Question → Access → List Rule → Stop
+letter-by q a rs = first-stop (map (stop-by q a) rs)

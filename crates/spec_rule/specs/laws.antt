@@ -6,5 +6,9 @@ pub mod Such
 pub mod Matching
 pub mod Roles
 pub mod Fewer
+pub mod Asked
+pub mod Stopped
 pub mod Privilege
+pub mod Mended
+pub mod Number
 pub mod Finite

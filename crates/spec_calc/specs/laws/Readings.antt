@@ -1,18 +1,19 @@
 -- A calculation depends on the readings of its letters only, and no reading that goes bad makes it true.
 use mathlib.Core.Path.{_≡_, refl, sym, ap, _∙_}
-use mathlib.Core.Bool.{Bool, true, false, cond, _&&_, true≢false}
+use mathlib.Core.Bool.{Bool, true, false, _&&_, true≢false}
 use mathlib.Core.List.{List, [], _∷_, _++_, List·Memᴰ, List·Memᴰ·head, List·Memᴰ·tail, Memᴰ·append-left, Memᴰ·append-right}
 use mathlib.Core.Logic.{inl, ⊎-elim}
+use mathlib.Core.Option.{Option, none, some}
 use Prim.Native.Nat.{ℕ}
 use lib.Ieee.{Float}
-use Rattle.spec_lists.specs.Select.{all}
+use Rattle.spec_lists.specs.Select.{all, missing}
 use Rattle.spec_lists.specs.laws.Both.{both}
 use Rattle.spec_lists.specs.laws.Member.{all-member}
 use Rattle.spec_calc.specs.declared.Reading.{Reading}
-use Rattle.spec_calc.specs.declared.Worth.the-variants.{Bad, Is}
 use Rattle.spec_calc.specs.Expression.{Tree, number-tree, letter-tree, minus, negation, binary, choice}
-use Rattle.spec_calc.specs.Value.{heard, reading, value, good, letters, evaluated, finite-throughout, near-one, true-worth, holds}
+use Rattle.spec_calc.specs.Value.{heard, reading, value, good, letters, evaluated, finite-throughout, lowest-bad, worth-by, near-one, true-worth, holds}
 use Rattle.spec_calc.specs.Readings.{Gone-bad}
+use Rattle.spec_calc.specs.laws.Lowest.{lowest-none}
 use Rattle.spec_calc.specs.laws.Evaluated.{minus-throughout, negation-throughout, binary-throughout, choice-throughout}
 
 abbrev all-good : List Reading → List ℕ → Bool
@@ -20,12 +21,14 @@ all-good rs ls = all (λ i. good (reading rs i)) ls
 
 -- true is a calculation whose letters are all good, whose evaluated parts are all finite, and whose value is near one
 pub holds-both : (rs : List Reading) (t : Tree) → holds rs t ≡ all-good rs (letters t) && (finite-throughout rs t && near-one (value rs t))
-holds-both rs t = go (all-good rs (letters t)) (finite-throughout rs t) (value rs t)
+holds-both rs t =
+    go (lowest-bad rs (letters t)) (finite-throughout rs t) (value rs t)
+    ∙ ap (λ (b : Bool). b && (finite-throughout rs t && near-one (value rs t))) (lowest-none (λ i. good (reading rs i)) (letters t))
   where
-    go : (b f : Bool) (x : Float) → true-worth (cond b (cond f (Is x) Bad) Bad) ≡ b && (f && near-one x)
-    go true true x = refl
-    go true false x = refl
-    go false f x = refl
+    go : (o : Option ℕ) (f : Bool) (x : Float) → true-worth (worth-by o f x) ≡ missing o && (f && near-one x)
+    go none true x = refl
+    go none false x = refl
+    go (some i) f x = refl
 
 module _ (rs qs : List Reading) where
   -- each of these letters has the same reading in both
@@ -87,7 +90,8 @@ module _ (rs qs : List Reading) where
   all-agree (i ∷ ls) a = rw (a i (List·Memᴰ·head refl), all-agree ls (λ j m. a j (List·Memᴰ·tail m)))
 
   pub holds-agrees : (t : Tree) → Agree (letters t) → holds rs t ≡ holds qs t
-  holds-agrees t a = rw (all-agree (letters t) a, throughout-agrees t a, value-agrees t a)
+  holds-agrees t a =
+      holds-both rs t ∙ rw (all-agree (letters t) a, throughout-agrees t a, value-agrees t a) (sym (holds-both qs t))
 
   unspoilt : Gone-bad rs qs → (i : ℕ) → good (reading qs i) ≡ true → reading rs i ≡ reading qs i
   unspoilt g i e = ⊎-elim sym (λ b. absurd (true≢false (sym e ∙ b))) (g i)

@@ -9,13 +9,13 @@ use native.Mathlib.Omega.{arith}
 use lib.Dec.{eqb, leb}
 use borrow.Author.Tests.{leb-true, ne-eqb}
 use Rattle.spec_lists.specs.Every.{Every}
-use Rattle.spec_lists.specs.laws.Every.{every-implies, every-take, every-drop, none-first}
+use Rattle.spec_lists.specs.laws.Every.{every-implies, every-take, every-drop, none-first, all-every}
 use Rattle.spec_token.specs.Word.{greatest-letter}
 use Rattle.spec_rule.specs.declared.Access.the-variants as access
+use Rattle.spec_rule.specs.declared.Stop.the-variants.{Nothing}
 use Rattle.spec_rule.specs.Roles.{Roles-fit}
 use Rattle.spec_rule.specs.Question.{Question}
 use Rattle.spec_rule.specs.Answering.{greatest-level, answering}
-use Rattle.spec_rule.specs.laws.Such.{all-every}
 use Rattle.spec_file.specs.Limit.{access-groups, inputs}
 use Rattle.spec_table.specs.View.{view}
 use Rattle.spec_table.specs.Table.{Table, inputs-run, letter-field}
@@ -26,7 +26,7 @@ use Rattle.spec_decision.specs.declared.Answer.{Answer}
 use Rattle.spec_decision.specs.declared.Answer.the-variants.{Answered, NotTable, BadLevel, BadRoles}
 use Rattle.spec_decision.specs.declared.Found.{Found}
 use Rattle.spec_decision.specs.declared.Found.the-variants as found
-use Rattle.spec_decision.specs.Decision.{number, access-in, trap-in, answer-by, rules-for, decide}
+use Rattle.spec_decision.specs.Decision.{number, access-in, trap-in, letter-in, answer-by, rules-for, decide}
 use Rattle.spec_decision.specs.LookUp as found-by
 use Rattle.spec_decision.specs.LookUp.{part-in, input-of, named-part, look-up}
 use Rattle.spec_decision.specs.laws.Answer.{never-no-table, by-level-is, by-roles-is}
@@ -40,16 +40,17 @@ refused-question-numbered b q n e = by (decide b q) e
     by BadLevel h = inr (inl (cc))
     by BadRoles h = inr (inr (cc))
 
--- "NONE, no trap"
+-- "NONE, no trap", and no letter
 pub refused-grants-nothing :
-    (b : List ℕ) (q : Question) (n : ℕ) → number (decide b q) ≡ some n → (access-in (decide b q) ≡ access.None) × (trap-in (decide b q) ≡ false)
+    (b : List ℕ) (q : Question) (n : ℕ) → number (decide b q) ≡ some n
+    → (access-in (decide b q) ≡ access.None) × (trap-in (decide b q) ≡ false) × (letter-in (decide b q) ≡ Nothing)
 refused-grants-nothing b q n e = by (decide b q) e
   where
-    by : (a : Answer) → number a ≡ some n → (access-in a ≡ access.None) × (trap-in a ≡ false)
+    by : (a : Answer) → number a ≡ some n → (access-in a ≡ access.None) × (trap-in a ≡ false) × (letter-in a ≡ Nothing)
     by (Answered d) h = let z : _≡_ {A = ℕ} 0 1 = cc in absurd (omega arith)
-    by NotTable h = (refl, refl)
-    by BadLevel h = (refl, refl)
-    by BadRoles h = (refl, refl)
+    by NotTable h = (refl, refl, refl)
+    by BadLevel h = (refl, refl, refl)
+    by BadRoles h = (refl, refl, refl)
 
 -- 20, 22: "the empty part"
 pub refused-look-up-empty :

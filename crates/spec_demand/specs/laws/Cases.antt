@@ -12,7 +12,7 @@ use Rattle.spec_table.specs.Check.{is-table}
 use Rattle.spec_table.specs.Written.{table-of}
 use Rattle.spec_load.specs.Load.{load}
 use Rattle.spec_decision.specs.Decision.{decide}
-use Rattle.spec_demand.specs.Cases.{Proved-cases, Arithmetic-cases, Role-cases, Group-cases}
+use Rattle.spec_demand.specs.Cases.{Proved-cases, Arithmetic-cases, Role-cases, Group-cases, Letter-cases}
 
 pub proved-cases : Proved-cases
 unfolding load verdict scan table-of layout is-table view decide tree-of run reduce symbols-in value evaluated ne lt le eq add sub mul div neg ofBits ofInt
@@ -95,4 +95,28 @@ group-cases =
       whole-output = refl;
       still-table = refl;
       no-members = refl;
+    }
+
+pub letter-cases : Letter-cases
+unfolding load verdict scan table-of layout is-table view decide tree-of run reduce symbols-in value evaluated ne lt le eq add sub mul div neg ofBits ofInt
+letter-cases =
+    record {
+      not-the-first = refl;
+      not-a-good-one = refl;
+      branch-not-chosen = refl;
+      small-letter = refl;
+      by-arithmetic = refl;
+      letter-before-arithmetic = refl;
+      a-value = refl;
+      first-rule = refl;
+      lower-permission-first = refl;
+      passed-by = refl;
+      no-higher = refl;
+      write-anyway = refl;
+      gives-none = refl;
+      by-user-too = refl;
+      by-host-too = refl;
+      by-level-too = refl;
+      switched-off-too = refl;
+      by-arithmetic-only = refl;
     }

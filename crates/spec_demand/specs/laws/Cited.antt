@@ -1,7 +1,8 @@
 -- The laws that the front page cites, each from the file that proves it.
 pub use Rattle.spec_token.specs.laws.Theorem.{places-ascend, tokens-stand}
 pub use Rattle.spec_calc.specs.laws.Theorem.{parses-sound, parses-complete}
-pub use Rattle.spec_rule.specs.laws.Privilege.{calculation-is}
+pub use Rattle.spec_calc.specs.laws.Worth.{bad-by-is, bad-by-arithmetic-is, comes-to-is}
+pub use Rattle.spec_rule.specs.laws.Asked.{calculation-is}
 pub use Rattle.spec_rule.specs.laws.Finite.{true-finite}
 pub use Rattle.spec_file.specs.laws.Causes.{cause-among, number-at-turn}
 pub use Rattle.spec_file.specs.laws.Either.{acceptable-or-refusable, never-acceptable-and-refusable, one-reading, one-refusal}
@@ -13,16 +14,17 @@ pub use Rattle.spec_table.specs.laws.Size.{table-total}
 pub use Rattle.spec_table.specs.laws.Numbers.{numbers-given}
 pub use Rattle.spec_decision.specs.laws.Refused.{refused-question-numbered, refused-grants-nothing, refused-look-up-empty, not-table-is, bad-level-is, bad-roles-is, letter-over}
 pub use Rattle.spec_decision.specs.laws.Roles.{role-removed}
-pub use Rattle.spec_decision.specs.laws.Privilege.{by-table-is, granted-on-finite-values}
+pub use Rattle.spec_decision.specs.laws.Privilege.{by-table-is, granted-on-finite-values, tells-by-table}
 pub use Rattle.spec_decision.specs.laws.LookUp.{no-table-found-is, part-found-is, no-input-found-is}
 pub use Rattle.spec_edition.specs.laws.Agreement.{edition-gives}
 pub use Rattle.spec_demand.specs.laws.Answered.{refused-load, refused-listing, accepted-listing}
 pub use Rattle.spec_demand.specs.laws.Refusals.{refused-load-numbered, refused-listing-numbered}
 pub use Rattle.spec_demand.specs.laws.Loaded.{refused-call-leaves}
-pub use Rattle.spec_demand.specs.laws.Privilege.{by-file-is, input-is}
+pub use Rattle.spec_demand.specs.laws.Privilege.{by-file-is, tells-by-file, input-is}
+pub use Rattle.spec_demand.specs.laws.Letter.{letter-named}
 pub use Rattle.spec_demand.specs.laws.Exact.{zeros-grant-nothing, laid-down, not-laid-down, stands}
 pub use Rattle.spec_demand.specs.laws.Memory.{never-more}
-pub use Rattle.spec_demand.specs.laws.Cases.{proved-cases, arithmetic-cases, role-cases, group-cases}
+pub use Rattle.spec_demand.specs.laws.Cases.{proved-cases, arithmetic-cases, role-cases, group-cases, letter-cases}
 pub use Rattle.spec_register.specs.laws.Sized.{sized}
 pub use Rattle.spec_register.specs.laws.Rights.{right-answers, answering-readings, free-right, beyond-right, no-table-right}
 pub use Rattle.spec_register.specs.laws.Places.{added-lowest, changed-only, removed-only, client-stays}

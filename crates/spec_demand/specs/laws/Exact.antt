@@ -7,6 +7,7 @@ use lib.ListN.{length, drop, replicate}
 use borrow.Author.Tests.{le-leb, lt-leb}
 use Rattle.spec_grammar.specs.Sentence.{Tagged}
 use Rattle.spec_rule.specs.declared.Access.the-variants as access
+use Rattle.spec_rule.specs.declared.Stop.the-variants.{Nothing}
 use Rattle.spec_rule.specs.Question.{Question}
 use Rattle.spec_file.specs.Contents.{file-of}
 use Rattle.spec_file.specs.Acceptance.{Acceptable}
@@ -19,16 +20,18 @@ use Rattle.spec_table.specs.Layout.{greatest-table}
 use Rattle.spec_table.specs.laws.Accepted.{fits}
 use Rattle.spec_table.specs.laws.Theorem.{is-a-table, table-length, zeros-no-table}
 use Rattle.spec_load.specs.Load.{written, without-room, load}
-use Rattle.spec_decision.specs.Decision.{access-in, trap-in, decide}
+use Rattle.spec_decision.specs.Decision.{access-in, trap-in, letter-in, decide}
 use Rattle.spec_decision.specs.LookUp.{look-up}
 use Rattle.spec_demand.specs.ByFile.{answer-by-file, input-by-file, name-found}
 use Rattle.spec_demand.specs.laws.Inputs.{looked-up}
 use Rattle.spec_demand.specs.Calls.{is-accepted}
 use Rattle.spec_demand.specs.laws.Loaded.{stored, decided}
 
-pub zeros-grant-nothing : (n : ℕ) (q : Question) → (access-in (decide (replicate n 0) q) ≡ access.None) × (trap-in (decide (replicate n 0) q) ≡ false)
+pub zeros-grant-nothing :
+    (n : ℕ) (q : Question)
+    → let a = decide (replicate n 0) q in (access-in a ≡ access.None) × (trap-in a ≡ false) × (letter-in a ≡ Nothing)
 unfolding decide
-zeros-grant-nothing n q = rw (zeros-no-table n) (refl, refl)
+zeros-grant-nothing n q = rw (zeros-no-table n) (refl, refl, refl)
 
 pub laid-down : (lent s : List ℕ) (xs : List Tagged) → Acceptable s xs → length (table-of (file-of xs)) ≤ length lent → load lent s ≡ written lent xs
 unfolding load

@@ -9,22 +9,26 @@ use lib.Dec.{eqb}
 use Rattle.spec_lists.specs.Select.{first}
 use Rattle.spec_grammar.specs.Sentence.{Tagged}
 use Rattle.spec_rule.specs.declared.Decision.{Decision}
-use Rattle.spec_rule.specs.Question.{Question, Valid}
+use Rattle.spec_rule.specs.declared.Stop.the-variants.{Letter}
+use Rattle.spec_rule.specs.Question.{Question, Valid, reading-instead}
+use Rattle.spec_rule.specs.Letter.{Tells}
 use Rattle.spec_rule.specs.Decision.{decision-by}
 use Rattle.spec_rule.specs.laws.Privilege.{determined-is}
+use Rattle.spec_rule.specs.laws.Mended.{tells}
 use Rattle.spec_file.specs.Contents.{File, file-of}
 use Rattle.spec_file.specs.Meaning.{rule-in}
 use Rattle.spec_file.specs.Acceptance.{Acceptable}
+use Rattle.spec_edition.specs.Machine.{rules-later}
 use Rattle.spec_table.specs.Written.{table-of}
 use Rattle.spec_decision.specs.declared.Answer.the-variants.{Answered}
 use Rattle.spec_decision.specs.declared.Found.{Found}
 use Rattle.spec_decision.specs.declared.Found.the-variants.{Part, NotTable, NoInput}
-use Rattle.spec_decision.specs.Decision.{decide}
+use Rattle.spec_decision.specs.Decision.{access-in, decide}
 use Rattle.spec_decision.specs.LookUp.{number, part-in, look-up, Names-input}
 use Rattle.spec_decision.specs.Privilege.{By-file}
+use Rattle.spec_decision.specs.laws.Privilege.{answered-too}
 use Rattle.spec_decision.specs.laws.LookUp.{first-input-is}
 use Rattle.spec_decision.specs.laws.Answer.{by-rules-is}
-use Rattle.spec_edition.specs.Machine.{rules-later}
 use Rattle.spec_demand.specs.ByFile.{rules-by-file, answer-by-file, inputs-in, input-by-file, name-found}
 use Rattle.spec_demand.specs.laws.Exact.{answers-by-file, inputs-by-file}
 
@@ -44,6 +48,27 @@ by-file-is s xs a rest q d =
     let e = answers-by-file s xs a rest q in
     let i = answer-is (file-of xs) q d in
     (λ h. i .0 (sym e ∙ h), λ h. e ∙ i .1 h)
+
+-- ---- the letter
+
+pub tells-by-file :
+    (s : List ℕ) (xs : List Tagged) → Acceptable s xs → (rest : List ℕ) (q : Question) (d : Decision) (i : ℕ)
+    → let b = table-of (file-of xs) ++ rest in
+    decide b q ≡ Answered d → d .letter ≡ Letter i
+    → Tells (λ a. a .name) (λ a. map (rule-in (file-of xs)) (a .rules)) (file-of xs .asgs) q d i (λ rs. access-in (decide b (reading-instead q rs)))
+tells-by-file s xs a rest q d i e l =
+    let b = table-of (file-of xs) ++ rest in
+    tells
+    (λ g. g .name)
+    (λ g. map (rule-in (file-of xs)) (g .rules))
+    (file-of xs .asgs)
+    q
+    (by-file-is s xs a rest q d .0 e .1)
+    l
+    (λ rs. access-in (decide b (reading-instead q rs)))
+    (λ rs.
+    let o = answered-too b q e rs in
+    (o .0, by-file-is s xs a rest (reading-instead q rs) (o .0) .0 (o .1) .1, ap access-in (o .1)))
 
 -- ---- the look-up
 

@@ -6,7 +6,7 @@ use mathlib.Core.Logic.{_↔_}
 use mathlib.Core.Option.{Option, none, some}
 use Rattle.spec_lists.specs.Select.{all}
 use Rattle.spec_lists.specs.laws.Both.{both}
-use Rattle.spec_lists.specs.laws.Every.{every-all}
+use Rattle.spec_lists.specs.laws.Every.{every-all, all-every}
 use Rattle.spec_grammar.specs.Sentence.{Tagged}
 use Rattle.spec_rule.specs.declared.Access.{Access}
 use Rattle.spec_rule.specs.declared.Access.the-variants as access
@@ -14,9 +14,9 @@ use Rattle.spec_rule.specs.Question.{Question, Valid, valid}
 use Rattle.spec_rule.specs.Rule.{asks}
 use Rattle.spec_rule.specs.Answering.{answering}
 use Rattle.spec_rule.specs.Privilege.{Some, Answers, Greatest}
-use Rattle.spec_rule.specs.laws.Such.{all-every}
 use Rattle.spec_rule.specs.laws.Roles.{valid-is}
-use Rattle.spec_rule.specs.laws.Privilege.{asks-is, greatest-is, one-greatest, answering-is}
+use Rattle.spec_rule.specs.laws.Asked.{asks-is}
+use Rattle.spec_rule.specs.laws.Privilege.{greatest-is, one-greatest, answering-is}
 use Rattle.spec_file.specs.Contents.{Rule-text, Asg, File, file-of}
 use Rattle.spec_file.specs.Meaning.{rule-in}
 use Rattle.spec_edition.specs.Edition.{Edition, Passes-later, Later, refused, by-group, by-no-group}

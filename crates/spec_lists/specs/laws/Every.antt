@@ -7,6 +7,7 @@ use Prim.Native.Nat.{ℕ, zero, suc}
 use lib.ListN.{take, drop, getD}
 use Rattle.spec_lists.specs.Select.{all, select, prepend-if, first, first-if, run, keep-if, joined}
 use Rattle.spec_lists.specs.Every.{Every, nil, cons, First}
+use Rattle.spec_lists.specs.laws.Both.{both}
 
 module _ {A : Type 0} where
   pub every : {P : A → Type 0} → ((x : A) → P x) → (xs : List A) → Every P xs
@@ -51,6 +52,10 @@ module _ {A : Type 0} where
   pub every-all : (p : A → Bool) {xs : List A} → Every (λ x. p x ≡ true) xs → all p xs ≡ true
   every-all p nil = refl
   every-all p (cons e c) = rw (e, every-all p c)
+
+  pub all-every : (p : A → Bool) (xs : List A) → all p xs ≡ true → Every (λ x. p x ≡ true) xs
+  all-every p [] e = nil
+  all-every p (x ∷ xs) e = let h = both (p x) (all p xs) e in cons (h .0) (all-every p xs (h .1))
 
   -- of two lists, one behind the other
   pub all-append : (p : A → Bool) (xs ys : List A) → all p (xs ++ ys) ≡ all p xs && all p ys

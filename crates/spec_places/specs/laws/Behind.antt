@@ -15,6 +15,7 @@ use Rattle.spec_rule.specs.Rule.{Rule, stands}
 use Rattle.spec_rule.specs.Decision.{decision-by}
 use Rattle.spec_rule.specs.Answering.{named, answering}
 use Rattle.spec_rule.specs.Kept.{bit}
+use Rattle.spec_rule.specs.Number.{decision-number}
 use Rattle.spec_file.specs.Limit.{access-groups}
 use Rattle.spec_table.specs.Layout.{Content}
 use Rattle.spec_table.specs.View.{view}
@@ -30,7 +31,7 @@ use Rattle.spec_register.specs.declared.Changed.the-variants as changed
 use Rattle.spec_register.specs.Register.{Client, most-clients, letters}
 use Rattle.spec_register.specs.Refusal.{no-input, add-refusal, change-refusal, set-refusal}
 use Rattle.spec_register.specs.Calls.{Call, add, change, remove, set-reading, load-again, unless, client-added, rights-changed, added-at, changed-or}
-use Rattle.spec_places.specs.Storage.{Lent, lent, at-place, client-bytes, kept-at, nothing-kept, right-code, standing-in, readings-in}
+use Rattle.spec_places.specs.Storage.{Lent, lent, at-place, client-bytes, kept-at, nothing-kept, standing-in, readings-in}
 use Rattle.spec_places.specs.Writing.{asked, rules-at, kept-by, kept, entered, each, kept-right, renewed, state-of}
 use Rattle.spec_places.specs.Calls.{is-register, free-in, differing-in, with-reading-in, told-added, places-added, told-changed, places-changed, left, told}
 
@@ -61,7 +62,7 @@ module _ (t u : List ℕ) (same-test : is-table t ≡ is-table u) (same-view : v
   kept-by-same rs c none = refl
   kept-by-same rs c (some i) =
       ap
-      (λ (rules : List Rule). suc i ∷ right-code (decision-by (asked c (rs i)) rules) ∷ map (λ r. bit (stands (asked c (rs i)) r)) rules)
+      (λ (rules : List Rule). suc i ∷ decision-number (decision-by (asked c (rs i)) rules) ∷ map (λ r. bit (stands (asked c (rs i)) r)) rules)
       (rules-same i)
 
   kept-same : (rs : ℕ → List Reading) (c : Client) → kept t rs c ≡ kept u rs c

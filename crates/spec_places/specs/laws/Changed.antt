@@ -1,19 +1,18 @@
 -- The changed places as bits: of a call that writes one place, and of one that goes over all.
 use mathlib.Core.Path.{_≡_, refl, sym, ap, ap₂, _∙_}
 use mathlib.Core.Logic.{_≢_}
-use mathlib.Core.Bool.{Bool, true, false, not, _||_}
+use mathlib.Core.Bool.{Bool, true, false}
 use mathlib.Core.List.{List, map}
 use Prim.Native.Nat.{ℕ, zero, suc, _+_, _-_, _*_, _%_, _^_, _≤_, _<_}
 use native.Mathlib.Nat.{zero-add, add-zero, pow-suc, zero-mul}
 use native.Mathlib.Omega.{arith}
 use lib.ListN.{length}
 use lib.Pow.{shl-exact, pow-mono}
-use borrow.Author.Tests.{eq-eqb}
 use Rattle.spec_rule.specs.declared.Decision.{Decision}
-use Rattle.spec_rule.specs.Rule.{rank}
 use Rattle.spec_rule.specs.Kept.{bit}
 use Rattle.spec_register.specs.Register.{most-clients}
 use Rattle.spec_register.specs.Right.{bits, from, differ}
+use Rattle.spec_register.specs.laws.Changed.{differ-self}
 use Rattle.spec_places.specs.Storage.{right-in}
 use Rattle.spec_places.specs.Writing.{each}
 use Rattle.spec_places.specs.Calls.{differing-in}
@@ -22,12 +21,7 @@ use Rattle.spec_places.specs.laws.Frame.{Local}
 use Rattle.spec_places.specs.laws.Each.{own-same, right-each}
 
 pub differ-same : (d e : Decision) → d ≡ e → differ d e ≡ false
-differ-same d e x =
-    ap (differ d) (sym x)
-    ∙ ap₂
-    (λ (y z : Bool). not y || not z)
-    (eq-eqb (rank (d .access)) (rank (d .access)) refl)
-    (eq-eqb (bit (d .trap)) (bit (d .trap)) refl)
+differ-same d e x = ap (differ d) (sym x) ∙ differ-self d
 
 -- ---- bits
 

@@ -2,7 +2,7 @@
 use mathlib.Core.Path.{_≡_, refl, sym, ap, ap₂, _∙_}
 use mathlib.Core.Logic.{_≢_}
 use mathlib.Core.Bool.{Bool, true, false, cond}
-use mathlib.Core.List.{List, [], _∷_, map}
+use mathlib.Core.List.{List, [], _∷_}
 use mathlib.Core.Option.{Option, none, some}
 use Prim.Native.Nat.{ℕ, suc, _+_, _≤_}
 use native.Mathlib.Nat.{add-zero}
@@ -13,11 +13,11 @@ use lib.Seq.{sets, length-sets}
 use borrow.Author.Tests.{leb-true, leb-false}
 use Rattle.spec_lists.specs.laws.Sets.{part-sets, part-sets-before, part-sets-behind}
 use Rattle.spec_calc.specs.declared.Reading.{Reading}
-use Rattle.spec_rule.specs.Rule.{calculation-holds}
-use Rattle.spec_rule.specs.Kept.{kept-decision}
+use Rattle.spec_rule.specs.Kept.{kept-decision, outcome-bytes}
+use Rattle.spec_rule.specs.Number.{decision-number}
 use Rattle.spec_table.specs.Check.{is-table}
 use Rattle.spec_register.specs.Register.{Client, never-heard}
-use Rattle.spec_places.specs.Storage.{place-bytes, at-place, kept-at, client-bytes, nothing-kept, client-in, right-code}
+use Rattle.spec_places.specs.Storage.{place-bytes, at-place, kept-at, client-bytes, nothing-kept, client-in}
 use Rattle.spec_places.specs.Writing.{rules-at, kept, entered, freed, kept-right, renewed, settled-client, settled}
 use Rattle.spec_places.specs.laws.Fits.{Fits, client-length, kept-length, rules-length}
 use Rattle.spec_places.specs.laws.Records.{record-run, record-at, client-by-record, kept-by-record, kept-part-by-record}
@@ -115,5 +115,5 @@ renewed-local t i rs h =
     code : (b : List ℕ) (p : ℕ) → kept-right (rules-at t i) rs b p ≡ kept-right (rules-at t i) rs (record-at p b) 0
     code b p =
         ap
-        (λ (ks : List ℕ). right-code (kept-decision ks (map (λ r. calculation-holds rs (r .calculation)) (rules-at t i)) (rules-at t i)))
+        (λ (ks : List ℕ). decision-number (kept-decision ks (outcome-bytes rs (rules-at t i)) (rules-at t i)))
         (kept-part-by-record b p 2 (length (rules-at t i)) (omega (arith, rules-length t i h)))

@@ -1,31 +1,29 @@
 -- The access group of a number has the rules that a question of its name goes by, so a right is decided by the number alone.
-use mathlib.Core.Path.{_≡_, refl, sym, ap, subst, _∙_}
+use mathlib.Core.Path.{_≡_, refl, sym, ap, _∙_}
 use mathlib.Core.Bool.{Bool, true, false}
 use mathlib.Core.List.{List, []}
 use mathlib.Core.Option.{Option, none, some, Option·map}
 use Prim.Native.Nat.{ℕ, _<_}
 use lib.ListN.{getD}
 use Rattle.spec_calc.specs.declared.Reading.{Reading}
-use Rattle.spec_rule.specs.declared.Access.{Access}
-use Rattle.spec_rule.specs.declared.Access.the-variants as access
-use Rattle.spec_rule.specs.declared.Decision.{Decision}
 use Rattle.spec_rule.specs.Roles.{roles-fit}
 use Rattle.spec_rule.specs.Question.{Question}
 use Rattle.spec_rule.specs.Rule.{Rule}
-use Rattle.spec_rule.specs.Decision.{with-trap, no-access, decision-by, then}
+use Rattle.spec_rule.specs.Decision.{no-access, decision-by}
 use Rattle.spec_rule.specs.Answering.{a-level}
-use Rattle.spec_rule.specs.laws.Decision.{then-no-access}
+use Rattle.spec_rule.specs.Number.{decision-from, decision-number}
+use Rattle.spec_rule.specs.laws.Number.{decision-again, decision-known}
 use Rattle.spec_file.specs.Limit.{access-groups, most}
 use Rattle.spec_table.specs.View.{view}
 use Rattle.spec_table.specs.Check.{is-table}
 use Rattle.spec_table.specs.Policy.{rules-of}
-use Rattle.spec_decision.specs.Decision.{rules-in, rules-for, decide}
+use Rattle.spec_decision.specs.Decision.{decision-in, rules-in, rules-for, decide}
 use Rattle.spec_decision.specs.Groups.{Numbered, group-answering, answering-number}
 use Rattle.spec_decision.specs.laws.Groups.{answering-stands, answering-row}
 use Rattle.spec_register.specs.Register.{Client, Register, readings-at}
-use Rattle.spec_register.specs.Right.{readings-of, question-now, decided}
+use Rattle.spec_register.specs.Right.{readings-of, question-now}
 use Rattle.spec_register.specs.laws.Input.{number-few}
-use Rattle.spec_places.specs.Storage.{nothing-kept, right-code, decoded}
+use Rattle.spec_places.specs.Storage.{nothing-kept}
 use Rattle.spec_places.specs.Writing.{rules-at, asked, kept-by, kept}
 
 -- ---- the rules of a number
@@ -46,27 +44,19 @@ rules-numbered t n =
 
 -- ---- the decision
 
--- the code of what rules give is read again: they set a trap only with WRITE
-pub decoded-code : (q : Question) (rules : List Rule) → decoded (right-code (decision-by q rules)) ≡ decision-by q rules
-decoded-code q rules =
-    let d = decision-by q rules in
-    subst (λ (v : Decision). decoded (right-code v) ≡ v) (then-no-access q rules) (go (d .access) (d .trap))
-  where
-    go : (a : Access) (t : Bool) → decoded (right-code (then (with-trap a t) no-access)) ≡ then (with-trap a t) no-access
-    go access.None t = refl
-    go access.Read t = refl
-    go access.Write true = refl
-    go access.Write false = refl
+-- the number of what rules give is read again
+pub decision-read : (q : Question) (rules : List Rule) → decision-from (decision-number (decision-by q rules)) ≡ decision-by q rules
+decision-read q rules = decision-again (decision-by q rules) (decision-known q rules)
 
 -- a table answers a question that asks for a level, with roles that fit, by the rules of the answering group's number
 pub decided-by :
     (t : List ℕ) (q : Question) → is-table t ≡ true → a-level (q .level) ≡ true → roles-fit (q .roles) ≡ true
-    → decided (decide t q) ≡ decision-by q (rules-by t (answering-number t (q .group)))
+    → decision-in (decide t q) ≡ decision-by q (rules-by t (answering-number t (q .group)))
 unfolding decide
 decided-by t q i a f = rw (i, a, f) (ap (decision-by q) (rules-numbered t (q .group)))
 
 -- bytes that are no table refuse it
-pub undecided : (t : List ℕ) (q : Question) → is-table t ≡ false → decided (decide t q) ≡ no-access
+pub undecided : (t : List ℕ) (q : Question) → is-table t ≡ false → decision-in (decide t q) ≡ no-access
 unfolding decide
 undecided t q i = rw i
 
@@ -102,7 +92,7 @@ kept-agrees t c rs qs e = by (keeps t c)
 pub kept-decides :
     (t : List ℕ) (r : Register) (rs : ℕ → List Reading) (c : Client) → a-level (c .level) ≡ true
     → ((i : ℕ) → i < most access-groups → rs i ≡ readings-at r i)
-    → decoded (getD (kept t rs c) 1 0) ≡ decided (decide t (question-now t r c))
+    → decision-from (getD (kept t rs c) 1 0) ≡ decision-in (decide t (question-now t r c))
 kept-decides t r rs c a same-readings = on (is-table t) refl
   where
     number-of : Option Numbered → Option ℕ
@@ -110,15 +100,15 @@ kept-decides t r rs c a same-readings = on (is-table t) refl
 
     by :
         is-table t ≡ true → (o : Option Numbered) → group-answering t (c .group) ≡ o
-        → decoded (getD (kept-by t rs c (number-of o)) 1 0) ≡ decision-by (asked c (readings-of r (number-of o))) (rules-by t (number-of o))
+        → decision-from (getD (kept-by t rs c (number-of o)) 1 0) ≡ decision-by (asked c (readings-of r (number-of o))) (rules-by t (number-of o))
     by i none e = refl
     by i (some g) e =
         let n = g .number in
-        decoded-code (asked c (rs n)) (rules-at t n)
+        decision-read (asked c (rs n)) (rules-at t n)
         ∙ ap
         (λ (x : List Reading). decision-by (asked c x) (rules-at t n))
         (same-readings n (number-few t g i (answering-stands t (c .group) g e)))
 
-    on : (b : Bool) → is-table t ≡ b → decoded (getD (kept t rs c) 1 0) ≡ decided (decide t (question-now t r c))
+    on : (b : Bool) → is-table t ≡ b → decision-from (getD (kept t rs c) 1 0) ≡ decision-in (decide t (question-now t r c))
     on true i = rw i (by i (group-answering t (c .group)) refl ∙ sym (decided-by t (question-now t r c) i a refl))
     on false i = rw i (sym (undecided t (question-now t r c) i))

@@ -17,10 +17,11 @@ use Rattle.spec_lists.specs.laws.Sets.{getD-sets, getD-sets-before, part-set, p
 use Rattle.spec_calc.specs.declared.Reading.{Reading}
 use Rattle.spec_rule.specs.Kept.{says-stands}
 use Rattle.spec_rule.specs.Decision.{no-access}
+use Rattle.spec_rule.specs.Number.{decision-from}
 use Rattle.spec_file.specs.Limit.{longest-name}
 use Rattle.spec_register.specs.Register.{Client, most-clients, never-heard}
 use Rattle.spec_places.specs.Storage.{place-bytes, places-bytes, at-place, kept-at, client-bytes, nothing-kept, length-at, client-from, client-in}
-use Rattle.spec_places.specs.Storage.{decoded, right-in}
+use Rattle.spec_places.specs.Storage.{right-in}
 use Rattle.spec_places.specs.Writing.{rules-at, kept, entered, freed, kept-right, renewed, settled-client, settled}
 use Rattle.spec_places.specs.laws.Fits.{Fits, client-length, kept-length, kept-least}
 use Rattle.spec_places.specs.laws.Records.{record-at, record-length, kept-run, client-by-record, client-by-front, right-read}
@@ -98,12 +99,12 @@ module _ (b : List ℕ) (p : ℕ) (h : places-bytes ≤ length b) (l : p < most-
 
   code-written :
       (vs ws : List ℕ) → 2 ≤ length ws → length ws ≤ 258
-      → right-in (sets (sets b (at-place p) vs) (kept-at p) ws) p ≡ decoded (getD ws 1 0)
+      → right-in (sets (sets b (at-place p) vs) (kept-at p) ws) p ≡ decision-from (getD ws 1 0)
   code-written vs ws k m =
       let s = sets b (at-place p) vs in
       let n = length-sets b (at-place p) vs in
       right-read (sets s (kept-at p) ws) p (omega (arith, length-sets s (kept-at p) ws)) l
-      ∙ ap decoded (getD-sets ws s (kept-at p) 1 0 (omega arith) (omega arith))
+      ∙ ap decision-from (getD-sets ws s (kept-at p) 1 0 (omega arith) (omega arith))
 
   -- ---- entered
 
@@ -117,7 +118,7 @@ module _ (b : List ℕ) (p : ℕ) (h : places-bytes ≤ length b) (l : p < most-
     pub kept-entered : part (kept-run p (length (kept t rs c))) (entered t rs b p c) ≡ kept t rs c
     kept-entered = kept-written (client-bytes c) (kept t rs c) (kept-length t rs c)
 
-    pub right-entered : right-in (entered t rs b p c) p ≡ decoded (getD (kept t rs c) 1 0)
+    pub right-entered : right-in (entered t rs b p c) p ≡ decision-from (getD (kept t rs c) 1 0)
     right-entered = code-written (client-bytes c) (kept t rs c) (kept-least t rs c) (kept-length t rs c)
 
   -- ---- freed
@@ -146,12 +147,12 @@ module _ (b : List ℕ) (p : ℕ) (h : places-bytes ≤ length b) (l : p < most-
       ∙ part-sets-all ks b (kept-at p) (omega (arith, kept-length t (λ i. never-heard) c))
 
   pub right-settled :
-      (t : List ℕ) (c : Client) → client-in b p ≡ some c → right-in (settled t b p) p ≡ decoded (getD (kept t (λ i. never-heard) c) 1 0)
+      (t : List ℕ) (c : Client) → client-in b p ≡ some c → right-in (settled t b p) p ≡ decision-from (getD (kept t (λ i. never-heard) c) 1 0)
   right-settled t c e =
       let ks = kept t (λ i. never-heard) c in
       ap (λ (o : Option Client). right-in (settled-client t b p o) p) e
       ∙ right-read (sets b (kept-at p) ks) p (omega (arith, length-sets b (kept-at p) ks)) l
-      ∙ ap decoded (getD-sets ks b (kept-at p) 1 0 (omega (arith, kept-length t (λ i. never-heard) c)) (omega (arith, kept-least t (λ i. never-heard) c)))
+      ∙ ap decision-from (getD-sets ks b (kept-at p) 1 0 (omega (arith, kept-length t (λ i. never-heard) c)) (omega (arith, kept-least t (λ i. never-heard) c)))
 
   -- ---- renewed
 
@@ -164,12 +165,12 @@ module _ (b : List ℕ) (p : ℕ) (h : places-bytes ≤ length b) (l : p < most-
 
   pub right-renewed :
       (t : List ℕ) (i : ℕ) (rs : List Reading) → getD b (kept-at p) 0 ≡ suc i
-      → right-in (renewed t i rs b p) p ≡ decoded (kept-right (rules-at t i) rs b p)
+      → right-in (renewed t i rs b p) p ≡ decision-from (kept-right (rules-at t i) rs b p)
   right-renewed t i rs e =
       let v = kept-right (rules-at t i) rs b p in
       rw
       (eq-eqb (getD b (kept-at p) 0) (suc i) e)
-      (right-read (set b (kept-at p + 1) v) p (omega (arith, length-set b (kept-at p + 1) v)) l ∙ ap decoded (getD-set-same b (kept-at p + 1) v 0 (omega arith)))
+      (right-read (set b (kept-at p + 1) v) p (omega (arith, length-set b (kept-at p + 1) v)) l ∙ ap decision-from (getD-set-same b (kept-at p + 1) v 0 (omega arith)))
 
 module _ (t : List ℕ) (b : List ℕ) (p : ℕ) where
   -- a place that is free is left as it is

@@ -12,11 +12,12 @@ use borrow.Author.Tests.{le-leb, lt-leb}
 use Rattle.spec_lists.specs.Runs.{Run, part}
 use Rattle.spec_rule.specs.Kept.{says-stands}
 use Rattle.spec_rule.specs.Decision.{no-access}
+use Rattle.spec_rule.specs.Number.{decision-from}
 use Rattle.spec_rule.specs.laws.Walk.{part-at, part-count}
 use Rattle.spec_file.specs.Limit.{longest-name}
 use Rattle.spec_table.specs.laws.Fields.{part-part}
 use Rattle.spec_register.specs.Register.{Client, most-clients}
-use Rattle.spec_places.specs.Storage.{place-bytes, places-bytes, at-place, kept-at, length-at, names-at, client-from, client-in, decoded}
+use Rattle.spec_places.specs.Storage.{place-bytes, places-bytes, at-place, kept-at, length-at, names-at, client-from, client-in}
 use Rattle.spec_places.specs.Storage.{are-places, right-in}
 
 -- where a place's record stands
@@ -97,10 +98,10 @@ kept-part-by-record b q i n h =
 
 -- ---- its right
 
-pub right-read : (b : List ℕ) (q : ℕ) → places-bytes ≤ length b → q < most-clients → right-in b q ≡ decoded (getD b (kept-at q + 1) 0)
+pub right-read : (b : List ℕ) (q : ℕ) → places-bytes ≤ length b → q < most-clients → right-in b q ≡ decision-from (getD b (kept-at q + 1) 0)
 right-read b q h l =
     ap₂
-    (λ (x y : Bool). cond (x && y) (decoded (getD b (kept-at q + 1) 0)) no-access)
+    (λ (x y : Bool). cond (x && y) (decision-from (getD b (kept-at q + 1) 0)) no-access)
     (le-leb places-bytes (length b) h)
     (le-leb (suc q) most-clients l)
 
@@ -108,7 +109,7 @@ right-read b q h l =
 pub right-beyond : (b : List ℕ) (q : ℕ) → most-clients ≤ q → right-in b q ≡ no-access
 right-beyond b q h = rw (lt-leb (suc q) most-clients (omega arith)) (go (are-places b))
   where
-    go : (t : Bool) → cond (t && false) (decoded (getD b (kept-at q + 1) 0)) no-access ≡ no-access
+    go : (t : Bool) → cond (t && false) (decision-from (getD b (kept-at q + 1) 0)) no-access ≡ no-access
     go true = refl
     go false = refl
 
@@ -127,8 +128,8 @@ module _ (b c : List ℕ) (q : ℕ) (e : record-at q b ≡ record-at q c) where
   pub number-same : getD b (kept-at q) 0 ≡ getD c (kept-at q) 0
   number-same = byte-same 185 (omega arith)
 
-  pub code-same : getD b (kept-at q + 1) 0 ≡ getD c (kept-at q + 1) 0
-  code-same = kept-byte-same 1 (omega arith)
+  pub decision-same : getD b (kept-at q + 1) 0 ≡ getD c (kept-at q + 1) 0
+  decision-same = kept-byte-same 1 (omega arith)
 
   pub kept-part-same : (i n : ℕ) → i + n ≤ 263 → part (record { first = kept-at q + i; count = n }) b ≡ part (record { first = kept-at q + i; count = n }) c
   kept-part-same i n h =
@@ -141,4 +142,4 @@ module _ (b c : List ℕ) (q : ℕ) (e : record-at q b ≡ record-at q c) where
 
   pub right-same : length b ≡ length c → right-in b q ≡ right-in c q
   right-same l =
-      ap₂ (λ (m k : ℕ). cond (leb places-bytes m && leb (suc q) most-clients) (decoded k) no-access) l code-same
+      ap₂ (λ (m k : ℕ). cond (leb places-bytes m && leb (suc q) most-clients) (decision-from k) no-access) l decision-same

@@ -16,6 +16,7 @@ use Rattle.spec_lists.specs.laws.Both.{both}
 use Rattle.spec_calc.specs.declared.Reading.{Reading}
 use Rattle.spec_rule.specs.Kept.{says-stands}
 use Rattle.spec_rule.specs.Answering.{greatest-level}
+use Rattle.spec_rule.specs.Number.{decision-from}
 use Rattle.spec_rule.specs.laws.Walk.{part-at}
 use Rattle.spec_file.specs.Limit.{access-groups, most}
 use Rattle.spec_register.specs.Register.{Client, most-clients, letters, never-heard, empty, readings-at}
@@ -23,7 +24,7 @@ use Rattle.spec_register.specs.Right.{right-of, right}
 use Rattle.spec_register.specs.laws.Sized.{at-replicate}
 use Rattle.spec_register.specs.laws.From.{given-at, given-beyond, given-one}
 use Rattle.spec_places.specs.Storage.{Lent, zeroed, places-bytes, all-readings, are-places, kept-at, nothing-kept, client-in, clients-in, readings-in}
-use Rattle.spec_places.specs.Storage.{register-in, decoded, right-in, at-place, client-from}
+use Rattle.spec_places.specs.Storage.{register-in, right-in, at-place, client-from}
 use Rattle.spec_places.specs.Writing.{kept}
 use Rattle.spec_places.specs.Calls.{are-states, are-values, is-register}
 use Rattle.spec_places.specs.laws.Fits.{Fits, kept-least}
@@ -122,7 +123,7 @@ module _ (s : Lent) (h : Settled s) where
 
       of-client :
           (o : Option Client) → ((c : Client) → o ≡ some c → Fits c)
-          → decoded (getD (kept-for (s .table) rs o) 1 0) ≡ right-of (s .table) (register-in s) o
+          → decision-from (getD (kept-for (s .table) rs o) 1 0) ≡ right-of (s .table) (register-in s) o
       of-client none f = refl
       of-client (some c) f = kept-decides (s .table) (register-in s) rs c (le-leb (c .level) greatest-level (f c refl .level)) readings-stand
 
@@ -132,7 +133,7 @@ module _ (s : Lent) (h : Settled s) where
           let q = h .places p l in
           rw
           (has-places s (h .room), le-leb (suc p) most-clients l)
-          (ap decoded (code-kept (s .table) rs (s .places) p q)
+          (ap decision-from (code-kept (s .table) rs (s .places) p q)
           ∙ of-client o (q .fits)
           ∙ ap (right-of (s .table) (register-in s)) (sym (client-of-place (s .places) p l)))
       by (no n) =

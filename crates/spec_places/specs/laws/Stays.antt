@@ -10,14 +10,15 @@ use lib.ListN.{length, getD, set, length-map}
 use lib.Seq.{take-all}
 use Rattle.spec_lists.specs.Runs.{part}
 use Rattle.spec_calc.specs.declared.Reading.{Reading}
-use Rattle.spec_rule.specs.Rule.{stands, calculation-holds}
+use Rattle.spec_rule.specs.Rule.{stands}
 use Rattle.spec_rule.specs.Decision.{decision-by}
-use Rattle.spec_rule.specs.Kept.{bit, kept-decision}
+use Rattle.spec_rule.specs.Kept.{bit, kept-decision, outcome-bytes}
+use Rattle.spec_rule.specs.Number.{decision-number}
 use Rattle.spec_rule.specs.laws.Kept.{kept-is}
 use Rattle.spec_file.specs.Limit.{access-groups, most}
 use Rattle.spec_table.specs.laws.Fields.{part-part}
 use Rattle.spec_register.specs.Register.{Client, most-clients, never-heard}
-use Rattle.spec_places.specs.Storage.{places-bytes, kept-at, client-in, right-code}
+use Rattle.spec_places.specs.Storage.{places-bytes, kept-at, client-in}
 use Rattle.spec_places.specs.Writing.{rules-at, asked, kept-by, kept, kept-right, renewed, settled}
 use Rattle.spec_places.specs.laws.Fits.{kept-length}
 use Rattle.spec_places.specs.laws.Numbers.{Keeps, nothing, of-group, keeps, kept-agrees}
@@ -92,12 +93,12 @@ module _ (t : List ℕ) (i : ℕ) (rs qs : ℕ → List Reading) (c : Client) (b
 
   right-renewed :
       part (kept-run q (length (kept-by t rs c (some i)))) b ≡ kept-by t rs c (some i)
-      → kept-right (rules-at t i) (qs i) b q ≡ right-code (decision-by (asked c (qs i)) (rules-at t i))
+      → kept-right (rules-at t i) (qs i) b q ≡ decision-number (decision-by (asked c (qs i)) (rules-at t i))
   right-renewed h =
       ap
-      (λ (ks : List ℕ). right-code (kept-decision ks (map (λ r. calculation-holds (qs i) (r .calculation)) (rules-at t i)) (rules-at t i)))
+      (λ (ks : List ℕ). decision-number (kept-decision ks (outcome-bytes (qs i) (rules-at t i)) (rules-at t i)))
       (bits-kept h)
-      ∙ ap right-code (kept-is (asked c (qs i)) (rules-at t i))
+      ∙ ap decision-number (kept-is (asked c (qs i)) (rules-at t i))
 
 module _ (t : List ℕ) (i : ℕ) (rs qs : ℕ → List Reading) (others : (k : ℕ) → k ≢ i → qs k ≡ rs k) (b : List ℕ) (q : ℕ) (s : Place-settled t rs b q) where
   abbrev after : List ℕ
@@ -149,7 +150,7 @@ module _ (t : List ℕ) (i : ℕ) (rs qs : ℕ → List Reading) (others : (k : 
               (λ x. z (omega (arith, n)))
               (k rs
               ∙ ap
-              (λ (x : List Reading). suc j ∷ right-code (decision-by (asked c x) (rules-at t j)) ∷ map (λ r. bit (stands (asked c x) r)) (rules-at t j))
+              (λ (x : List Reading). suc j ∷ decision-number (decision-by (asked c x) (rules-at t j)) ∷ map (λ r. bit (stands (asked c x) r)) (rules-at t j))
               (sym (others j z))
               ∙ sym (k qs))
 

@@ -1,6 +1,6 @@
 -- The bits that a call answers are set exactly at the places whose right it changed.
 use mathlib.Core.Path.{_≡_, refl, sym, ap, ap₂, _∙_}
-use mathlib.Core.Bool.{Bool, true, false, not, false≢true}
+use mathlib.Core.Bool.{Bool, true, false, not, _||_, false≢true}
 use mathlib.Core.List.{List, [], _∷_, map}
 use mathlib.Core.Logic.{_↔_}
 use mathlib.Core.Option.{Option, none, some}
@@ -11,9 +11,11 @@ use lib.ListN.{getD}
 use borrow.Author.Tests.{eqb-true, eq-eqb, not-false}
 use Rattle.spec_lists.specs.laws.Both.{neither}
 use Rattle.spec_rule.specs.declared.Access.{Access}
+use Rattle.spec_rule.specs.declared.Stop.{Stop}
+use Rattle.spec_rule.specs.declared.Stop.the-variants.{Nothing, Letter}
 use Rattle.spec_rule.specs.declared.Decision.{Decision}
 use Rattle.spec_rule.specs.Rule.{rank}
-use Rattle.spec_rule.specs.Decision.{with-trap}
+use Rattle.spec_rule.specs.Decision.{with-letter}
 use Rattle.spec_rule.specs.Kept.{bit}
 use Rattle.spec_file.specs.Refusal as text
 use Rattle.spec_table.specs.Policy.{permission}
@@ -23,7 +25,7 @@ use Rattle.spec_load.specs.declared.Loaded.the-variants as loaded
 use Rattle.spec_load.specs.Load.{load}
 use Rattle.spec_register.specs.declared.Refused.{Refused}
 use Rattle.spec_register.specs.Register.{most-clients}
-use Rattle.spec_register.specs.Right.{bits, places, differ, differing}
+use Rattle.spec_register.specs.Right.{bits, places, same-letter, differ, differing}
 use Rattle.spec_register.specs.Refusal.{number, add-refusal, change-refusal, remove-refusal, set-refusal, lowest-free}
 use Rattle.spec_register.specs.Calls.{Gateway, Call, add, change, remove, set-reading, load-again, after, right-at, changed-by, client-added}
 use Rattle.spec_register.specs.Calls.{rights-changed, table-loaded, added-at, changed-or, reloaded-as, answer, refusal-of}
@@ -42,17 +44,31 @@ one-bit true false e = absurd (omega arith)
 one-bit false true e = absurd (omega arith)
 one-bit false false e = refl
 
+one-letter : (s u : Stop) → same-letter s u ≡ true → s ≡ u
+one-letter Nothing Nothing e = refl
+one-letter Nothing (Letter j) e = absurd (false≢true e)
+one-letter (Letter i) Nothing e = absurd (false≢true e)
+one-letter (Letter i) (Letter j) e = ap Letter (eqb-true i j e)
+
+letter-self : (s : Stop) → same-letter s s ≡ true
+letter-self Nothing = refl
+letter-self (Letter i) = eq-eqb i i refl
+
 alike : (d e : Decision) → differ d e ≡ false → d ≡ e
 alike d e f =
     let a = eqb (rank (d .access)) (rank (e .access)) in
     let t = eqb (bit (d .trap)) (bit (e .trap)) in
-    let h = neither (not a) (not t) f in
-    ap₂ with-trap
+    let l = same-letter (d .letter) (e .letter) in
+    let h = neither (not a) (not t || not l) f in
+    let k = neither (not t) (not l) (h .1) in
+    ap₂
+    (λ (x : Access) (y : Bool). with-letter x y (d .letter))
     (one-rank (d .access) (e .access) (eqb-true (rank (d .access)) (rank (e .access)) (not-false a (h .0))))
-    (one-bit (d .trap) (e .trap) (eqb-true (bit (d .trap)) (bit (e .trap)) (not-false t (h .1))))
+    (one-bit (d .trap) (e .trap) (eqb-true (bit (d .trap)) (bit (e .trap)) (not-false t (k .0))))
+    ∙ ap (with-letter (e .access) (e .trap)) (one-letter (d .letter) (e .letter) (not-false l (k .1)))
 
-differ-self : (d : Decision) → differ d d ≡ false
-differ-self d = rw (eq-eqb (rank (d .access)) (rank (d .access)) refl, eq-eqb (bit (d .trap)) (bit (d .trap)) refl)
+pub differ-self : (d : Decision) → differ d d ≡ false
+differ-self d = rw (eq-eqb (rank (d .access)) (rank (d .access)) refl, eq-eqb (bit (d .trap)) (bit (d .trap)) refl, letter-self (d .letter))
 
 pub differ-is : (d e : Decision) → (differ d e ≡ true) ↔ (d ≡ e → ⊥)
 differ-is d e = (λ t s. false≢true (sym (differ-self d) ∙ ap (differ d) s ∙ t), λ n. by (differ d e) refl n)

@@ -9,8 +9,7 @@ use lib.Dec.{eqb, leb}
 use borrow.Author.Tests.{leb-true, eqb-true}
 use Rattle.spec_lists.specs.Every.{Every, nil, cons}
 use Rattle.spec_lists.specs.Select.{any, first-if}
-use Rattle.spec_lists.specs.laws.Every.{every-implies, every-take, every-drop}
-use Rattle.spec_rule.specs.laws.Such.{all-every}
+use Rattle.spec_lists.specs.laws.Every.{every-implies, every-take, every-drop, all-every}
 use Rattle.spec_file.specs.Limit.{access-groups, inputs, most}
 use Rattle.spec_table.specs.View.{view}
 use Rattle.spec_table.specs.Table.{inputs-run, letter-field}

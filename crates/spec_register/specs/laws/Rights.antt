@@ -19,7 +19,7 @@ use Rattle.spec_rule.specs.laws.Privilege.{answering-is}
 use Rattle.spec_table.specs.Table.{Table}
 use Rattle.spec_decision.specs.declared.Answer.{Answer}
 use Rattle.spec_decision.specs.declared.Answer.the-variants.{Answered, NotTable, BadLevel, BadRoles}
-use Rattle.spec_decision.specs.Decision.{decide}
+use Rattle.spec_decision.specs.Decision.{decision-in, decide}
 use Rattle.spec_decision.specs.Groups.{Numbered, groups-of, group-name, group-named}
 use Rattle.spec_decision.specs.laws.Refused.{not-table-is, bad-level-is, bad-roles-is}
 use Rattle.spec_load.specs.declared.Loaded.{Loaded}
@@ -27,7 +27,7 @@ use Rattle.spec_load.specs.declared.Loaded.the-variants as loaded
 use Rattle.spec_load.specs.Load.{load}
 use Rattle.spec_register.specs.declared.Refused.{Refused}
 use Rattle.spec_register.specs.Register.{Client, Register, most-clients, client-at, readings-at, with-client}
-use Rattle.spec_register.specs.Right.{question-now, decided, right-of}
+use Rattle.spec_register.specs.Right.{question-now, right-of}
 use Rattle.spec_register.specs.Refusal.{add-refusal, change-refusal, remove-refusal, set-refusal, lowest-free}
 use Rattle.spec_register.specs.Calls.{Gateway, Call, add, change, remove, set-reading}
 use Rattle.spec_register.specs.Calls.{load-again, unless, reading-set, after-load, after, after-calls, right-at}
@@ -64,7 +64,7 @@ module _ (g : Gateway) (p : ℕ) where
     where
       by : (o : Option Client) → right-of (g .table) (g .register) o ≡ no-access
       by none = refl
-      by (some c) = ap decided (not-table-is (g .table) (question-now (g .table) (g .register) c) .1 n)
+      by (some c) = ap decision-in (not-table-is (g .table) (question-now (g .table) (g .register) c) .1 n)
 
 -- ---- every standing client may ask
 

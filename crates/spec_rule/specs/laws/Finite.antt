@@ -14,7 +14,7 @@ use Rattle.spec_rule.specs.Question.{Question}
 use Rattle.spec_rule.specs.Rule.{Rule, calculation-holds}
 use Rattle.spec_rule.specs.Privilege.{Some, here, further, Answers, Yields-true, Gives, Greatest, Determined, by-group, by-no-group}
 use Rattle.spec_rule.specs.Finite.{Finite-values, Gives-on-finite-values}
-use Rattle.spec_rule.specs.laws.Privilege.{calculation-is}
+use Rattle.spec_rule.specs.laws.Asked.{calculation-is}
 
 yields-finite : (rs : List Reading) (s : List ℕ) → Yields-true rs s → Finite-values rs s
 yields-finite rs s y t p = subst (Finite-parts rs) (one-tree s (y .tree) t (y .says) p) (y .parts)

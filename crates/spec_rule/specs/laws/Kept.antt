@@ -1,69 +1,80 @@
--- The kept bytes and the truths give what the rules give; and a walk over them, rule by rule.
+-- The kept bytes and what the calculations come to give what the rules give; and a walk over them, rule by rule.
 use mathlib.Core.Path.{_≡_, refl, sym, ap, ap₂, _∙_}
-use mathlib.Core.Bool.{Bool, true, false, cond, _&&_}
+use mathlib.Core.Bool.{Bool, true, false, cond}
 use mathlib.Core.List.{List, [], _∷_}
+use mathlib.Core.Option.{Option}
 use Prim.Native.Nat.{ℕ, zero, suc, _≤_}
 use native.Mathlib.Omega.{arith}
 use lib.ListN.{length, take}
 use lib.Seq.{take-nil}
-use Rattle.spec_rule.specs.declared.Decision.{Decision}
+use borrow.Author.Tests.{le-leb}
+use Rattle.spec_calc.specs.declared.Reading.{Reading}
+use Rattle.spec_rule.specs.declared.Outcome.{Outcome}
+use Rattle.spec_rule.specs.declared.Outcome.the-variants as outcomes
+use Rattle.spec_rule.specs.declared.Verdict.{Verdict}
 use Rattle.spec_rule.specs.Question.{Question}
-use Rattle.spec_rule.specs.Rule.{Rule, calculation-holds, passes, stands}
-use Rattle.spec_rule.specs.Decision.{no-access, granted, decision-by, then}
-use Rattle.spec_rule.specs.Kept.{bit, stand-bits, truths, says-stands, by-kept, kept-decision}
-use Rattle.spec_rule.specs.laws.Passing.{passes-stands}
-use Rattle.spec_rule.specs.laws.Decision.{decision-first, then-associative, granted-alone}
+use Rattle.spec_rule.specs.Rule.{Rule, stands, outcome}
+use Rattle.spec_rule.specs.Decision.{granted, decision-by}
+use Rattle.spec_rule.specs.Verdict.{nothing-given, by-outcome, then, verdict-by, normal, settled}
+use Rattle.spec_rule.specs.Kept.{bit, stand-bits, outcome-byte, byte-outcome, outcome-bytes, says-stands, by-kept, kept-verdict, kept-decision}
+use Rattle.spec_rule.specs.laws.Decision.{verdict-first, decision-settled, turned}
+use Rattle.spec_rule.specs.laws.Stopped.{stopped-small}
 
 pub bit-says : (b : Bool) → says-stands (bit b) ≡ b
 bit-says true = refl
 bit-says false = refl
 
--- which rules stand and which calculations are true is all that a decision needs
-pub kept-is : (q : Question) (rules : List Rule) → kept-decision (stand-bits q rules) (truths (q .readings) rules) rules ≡ decision-by q rules
-kept-is q [] = refl
-kept-is q (r ∷ rs) =
-    let c = calculation-holds (q .readings) (r .calculation) in
-    let one : by-kept (bit (stands q r)) c r ≡ cond (passes q r) (granted r) no-access =
-    ap (λ (b : Bool). cond (b && c) (granted r) no-access) (bit-says (stands q r))
-    ∙ ap (λ (b : Bool). cond b (granted r) no-access) (sym (passes-stands q r)) in
-    ap₂ then one (kept-is q rs) ∙ sym (decision-first q r rs)
+-- what a calculation comes to is read again from its byte: a letter that stops it is one of A to U
+byte-again : (o : Outcome) → ((i : ℕ) → o ≡ outcomes.Stopped i → i ≤ 20) → byte-outcome (outcome-byte o) ≡ o
+byte-again outcomes.True k = refl
+byte-again outcomes.False k = refl
+byte-again (outcomes.Stopped i) k = let z = le-leb i 20 (k i refl) in rw (z, z)
 
--- bytes and truths behind those of the last rule do not count
-pub kept-bytes-enough : (n : ℕ) (ks : List ℕ) (ts : List Bool) (rs : List Rule) → length rs ≤ n → kept-decision (take n ks) ts rs ≡ kept-decision ks ts rs
-kept-bytes-enough n [] ts rs l = ap (λ (x : List ℕ). kept-decision x ts rs) (take-nil n)
-kept-bytes-enough zero (k ∷ ks) [] rs l = refl
-kept-bytes-enough zero (k ∷ ks) (t ∷ ts) [] l = refl
-kept-bytes-enough zero (k ∷ ks) (t ∷ ts) (r ∷ rs) l = absurd (omega arith)
-kept-bytes-enough (suc n) (k ∷ ks) [] rs l = refl
-kept-bytes-enough (suc n) (k ∷ ks) (t ∷ ts) [] l = refl
-kept-bytes-enough (suc n) (k ∷ ks) (t ∷ ts) (r ∷ rs) l = ap (then (by-kept k t r)) (kept-bytes-enough n ks ts rs (omega arith))
+outcome-again : (rs : List Reading) (o : Option (List ℕ)) → byte-outcome (outcome-byte (outcome rs o)) ≡ outcome rs o
+outcome-again rs o = byte-again (outcome rs o) (stopped-small rs o)
 
-pub truths-enough : (n : ℕ) (ks : List ℕ) (ts : List Bool) (rs : List Rule) → length rs ≤ n → kept-decision ks (take n ts) rs ≡ kept-decision ks ts rs
-truths-enough n ks [] rs l = ap (λ (x : List Bool). kept-decision ks x rs) (take-nil n)
-truths-enough n [] (t ∷ ts) rs l = refl
-truths-enough zero (k ∷ ks) (t ∷ ts) [] l = refl
-truths-enough zero (k ∷ ks) (t ∷ ts) (r ∷ rs) l = absurd (omega arith)
-truths-enough (suc n) (k ∷ ks) (t ∷ ts) [] l = refl
-truths-enough (suc n) (k ∷ ks) (t ∷ ts) (r ∷ rs) l = ap (then (by-kept k t r)) (truths-enough n ks ts rs (omega arith))
+-- which rules stand and what their calculations come to is all that a decision needs
+kept-verdict-is : (q : Question) (rules : List Rule) → kept-verdict (stand-bits q rules) (outcome-bytes (q .readings) rules) rules ≡ verdict-by q rules
+kept-verdict-is q [] = refl
+kept-verdict-is q (r ∷ rs) =
+    ap₂
+    then
+    (ap₂ (λ (b : Bool) (x : Outcome). cond b (by-outcome x (granted r)) nothing-given) (bit-says (stands q r)) (outcome-again (q .readings) (r .calculation)))
+    (kept-verdict-is q rs)
+    ∙ sym (verdict-first q r rs)
 
--- ---- rule by rule
+pub kept-is : (q : Question) (rules : List Rule) → kept-decision (stand-bits q rules) (outcome-bytes (q .readings) rules) rules ≡ decision-by q rules
+kept-is q rules = ap settled (kept-verdict-is q rules) ∙ sym (decision-settled q rules)
 
--- a decision that sets a trap only with WRITE
-abbrev pub Settled : Decision → Type 0
-Settled v = then v no-access ≡ v
+-- bytes and outcomes behind those of the last rule do not count
+bytes-enough : (n : ℕ) (ks : List ℕ) (os : List ℕ) (rs : List Rule) → length rs ≤ n → kept-verdict (take n ks) os rs ≡ kept-verdict ks os rs
+bytes-enough n [] os rs l = ap (λ (x : List ℕ). kept-verdict x os rs) (take-nil n)
+bytes-enough zero (k ∷ ks) [] rs l = refl
+bytes-enough zero (k ∷ ks) (o ∷ os) [] l = refl
+bytes-enough zero (k ∷ ks) (o ∷ os) (r ∷ rs) l = absurd (omega arith)
+bytes-enough (suc n) (k ∷ ks) [] rs l = refl
+bytes-enough (suc n) (k ∷ ks) (o ∷ os) [] l = refl
+bytes-enough (suc n) (k ∷ ks) (o ∷ os) (r ∷ rs) l = ap (then (by-kept k o r)) (bytes-enough n ks os rs (omega arith))
 
-by-kept-settled : (k : ℕ) (t : Bool) (r : Rule) → Settled (by-kept k t r)
-by-kept-settled k t r = go (says-stands k && t)
-  where
-    go : (b : Bool) → Settled (cond b (granted r) no-access)
-    go true = granted-alone r
-    go false = refl
+few-enough : (n : ℕ) (ks : List ℕ) (os : List ℕ) (rs : List Rule) → length rs ≤ n → kept-verdict ks (take n os) rs ≡ kept-verdict ks os rs
+few-enough n ks [] rs l = ap (λ (x : List ℕ). kept-verdict ks x rs) (take-nil n)
+few-enough n [] (o ∷ os) rs l = refl
+few-enough zero (k ∷ ks) (o ∷ os) [] l = refl
+few-enough zero (k ∷ ks) (o ∷ os) (r ∷ rs) l = absurd (omega arith)
+few-enough (suc n) (k ∷ ks) (o ∷ os) [] l = refl
+few-enough (suc n) (k ∷ ks) (o ∷ os) (r ∷ rs) l = ap (then (by-kept k o r)) (few-enough n ks os rs (omega arith))
 
-pub more-settled : (v : Decision) (k : ℕ) (t : Bool) (r : Rule) → Settled (then v (by-kept k t r))
-more-settled v k t r = then-associative v (by-kept k t r) no-access ∙ ap (then v) (by-kept-settled k t r)
+module _ (n : ℕ) (ks : List ℕ) (os : List ℕ) (rs : List Rule) (l : length rs ≤ n) where
+  pub kept-bytes-enough : kept-decision (take n ks) os rs ≡ kept-decision ks os rs
+  kept-bytes-enough = ap settled (bytes-enough n ks os rs l)
 
-module _ {ks ls : List ℕ} {ts us : List Bool} {rs ss : List Rule} {k : ℕ} {t : Bool} {r : Rule} where
+  pub outcome-bytes-enough : kept-decision ks (take n os) rs ≡ kept-decision ks os rs
+  outcome-bytes-enough = ap settled (few-enough n ks os rs l)
+
+-- ---- rule by rule: v is what the rules before give
+
+module _ {ks ls : List ℕ} {os us : List ℕ} {rs ss : List Rule} {k : ℕ} {o : ℕ} {r : Rule} where
   pub kept-turn :
-      (v : Decision) → ks ≡ k ∷ ls → ts ≡ t ∷ us → rs ≡ r ∷ ss
-      → then v (kept-decision ks ts rs) ≡ then (then v (by-kept k t r)) (kept-decision ls us ss)
-  kept-turn v e f g = rw (e, f, g) (sym (then-associative v (by-kept k t r) (kept-decision ls us ss)))
+      (v : Verdict) {w : Verdict} → ks ≡ k ∷ ls → os ≡ o ∷ us → rs ≡ r ∷ ss → w ≡ normal (then v (by-kept k o r))
+      → settled (then v (kept-verdict ks os rs)) ≡ settled (then w (kept-verdict ls us ss))
+  kept-turn v e f g h = rw (e, f, g) (turned v (by-kept k o r) (kept-verdict ls us ss) h)

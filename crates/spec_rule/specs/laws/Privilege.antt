@@ -1,125 +1,30 @@
--- What our functions decide is what 001's steps say: a rule passes, the group that answers, the access and the trap.
+-- What our functions decide is what 001's steps say: the access and the trap of the rules that pass, the letter, the group that answers.
 use mathlib.Core.Path.{_≡_, refl, sym, ap, ap₂, subst, _∙_}
-use mathlib.Core.Bool.{Bool, true, false, not, _&&_, false≢true}
+use mathlib.Core.Bool.{Bool, true, false, _&&_, false≢true}
 use mathlib.Core.List.{List, [], _∷_, map}
 use mathlib.Core.Logic.{_↔_, _⊎_, inl, inr}
 use mathlib.Core.Option.{Option, none, some}
 use Prim.Native.Nat.{ℕ}
 use native.Mathlib.Omega.{arith}
-use lib.Dec.{leb}
-use lib.Ieee.{lt}
-use borrow.Author.Tests.{leb-true, le-leb, eqb-true, not-true}
-use Rattle.spec_lists.specs.Text.{same, lowered}
-use Rattle.spec_lists.specs.Select.{all, any, select, prepend-if, first, first-if}
+use borrow.Author.Tests.{eqb-true}
+use Rattle.spec_lists.specs.Text.{same}
+use Rattle.spec_lists.specs.Select.{select, prepend-if, first, first-if}
 use Rattle.spec_lists.specs.laws.Both.{both}
-use Rattle.spec_lists.specs.laws.Same.{same-true, same-self, same-is}
-use Rattle.spec_lists.specs.laws.Every.{every-all}
-use Rattle.spec_calc.specs.declared.Reading.{Reading}
-use Rattle.spec_calc.specs.Expression.{Tree}
-use Rattle.spec_calc.specs.Value.{reading, good, letters, value, finite, evaluated, finite-throughout, lower-bound, upper-bound, near-one}
-use Rattle.spec_calc.specs.Reader.{tree-of}
-use Rattle.spec_calc.specs.laws.Readings.{holds-both}
-use Rattle.spec_calc.specs.laws.Theorem.{parses-sound, parses-complete}
+use Rattle.spec_lists.specs.laws.Same.{same-true, same-self}
 use Rattle.spec_rule.specs.declared.Access.{Access}
 use Rattle.spec_rule.specs.declared.Access.the-variants as access
 use Rattle.spec_rule.specs.declared.Decision.{Decision}
+use Rattle.spec_rule.specs.declared.Stop.{Stop}
+use Rattle.spec_rule.specs.declared.Stop.the-variants.{Nothing, Letter}
 use Rattle.spec_rule.specs.Question.{Question}
-use Rattle.spec_rule.specs.Rule.{Rule, rank, belongs, matches-question, true-tree, calculation-holds, asks, passes, greater, greatest, gives-write, trap-of, trap-by}
-use Rattle.spec_rule.specs.Decision.{with-trap, decision-by}
+use Rattle.spec_rule.specs.Rule.{Rule, rank, passes, greater, greatest, gives-write, trap-of, access-by, trap-by}
+use Rattle.spec_rule.specs.Decision.{with-letter, decision-by}
 use Rattle.spec_rule.specs.Answering.{default-name, named, or-default, answering}
-use Rattle.spec_rule.specs.Privilege.{Some, here, further, First-such, None-named, Answers, by-name, by-default, by-none, Belongs, Yields-true, Asks, Passes}
+use Rattle.spec_rule.specs.Privilege.{Some, here, further, First-such, None-named, Answers, by-name, by-default, by-none, Passes}
 use Rattle.spec_rule.specs.Privilege.{Gives, Greatest, Chosen, Determined, by-group, by-no-group}
-use Rattle.spec_rule.specs.laws.Matching.{matches-client-is}
-use Rattle.spec_rule.specs.laws.Such.{all-every, any-some, some-any, first-such, such-first, no-first, none-such}
-
--- ---- a rule passes
-
-module _ {Matches : List ℕ → Type 0} (matches : List ℕ → Bool) (decides : (m : List ℕ) → (matches m ≡ true) ↔ Matches m) where
-  belongs-sound : (groups : List (List (List ℕ))) → belongs matches groups ≡ true → Belongs Matches groups
-  belongs-sound [] e = inl refl
-  belongs-sound (g ∷ gs) e = inr (any-some (any matches) (λ members. (any-some matches decides members, some-any matches decides)) (g ∷ gs) e)
-
-  belongs-complete : (groups : List (List (List ℕ))) → Belongs Matches groups → belongs matches groups ≡ true
-  belongs-complete [] b = refl
-  belongs-complete (g ∷ gs) (inl e) = let z : _≡_ {A = ℕ} 0 1 = cc in absurd (omega arith)
-  belongs-complete (g ∷ gs) (inr s) = some-any (any matches) (λ members. (any-some matches decides members, some-any matches decides)) s
-
-module _ (rs : List Reading) where
-  yields : (s : List ℕ) → true-tree rs (tree-of s) ≡ true → Yields-true rs s
-  yields s e = go (tree-of s) refl e
-    where
-      go : (o : Option Tree) → tree-of s ≡ o → true-tree rs o ≡ true → Yields-true rs s
-      go none p h = absurd (false≢true h)
-      go (some t) p h =
-          let x = both (all (λ i. good (reading rs i)) (letters t)) (finite-throughout rs t && near-one (value rs t)) (sym (holds-both rs t) ∙ h) in
-          let f = both (finite-throughout rs t) (near-one (value rs t)) (x .1) in
-          let y = both (lt lower-bound (value rs t)) (lt (value rs t) upper-bound) (f .1) in
-          record {
-            tree = t;
-            says = parses-sound s t p;
-            inputs = all-every (λ i. good (reading rs i)) (letters t) (x .0);
-            parts = all-every (λ u. finite (value rs u)) (evaluated rs t) (f .0);
-            above = y .0;
-            below = y .1;
-          }
-
-  calculation-sound : (o : Option (List ℕ)) → calculation-holds rs o ≡ true → (s : List ℕ) → o ≡ some s → Yields-true rs s
-  calculation-sound none e s h = let z : _≡_ {A = ℕ} 0 1 = cc in absurd (omega arith)
-  calculation-sound (some u) e s h = let same : u ≡ s = cc in subst (Yields-true rs) same (yields u e)
-
-  calculation-complete : (o : Option (List ℕ)) → ((s : List ℕ) → o ≡ some s → Yields-true rs s) → calculation-holds rs o ≡ true
-  calculation-complete none f = refl
-  calculation-complete (some s) f =
-      let y = f s refl in
-      rw (
-        parses-complete s (y .tree) (y .says),
-        every-all (λ i. good (reading rs i)) (y .inputs),
-        every-all (λ u. finite (value rs u)) (y .parts),
-        y .above,
-        y .below,
-      )
-
-  pub calculation-is : (s : List ℕ) → (calculation-holds rs (some s) ≡ true) ↔ Yields-true rs s
-  calculation-is s = (λ e. calculation-sound (some s) e s refl, λ y. calculation-complete (some s) (λ u e. let same : s ≡ u = cc in subst (Yields-true rs) same y))
-
-module _ (q : Question) (r : Rule) where
-  asks-sound : asks r q ≡ true → Asks q r
-  asks-sound e =
-      let u = belongs (matches-question q) (r .uags) in
-      let h = belongs (same (lowered (q .host))) (r .hags) in
-      let c = calculation-holds (q .readings) (r .calculation) in
-      let y = both (leb (q .level) (r .level)) (u && (h && c)) e in
-      let z = both u (h && c) (y .1) in
-      let w = both h c (z .1) in
-      record {
-        level = leb-true (q .level) (r .level) (y .0);
-        user = belongs-sound (matches-question q) (matches-client-is (q .user) (q .roles)) (r .uags) (z .0);
-        host = belongs-sound (same (lowered (q .host))) (same-is (lowered (q .host))) (r .hags) (w .0);
-        calculation = calculation-sound (q .readings) (r .calculation) (w .1);
-      }
-
-  asks-complete : Asks q r → asks r q ≡ true
-  asks-complete p =
-      rw (
-        le-leb (q .level) (r .level) (p .level),
-        belongs-complete (matches-question q) (matches-client-is (q .user) (q .roles)) (r .uags) (p .user),
-        belongs-complete (same (lowered (q .host))) (same-is (lowered (q .host))) (r .hags) (p .host),
-        calculation-complete (q .readings) (r .calculation) (p .calculation),
-      )
-
-  pub asks-is : (asks r q ≡ true) ↔ Asks q r
-  asks-is = (asks-sound, asks-complete)
-
-  passes-sound : passes q r ≡ true → Passes q r
-  passes-sound e =
-      let x = both (not (r .switched-off)) (asks r q) e in
-      record { asked = asks-sound (x .1); known = not-true (r .switched-off) (x .0) }
-
-  passes-complete : Passes q r → passes q r ≡ true
-  passes-complete p = rw (p .known) (asks-complete (p .asked))
-
-  pub passes-is : (passes q r ≡ true) ↔ Passes q r
-  passes-is = (passes-sound, passes-complete)
+use Rattle.spec_rule.specs.laws.Asked.{passes-is}
+use Rattle.spec_rule.specs.laws.Stopped.{First-stopped, letter-is}
+use Rattle.spec_rule.specs.laws.Such.{first-such, such-first, no-first, none-such}
 
 -- ---- the access
 
@@ -237,8 +142,8 @@ module _ (q : Question) where
   gives-is r = (
     λ e.
         let h = both (passes q r) (gives-write r) e in
-        (passes-sound q r (h .0), rank-write (r .permission) (eqb-true (rank (r .permission)) (rank access.Write) (h .1))),
-    λ g. rw (passes-complete q r (g .0), g .1),
+        (passes-is q r .0 (h .0), rank-write (r .permission) (eqb-true (rank (r .permission)) (rank access.Write) (h .1))),
+    λ g. rw (passes-is q r .1 (g .0), g .1),
   )
 
   abbrev First-traps : List Rule → Type 0
@@ -262,15 +167,29 @@ module _ (q : Question) where
 
   pub decision-chosen : (rs : List Rule) → Chosen q rs (decision-by q rs)
   decision-chosen rs =
-      record { maximum = greatest-is (Passes q) (λ r. r .permission) (passes q) (passes-is q) rs; trap = (trap-sound rs, trap-complete rs) }
+      record {
+        maximum = greatest-is (Passes q) (λ r. r .permission) (passes q) (passes-is q) rs;
+        trap = (trap-sound rs, trap-complete rs);
+        letter = letter-is q (access-by q rs) rs;
+      }
 
   pub one-chosen : {rs : List Rule} {d e : Decision} → Chosen q rs d → Chosen q rs e → d ≡ e
-  one-chosen {rs = rs} {d = d} {e = e} c k = ap₂ with-trap (one-greatest (c .maximum) (k .maximum)) (by-trap (d .trap) (e .trap) refl refl)
+  one-chosen {rs = rs} {d = d} {e = e} c k =
+      ap₂ (λ (a : Access) (t : Bool). with-letter a t (d .letter)) same-access (by-trap (d .trap) (e .trap) refl refl)
+      ∙ ap (with-letter (e .access) (e .trap)) (by-letter (d .letter) (e .letter) refl refl)
     where
+      same-access : d .access ≡ e .access
+      same-access = one-greatest (c .maximum) (k .maximum)
+
       by-trap : (t u : Bool) → d .trap ≡ t → e .trap ≡ u → d .trap ≡ e .trap
       by-trap true u f g = f ∙ sym (k .trap .1 (c .trap .0 f))
       by-trap false true f g = c .trap .1 (k .trap .0 g) ∙ sym g
       by-trap false false f g = f ∙ sym g
+
+      by-letter : (s u : Stop) → d .letter ≡ s → e .letter ≡ u → d .letter ≡ e .letter
+      by-letter (Letter i) u f g = f ∙ sym (k .letter i .1 (subst (λ (a : Access). First-stopped q a rs i) same-access (c .letter i .0 f)))
+      by-letter Nothing (Letter i) f g = c .letter i .1 (subst (λ (a : Access). First-stopped q a rs i) (sym same-access) (k .letter i .0 g)) ∙ sym g
+      by-letter Nothing Nothing f g = f ∙ sym g
 
 -- ---- the group that answers
 

@@ -12,12 +12,11 @@ use borrow.Author.Tests.{leb-true, le-leb, lt-leb}
 use Rattle.spec_lists.specs.Select.{all, joined, total}
 use Rattle.spec_lists.specs.Every.{Every, nil, cons}
 use Rattle.spec_lists.specs.laws.Both.{both}
-use Rattle.spec_lists.specs.laws.Every.{every-implies, every-all}
+use Rattle.spec_lists.specs.laws.Every.{every-implies, every-all, all-every}
 use Rattle.spec_lists.specs.laws.Sums.{sum-total, length-joined}
 use Rattle.spec_rule.specs.Answering.{greatest-level, a-level}
 use Rattle.spec_rule.specs.Roles.{most-roles, longest-role, Roles-fit, roles-fit, cut-roles, lent-roles}
 use Rattle.spec_rule.specs.Question.{Question, with-roles, Valid, valid}
-use Rattle.spec_rule.specs.laws.Such.{all-every}
 
 pub roles-fit-is : (roles : List (List ℕ)) → (roles-fit roles ≡ true) ↔ Roles-fit roles
 roles-fit-is roles = (sound, complete)

@@ -4,15 +4,10 @@ use mathlib.Core.Bool.{Bool, true, false, _||_, false≢true}
 use mathlib.Core.List.{List, [], _∷_, _++_}
 use mathlib.Core.Logic.{_↔_}
 use mathlib.Core.Option.{none, some}
-use Rattle.spec_lists.specs.Select.{all, any, first}
-use Rattle.spec_lists.specs.Every.{Every, nil, cons}
-use Rattle.spec_lists.specs.laws.Both.{both}
+use Rattle.spec_lists.specs.Select.{any, first}
+use Rattle.spec_lists.specs.Every.{Every, cons}
 use Rattle.spec_lists.specs.laws.Every.{every-implies, first-none, none-first, first-is}
 use Rattle.spec_rule.specs.Privilege.{Some, here, further, First-such}
-
-pub all-every : {A : Type 0} (p : A → Bool) (xs : List A) → all p xs ≡ true → Every (λ x. p x ≡ true) xs
-all-every p [] e = nil
-all-every p (x ∷ xs) e = let h = both (p x) (all p xs) e in cons (h .0) (all-every p xs (h .1))
 
 module _ {A : Type 0} {P : A → Type 0} (p : A → Bool) (decides : (x : A) → (p x ≡ true) ↔ P x) where
   fails : (x : A) → p x ≡ false → P x → ⊥

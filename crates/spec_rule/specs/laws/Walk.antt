@@ -1,13 +1,13 @@
 -- Walking a list by index: what is left of it is what is to do.
-use mathlib.Core.Path.{_≡_, refl, sym, ap, _∙_}
+use mathlib.Core.Path.{_≡_, sym, ap, _∙_}
 use mathlib.Core.Bool.{Bool, true, false, _||_}
-use mathlib.Core.List.{List, [], _∷_, _++_, map, append-nil}
-use mathlib.Core.Option.{Option, none, some}
+use mathlib.Core.List.{List, [], _∷_, map}
+use mathlib.Core.Option.{some}
 use Prim.Native.Nat.{ℕ, suc, _+_, _≤_, _<_}
 use native.Mathlib.Omega.{arith}
 use native.Mathlib.Numerals.{add-one}
-use lib.ListN.{length, take, drop, set, getD, length-take, length-drop, drop-of-length-le, take-append-drop}
-use lib.Seq.{drop-cons, getD-take, getD-drop, take-add, sets}
+use lib.ListN.{length, drop, set, getD, length-take, length-drop, drop-of-length-le}
+use lib.Seq.{drop-cons, getD-take, getD-drop, sets}
 use Rattle.spec_lists.specs.Select.{any, first}
 use Rattle.spec_lists.specs.Runs.{Run, part}
 use Rattle.spec_lists.specs.laws.Joined.{map-drop}
@@ -68,19 +68,6 @@ module _ {A B : Type 0} (f : A → B) where
 
   pub read-end : (r : Run) (xs : List A) (k : ℕ) → r .count ≤ k → drop k (map f (part r xs)) ≡ []
   read-end r xs k l = mapped-end (part r xs) k (part-end r xs k l)
-
-  -- what was read so far, and one more; all of it
-  pub taken-on :
-      (r : Run) (xs : List A) (d : A) (k : ℕ) → r .first + r .count ≤ length xs → k < r .count
-      → take (k + 1) (map f (part r xs)) ≡ take k (map f (part r xs)) ++ (f (getD xs (r .first + k) d) ∷ [])
-  taken-on r xs d k h l =
-      take-add k 1 (map f (part r xs)) ∙ ap (λ (l : List B). take k (map f (part r xs)) ++ take 1 l) (read-on r xs d k h l)
-
-  pub taken-all : (r : Run) (xs : List A) (k : ℕ) → r .count ≤ k → take k (map f (part r xs)) ≡ map f (part r xs)
-  taken-all r xs k l =
-      sym (append-nil (take k (map f (part r xs))))
-      ∙ ap (λ (l : List B). take k (map f (part r xs)) ++ l) (sym (read-end r xs k l))
-      ∙ take-append-drop k (map f (part r xs))
 
 -- a loop over a run that the code knows as s and n
 module _ {A B : Type 0} (p : B → Bool) (f : A → B) (r : Run) (xs : List A) (d : A) where

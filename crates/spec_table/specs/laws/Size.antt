@@ -11,7 +11,7 @@ use Rattle.spec_lists.specs.Select.{all, total}
 use Rattle.spec_lists.specs.Runs.{Run}
 use Rattle.spec_lists.specs.Every.{Every, nil, cons}
 use Rattle.spec_lists.specs.laws.Both.{both}
-use Rattle.spec_rule.specs.laws.Such.{all-every}
+use Rattle.spec_lists.specs.laws.Every.{all-every}
 use Rattle.spec_file.specs.Limit.{Section, user-groups, host-groups, members, access-groups, inputs, rules, references, most, most-bytes}
 use Rattle.spec_table.specs.Layout.{sections, form, header-bytes, greatest-table}
 use Rattle.spec_table.specs.View.{form-of, total-of, extents, view}

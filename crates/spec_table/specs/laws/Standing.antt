@@ -1,6 +1,6 @@
 -- What holds of each record of a table: its name, its runs and its numbers lie in their sections.
-use mathlib.Core.Path.{_≡_, refl, sym, ap, _∙_}
-use mathlib.Core.Bool.{Bool, true, false, not, _&&_, _||_, false≢true}
+use mathlib.Core.Path.{_≡_, refl, subst}
+use mathlib.Core.Bool.{Bool, true, false, not, _&&_, _||_}
 use mathlib.Core.List.{List, [], _∷_, _++_, map}
 use mathlib.Core.Logic.{_⊎_, ⊎-elim, inl, inr}
 use Prim.Native.Nat.{ℕ, zero, suc, _+_, _≤_, _<_}
@@ -8,7 +8,7 @@ use native.Mathlib.Omega.{arith}
 use lib.Dec.{eqb, leb, ltb}
 use lib.ListN.{length, getD, length-append, List·getD-append}
 use lib.Seq.{getD-append-add}
-use borrow.Author.Tests.{leb-true, ltb-true, eqb-true}
+use borrow.Author.Tests.{leb-true, ltb-true, eqb-true, not-true}
 use Rattle.spec_lists.specs.Select.{all, joined, missing}
 use Rattle.spec_lists.specs.Runs.{Run, part}
 use Rattle.spec_lists.specs.laws.Runs.{Within}
@@ -139,6 +139,16 @@ module _ (c : Content) (w : well-formed c ≡ true) where
       (length (c .strings))
       (both (leb (r .first + r .count) (length (c .strings))) (leb (r .count) longest-calculation) (both f m e .0) .0))
       (either (no-calculation r) (f && m) (rule-clauses i l .0))
+
+  -- a calculation that a rule has is one
+  pub calculation-there :
+      (i : ℕ) → i < length (c .records rules) → let r = calculation-run (row c rules i) in
+      no-calculation r ≡ false → missing (tree-of (part r (c .strings))) ≡ false
+  calculation-there i l n =
+      let r = calculation-run (row c rules i) in
+      let f = string-fits c longest-calculation r in
+      let m = missing (tree-of (part r (c .strings))) in
+      not-true m (both f (not m) (subst (λ (b : Bool). b || f && not m ≡ true) n (rule-clauses i l .0)) .1)
 
   pub name-within : (s : Section) (i : ℕ) → i < length (c .records s) → Within (length (c .strings)) (name-run s (row c s i))
   name-within =

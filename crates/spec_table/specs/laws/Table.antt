@@ -9,11 +9,10 @@ use Rattle.spec_lists.specs.Select.{all, missing}
 use Rattle.spec_lists.specs.Runs.{Run, part}
 use Rattle.spec_lists.specs.Every.{Every, nil, cons}
 use Rattle.spec_lists.specs.laws.Both.{both}
-use Rattle.spec_lists.specs.laws.Every.{every-all, every-implies}
+use Rattle.spec_lists.specs.laws.Every.{every-all, every-implies, all-every}
 use Rattle.spec_calc.specs.Expression.{Tree}
 use Rattle.spec_calc.specs.Reader.{tree-of}
 use Rattle.spec_calc.specs.laws.Theorem.{parses-sound, parses-complete}
-use Rattle.spec_rule.specs.laws.Such.{all-every}
 use Rattle.spec_file.specs.Limit.{user-groups, host-groups, rules, longest-calculation}
 use Rattle.spec_table.specs.Layout.{Content}
 use Rattle.spec_table.specs.View.{view}
