@@ -3,6 +3,7 @@ use spec_calc::Reading;
 use spec_decision::Answer;
 use spec_rule::Access;
 use spec_rule::Decision;
+use spec_rule::Stop;
 use table_read::Index;
 use table_read::Section;
 ghost use mathlib.Core.Path.{_≡_};
@@ -40,10 +41,7 @@ fn decision_of_group(
 {
     let start = table_read::field(table, Section::AccessGroups, group, 4);
     let n = table_read::field(table, Section::AccessGroups, group, 5);
-    let mut so_far = Decision {
-        access: Access::None,
-        trap: false,
-    };
+    let mut so_far = ask_grant::nothing_given();
     let mut i = 0;
     while i < n {
         so_far = ask_rule::with_rule(
@@ -60,7 +58,7 @@ fn decision_of_group(
         );
         i += 1;
     }
-    so_far
+    ask_grant::settled(so_far)
 }
 
 // The answer to a question on a table that was checked before: only the answering group's rules are tried.
@@ -88,6 +86,7 @@ pub fn decide_checked(
         Index::Missing => Answer::Answered(Decision {
             access: Access::None,
             trap: false,
+            letter: Stop::Nothing,
         }),
         Index::At(i) => {
             let h = calc_inputs::inputs_of(rs);

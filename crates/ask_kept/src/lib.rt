@@ -1,6 +1,7 @@
-// An access group's decision in two parts: which of its rules stand for a client, kept as bytes, and whose calculations are true.
-use spec_rule::Access;
+// An access group's decision in two parts: which of its rules stand for a client, kept as bytes, and what their calculations come to.
 use spec_rule::Decision;
+use spec_rule::Outcome;
+use spec_rule::Verdict;
 use table_read::Section;
 ghost use mathlib.Core.Path.{_≡_};
 ghost use mathlib.Core.List.{[]};
@@ -8,7 +9,7 @@ ghost use Prim.Native.Nat.{_+_, _≤_};
 ghost use lib.ListN.{length};
 ghost use lib.Seq.{sets};
 ghost use Rattle.spec_rule.specs.Rule.{stands};
-ghost use Rattle.spec_rule.specs.Kept.{bit};
+ghost use Rattle.spec_rule.specs.Kept.{bit, outcome-byte, byte-outcome};
 ghost use Rattle.spec_file.specs.Limit.{access-groups, rules, most};
 ghost use Rattle.table_read.specs.Stored.{Stored};
 ghost use Rattle.ask_rule.specs.Rules.{rule-at, question};
@@ -51,67 +52,85 @@ pub fn keep(
     }
 }
 
-// Writes whose calculations are true: a truth for each rule of an access group, in order. Inner: a caller knows the group as for
+// What a calculation comes to, as a byte.
+fn byte_of(o: Outcome) -> u8
+    ensures { λ r. ⌜ r ≡ outcome-byte o ⌝ }
+{
+    match o {
+        Outcome::False => 0,
+        Outcome::True => 1,
+        Outcome::Stopped(i) => { if i <= 20 { i + 2 } else { 0 } }
+    }
+}
+
+fn outcome_of(n: u8) -> Outcome
+    ensures { λ r. ⌜ r ≡ byte-outcome n ⌝ }
+{
+    if n == 0 {
+        return Outcome::False;
+    }
+    if n == 1 {
+        return Outcome::True;
+    }
+    if n <= 22 {
+        Outcome::Stopped(n - 2)
+    } else {
+        Outcome::False
+    }
+}
+
+// Writes what the calculations come to: a byte for each rule of an access group, in order. Inner: a caller knows the group as for
 // keep, and has 21 values.
 pub fn calculate(
     table: &[u8],
     group: usize,
     values: &[f64; 21],
     goods: &[bool; 21],
-    truths: &mut [bool; 256],
+    outcomes: &mut [u8; 256],
 )
     requires { ⌜ Stored (now table) access-groups group × (length (now values) ≡ 21) ⌝ }
-    ensures { λ r. ⌜ Calculated (now (table .entry)) group (now (values .entry)) (now (goods .entry)) (now (truths .entry)) (now (truths .exit)) ⌝ }
+    ensures { λ r. ⌜ Calculated (now (table .entry)) group (now (values .entry)) (now (goods .entry)) (now (outcomes .entry)) (now (outcomes .exit)) ⌝ }
 {
     let start = table_read::field(table, Section::AccessGroups, group, 4);
     let n = table_read::field(table, Section::AccessGroups, group, 5);
     let mut i = 0;
     while i < n {
-        truths[i] = ask_rule::calculation_true(table, start + i, values, goods);
+        outcomes[i] = byte_of(ask_rule::calculation_outcome(table, start + i, values, goods));
         i += 1;
     }
 }
 
-// What earlier rules and one more give, by its kept byte and its calculation's truth. These are tested first: most rules fail them.
-fn with_kept(table: &[u8], rule: usize, k: u8, t: bool, earlier: Decision) -> Decision
+// What earlier rules and one more give, by its kept byte and the byte of what its calculation comes to.
+fn with_kept(table: &[u8], rule: usize, k: u8, o: u8, earlier: Verdict) -> Verdict
     requires { ⌜ Stored (now table) rules rule ⌝ }
-    ensures { λ r. ⌜ With-kept (now (table .entry)) rule k t earlier r ⌝ }
+    ensures { λ r. ⌜ With-kept (now (table .entry)) rule k o earlier r ⌝ }
 {
     if k == 0 {
         return earlier; // does not stand
     }
-    if !t {
-        return earlier; // its calculation is false
-    }
     let offered = ask_grant::granted_by(table_read::field(table, Section::Rules, rule, 0));
-    if ask_grant::is_at_least(earlier, offered) {
-        return earlier;
-    }
-    offered
+    ask_grant::with_outcome(earlier, offered, outcome_of(o))
 }
 
-// What the rules of an access group give, by the kept bytes and the truths: no member is compared, no calculation run.
-// Inner: a caller knows the group and has kept bytes as for keep, and has 256 truths, as calculate leaves them.
+// What the rules of an access group give, by both bytes of each: no member is compared, no calculation run.
+// Inner: a caller knows the group and has kept bytes as for keep, and has 256 outcomes, as calculate leaves them.
 pub fn kept_decision(
     table: &[u8],
     group: usize,
     kept: &[u8],
     at: usize,
-    truths: &[bool; 256],
+    outcomes: &[u8; 256],
 ) -> Decision
-    requires { ⌜ Stored (now table) access-groups group × (at + most rules ≤ length (now kept)) × (most rules ≤ length (now truths)) ⌝ }
-    ensures { λ r. ⌜ r ≡ decision-kept (now (table .entry)) group (now (kept .entry)) at (now (truths .entry)) ⌝ }
+    requires { ⌜ Stored (now table) access-groups group × (at + most rules ≤ length (now kept)) × (most rules ≤ length (now outcomes)) ⌝ }
+    ensures { λ r. ⌜ r ≡ decision-kept (now (table .entry)) group (now (kept .entry)) at (now (outcomes .entry)) ⌝ }
 {
     let start = table_read::field(table, Section::AccessGroups, group, 4);
     let n = table_read::field(table, Section::AccessGroups, group, 5);
-    let mut so_far = Decision {
-        access: Access::None,
-        trap: false,
-    };
+    let mut so_far = ask_grant::nothing_given();
     let mut i = 0;
     while i < n {
-        so_far = with_kept(table, start + i, kept[at + i], truths[i], so_far);
+        so_far = with_kept(table, start + i, kept[at + i], outcomes[i], so_far);
         i += 1;
     }
-    so_far
+    ask_grant::settled(so_far)
 }

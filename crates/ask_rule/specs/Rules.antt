@@ -1,15 +1,16 @@
--- One rule of a table and a question: whether it passes, and what it gives.
+-- One rule of a table and a question: what its calculation comes to, and what it gives.
 use mathlib.Core.Path.{_≡_}
 use mathlib.Core.Bool.{Bool}
-use mathlib.Core.List.{List, [], _∷_, _++_, map}
+use mathlib.Core.List.{List, [], map}
 use Prim.Native.Nat.{ℕ}
 use lib.Ieee.{Float}
 use Rattle.spec_calc.specs.declared.Reading.{Reading}
 use Rattle.spec_calc.specs.Value.{heard, good}
-use Rattle.spec_rule.specs.declared.Decision.{Decision}
+use Rattle.spec_rule.specs.declared.Outcome.{Outcome}
+use Rattle.spec_rule.specs.declared.Verdict.{Verdict}
 use Rattle.spec_rule.specs.Question.{Question, question-of, with-roles}
-use Rattle.spec_rule.specs.Rule.{Rule, calculation-holds, passes}
-use Rattle.spec_rule.specs.Decision.{decision-by}
+use Rattle.spec_rule.specs.Rule.{Rule, outcome}
+use Rattle.spec_rule.specs.Verdict.{by-rule, then, normal}
 use Rattle.spec_file.specs.Limit.{rules}
 use Rattle.spec_table.specs.View.{view}
 use Rattle.spec_table.specs.Policy.{rule-of, row}
@@ -28,18 +29,12 @@ Inputs-are values goods rs = (values ≡ map heard rs) × (goods ≡ map good rs
 
 -- ---- of every question whose readings have these values
 
--- whether the calculation of the i-th rule is true
-abbrev pub Calculates : List ℕ → ℕ → List Float → List Bool → Bool → Type 0
+-- what the calculation of the i-th rule comes to
+abbrev pub Calculates : List ℕ → ℕ → List Float → List Bool → Outcome → Type 0
 Calculates b i values goods r =
-    (rs : List Reading) → Inputs-are values goods rs → r ≡ calculation-holds rs (rule-at b i .calculation)
+    (rs : List Reading) → Inputs-are values goods rs → r ≡ outcome rs (rule-at b i .calculation)
 
--- whether the i-th rule passes
-abbrev pub Passes : List ℕ → ℕ → List ℕ → List ℕ → List (List ℕ) → ℕ → List Float → List Bool → Bool → Type 0
-Passes b i user host roles level values goods r =
-    (rs : List Reading) → Inputs-are values goods rs → r ≡ passes (question user host roles level rs) (rule-at b i)
-
--- what the i-th rule gives behind others that give the decision d
-abbrev pub With-rule : List ℕ → ℕ → List ℕ → List ℕ → List (List ℕ) → ℕ → List Float → List Bool → Decision → Decision → Type 0
-With-rule b i user host roles level values goods d r =
-    (rs : List Reading) → Inputs-are values goods rs → (others : List Rule) → d ≡ decision-by (question user host roles level rs) others
-    → r ≡ decision-by (question user host roles level rs) (others ++ (rule-at b i ∷ []))
+-- what the i-th rule gives behind others that give the verdict v, in which what its access has passed is forgotten
+abbrev pub With-rule : List ℕ → ℕ → List ℕ → List ℕ → List (List ℕ) → ℕ → List Float → List Bool → Verdict → Verdict → Type 0
+With-rule b i user host roles level values goods v r =
+    (rs : List Reading) → Inputs-are values goods rs → normal v ≡ v → r ≡ normal (then v (by-rule (question user host roles level rs) (rule-at b i)))

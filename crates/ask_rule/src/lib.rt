@@ -1,6 +1,7 @@
 // One rule of a checked table and a question: members, level, calculation.
 use ask_member::GroupKind;
-use spec_rule::Decision;
+use spec_rule::Outcome;
+use spec_rule::Verdict;
 use table_read::Section;
 ghost use mathlib.Core.Path.{_≡_};
 ghost use mathlib.Core.List.{[]};
@@ -9,19 +10,24 @@ ghost use Rattle.spec_rule.specs.Roles.{cut-roles};
 ghost use Rattle.spec_rule.specs.Rule.{stands};
 ghost use Rattle.spec_file.specs.Limit.{rules};
 ghost use Rattle.table_read.specs.Stored.{Stored};
-ghost use Rattle.ask_rule.specs.Rules.{rule-at, question, Calculates, Passes, With-rule};
+ghost use Rattle.ask_rule.specs.Rules.{rule-at, question, Calculates, With-rule};
 
-// Whether a rule's calculation is true, or it has none. Inner: the caller knows the rule from the run of its group, and has 21 values.
-pub fn calculation_true(table: &[u8], rule: usize, values: &[f64; 21], goods: &[bool; 21]) -> bool
+// What a rule's calculation comes to: true if it has none. Inner: the caller knows the rule from the run of its group, and has 21 values.
+pub fn calculation_outcome(
+    table: &[u8],
+    rule: usize,
+    values: &[f64; 21],
+    goods: &[bool; 21],
+) -> Outcome
     requires { ⌜ Stored (now table) rules rule × (length (now values) ≡ 21) ⌝ }
     ensures { λ r. ⌜ Calculates (now (table .entry)) rule (now (values .entry)) (now (goods .entry)) r ⌝ }
 {
     let at = table_read::field(table, Section::Rules, rule, 5);
     let n = table_read::field(table, Section::Rules, rule, 6);
     if at + n == 0 {
-        return true;
+        return Outcome::True;
     }
-    calc_truth::holds_with(
+    calc_truth::outcome_with(
         table_read::name_of(table, Section::Rules, rule),
         values,
         goods,
@@ -54,28 +60,7 @@ pub fn stands_rule(
     ask_member::belongs_to(table, GroupKind::Hosts, rule, host, roles, lengths)
 }
 
-fn passes_rule(
-    table: &[u8],
-    rule: usize,
-    user: &[u8],
-    host: &[u8],
-    roles: &[u8],
-    lengths: &[u8],
-    level: usize,
-    values: &[f64; 21],
-    goods: &[bool; 21],
-) -> bool
-    requires { ⌜ Stored (now table) rules rule × (length (now values) ≡ 21) ⌝ }
-    ensures { λ r. ⌜ Passes (now (table .entry)) rule (now (user .entry)) (now (host .entry)) (cut-roles (now (roles .entry)) (now (lengths .entry))) level (now (values .entry)) (now (goods .entry)) r ⌝ }
-{
-    if stands_rule(table, rule, user, host, roles, lengths, level) {
-        calculation_true(table, rule, values, goods)
-    } else {
-        false
-    }
-}
-
-// What earlier rules and one more give: the greater access, of equals the first. A rule that can give no more is not tried.
+// What earlier rules and one more give. A rule that can give no more is not tried: nor is its letter wanted, for it is not above the access.
 // Inner: the caller knows the rule from the run of its group, and has 21 values.
 pub fn with_rule(
     table: &[u8],
@@ -87,28 +72,20 @@ pub fn with_rule(
     level: usize,
     values: &[f64; 21],
     goods: &[bool; 21],
-    earlier: Decision,
-) -> Decision
+    earlier: Verdict,
+) -> Verdict
     requires { ⌜ Stored (now table) rules rule × (length (now values) ≡ 21) ⌝ }
     ensures { λ r. ⌜ With-rule (now (table .entry)) rule (now (user .entry)) (now (host .entry)) (cut-roles (now (roles .entry)) (now (lengths .entry))) level (now (values .entry)) (now (goods .entry)) earlier r ⌝ }
 {
     let offered = ask_grant::granted_by(table_read::field(table, Section::Rules, rule, 0));
-    if ask_grant::is_at_least(earlier, offered) {
-        return earlier;
+    let so_far = earlier.access;
+    let permission = offered.access;
+    if ask_grant::is_at_least(so_far, permission) {
+        return earlier; // can give no more
     }
-    if passes_rule(
-        table,
-        rule,
-        user,
-        host,
-        roles,
-        lengths,
-        level,
-        values,
-        goods,
-    ) {
-        offered
-    } else {
-        earlier
+    if !stands_rule(table, rule, user, host, roles, lengths, level) {
+        return earlier; // fails by user, host or level, or is switched off
     }
+    let outcome = calculation_outcome(table, rule, values, goods);
+    ask_grant::with_outcome(earlier, offered, outcome)
 }

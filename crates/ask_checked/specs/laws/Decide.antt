@@ -1,22 +1,23 @@
 -- The answer to a question, from the group that a search finds and from what its rules give.
 use mathlib.Core.Path.{_≡_, sym, ap, _∙_}
 use mathlib.Core.Bool.{true, false}
-use mathlib.Core.List.{List, [], _∷_, _++_}
+use mathlib.Core.List.{List}
 use mathlib.Core.Option.{Option, some}
 use Prim.Native.Nat.{ℕ, _+_, _≤_, _<_}
-use native.Mathlib.Omega.{arith}
-use lib.ListN.{length, take}
+use lib.ListN.{drop}
 use borrow.Author.Tests.{le-leb, lt-leb}
 use Rattle.spec_rule.specs.declared.Decision.{Decision}
+use Rattle.spec_rule.specs.declared.Verdict.{Verdict}
 use Rattle.spec_rule.specs.Roles.{roles-fit}
 use Rattle.spec_rule.specs.Question.{Question}
 use Rattle.spec_rule.specs.Decision.{no-access, decision-by}
-use Rattle.spec_rule.specs.laws.Walk.{taken-on, taken-all}
-use Rattle.spec_file.specs.Limit.{access-groups, rules}
+use Rattle.spec_rule.specs.Rule.{Rule}
+use Rattle.spec_rule.specs.Verdict.{nothing-given, by-rule, then, verdict-by, normal, settled}
+use Rattle.spec_rule.specs.laws.Decision.{nothing-then, verdict-first, decision-settled, turned, normal-normal, settled-end}
+use Rattle.spec_file.specs.Limit.{access-groups}
 use Rattle.spec_table.specs.View.{view}
-use Rattle.spec_table.specs.Check.{is-table, rules-run}
-use Rattle.spec_table.specs.Policy.{rule-of, row}
-use Rattle.spec_table.specs.laws.Standing.{stands, rules-within}
+use Rattle.spec_table.specs.Check.{is-table}
+use Rattle.spec_table.specs.Policy.{row}
 use Rattle.spec_decision.specs.declared.Answer.{Answer}
 use Rattle.spec_decision.specs.declared.Answer.the-variants as answer
 use Rattle.spec_decision.specs.Decision.{rules-in, decide}
@@ -29,32 +30,31 @@ use Rattle.table_read.specs.Search.{index-of, group-for}
 use Rattle.table_read.specs.laws.Search.{finds-at, finds-none, finds-answering}
 use Rattle.ask_rule.specs.Rules.{rule-at, question}
 use Rattle.ask_checked.specs.Group.{group-rules}
+use Rattle.ask_checked.specs.laws.Group.{group-on, group-end}
 
--- ---- rule by rule: what the first k rules of the i-th group give
+-- ---- rule by rule: v is what the rules before the k-th of the i-th group give
 
-module _ (b : List ℕ) (i : ℕ) (h : Stored b access-groups i) where
-  pub run-inside : rules-run (row (view b) access-groups i) .first + rules-run (row (view b) access-groups i) .count ≤ length (view b .records rules)
-  run-inside = rules-within (view b) (stands b (h .table) .1) i (h .inside)
+module _ (b : List ℕ) (i : ℕ) (h : Stored b access-groups i) (q : Question) where
+  pub rules-begin : decision-by q (group-rules b i) ≡ settled (then nothing-given (verdict-by q (group-rules b i)))
+  rules-begin = decision-settled q (group-rules b i) ∙ ap settled (sym (nothing-then (verdict-by q (group-rules b i))))
 
-  module _ {s n : ℕ} (k : ℕ) (f : Word (word-of b access-groups i 4) s) (c : Word (word-of b access-groups i 5) n) where
-    pub rule-stored : k < n → Stored b rules (s + k)
-    rule-stored l = record { table = h .table; inside = omega (arith, run-inside, f .is, c .is) }
+  module _ {s n : ℕ} (f : Word (word-of b access-groups i 4) s) (c : Word (word-of b access-groups i 5) n) (k : ℕ) (v : Verdict) where
+    pub rules-turn :
+        {w : Verdict} → k < n → w ≡ normal (then v (by-rule q (rule-at b (s + k))))
+        → (normal w ≡ w)
+        × (settled (then v (verdict-by q (drop k (group-rules b i)))) ≡ settled (then w (verdict-by q (drop (k + 1) (group-rules b i)))))
+    rules-turn l e =
+        let rest = drop (k + 1) (group-rules b i) in
+        let one = by-rule q (rule-at b (s + k)) in (
+          rw e (normal-normal (then v one)),
+          ap
+              (λ (x : Verdict). settled (then v x))
+              (ap (verdict-by q) (group-on b i h f c k l) ∙ verdict-first q (rule-at b (s + k)) rest)
+              ∙ turned v one (verdict-by q rest) e,
+        )
 
-    module _ (q : Question) {d : Decision} where
-      pub first-rules : d ≡ no-access → d ≡ decision-by q (take 0 (group-rules b i))
-      first-rules e = e
-
-      pub one-more : k < n → d ≡ decision-by q (take k (group-rules b i) ++ (rule-at b (s + k) ∷ [])) → d ≡ decision-by q (take (k + 1) (group-rules b i))
-      one-more l e =
-          let run = rules-run (row (view b) access-groups i) in
-          let x : s ≡ run .first = f .is in
-          e
-          ∙ ap (λ (m : ℕ). decision-by q (take k (group-rules b i) ++ (rule-at b (m + k) ∷ []))) x
-          ∙ ap (decision-by q) (sym (taken-on (rule-of (view b)) run (view b .records rules) [] k run-inside (omega (arith, c .is))))
-
-      pub all-rules : n ≤ k → d ≡ decision-by q (take k (group-rules b i)) → d ≡ decision-by q (group-rules b i)
-      all-rules l e =
-          e ∙ ap (decision-by q) (taken-all (rule-of (view b)) (rules-run (row (view b) access-groups i)) (view b .records rules) k (omega (arith, c .is)))
+    pub rules-end : n ≤ k → settled (then v (verdict-by q (drop k (group-rules b i)))) ≡ settled v
+    rules-end l = ap (λ (rs : List Rule). settled (then v (verdict-by q rs))) (group-end b i h f c k l) ∙ settled-end v
 
 -- ---- the answer
 

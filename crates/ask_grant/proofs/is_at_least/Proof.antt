@@ -10,7 +10,7 @@ rank-of-requires-2 : tie.Need-rank-of-requires-2
 rank-of-requires-2 c κs = search needs
 
 returns : tie.Need-returns
-returns c = rw (c .before .rank-of .ensures, c .rank-of2 .ensures) refl
+returns c = rw (c .rank-of2 .ensures, c .before .rank-of .ensures) refl
 
 pub is-at-least-spec : {M : Type 1} → statement M
 is-at-least-spec = tie.close (tie.spec rank-of-requires rank-of-requires-2 returns)

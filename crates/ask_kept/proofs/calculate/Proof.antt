@@ -1,25 +1,26 @@
 use Rattle.ask_kept.specs.laws.Kept.{rules-few, stores-turn, stores-done}
-use Rattle.ask_checked.specs.laws.Decide.{rule-stored}
+use Rattle.ask_checked.specs.laws.Group.{rule-stored}
 use Rattle.ask_checked.specs.Group.{group-rules}
 use Rattle.ask_rule.specs.Rules.{Inputs-are}
-use Rattle.spec_rule.specs.Kept as kept
-use Rattle.spec_rule.specs.Rule.{calculation-holds}
+use Rattle.spec_rule.specs.Kept.{outcome-byte, outcome-bytes}
+use Rattle.spec_rule.specs.Rule.{outcome}
 use Rattle.spec_calc.specs.declared.Reading.{Reading}
 use lib.Seq.{sets}
 use lib.ListN.{drop}
 use native.Mathlib.Omega.{arith}
-use Prim.Native.Nat.{_+_, _≤_, _-_}
+use Prim.Native.Nat.{_≤_, _-_}
+use mathlib.Core.Path.{_≡_, refl, ap, _∙_}
 use mathlib.Core.List.{List}
-use mathlib.Core.Path.{_≡_, refl, sym, ap, _∙_}
 use borrow.Author.Needs.{needs}
 use Rattle.ask_kept.proofs.calculate.Statement.{statement}
 use Rattle.ask_kept.proofs.calculate.Tie as tie
 
 abbrev Inv-loop : tie.InvT-loop
-Inv-loop table group values goods truths₀ start n i₀ truths i = (i ≤ n) × ((rs : List Reading) → Inputs-are values goods rs → sets truths₀ 0 (kept.truths rs (group-rules table group)) ≡ sets truths i (drop i (kept.truths rs (group-rules table group))))
+Inv-loop table group values goods outcomes₀ start n i₀ outcomes i =
+    (i ≤ n) × ((rs : List Reading) → Inputs-are values goods rs → sets outcomes₀ 0 (outcome-bytes rs (group-rules table group)) ≡ sets outcomes i (drop i (outcome-bytes rs (group-rules table group))))
 
 abbrev μ-loop : tie.MeasureT-loop
-μ-loop table group values goods truths₀ start n i₀ truths i = n - i
+μ-loop table group values goods outcomes₀ start n i₀ outcomes i = n - i
 
 field-requires : tie.Need-field-requires Inv-loop μ-loop
 field-requires c κs = (c .before .pre .0, omega arith)
@@ -30,14 +31,17 @@ field-requires-2 c κs = (c .before .before .pre .0, omega arith)
 loop-holds : tie.Need-loop-holds Inv-loop μ-loop
 loop-holds c = (omega arith, λ rs h. refl)
 
-add-calculation-true : tie.Need-add-calculation-true Inv-loop μ-loop
-add-calculation-true c = omega (arith, c .before .before .before .field .ensures .small, c .before .before .field2 .ensures .small)
+add-calculation-outcome : tie.Need-add-calculation-outcome Inv-loop μ-loop
+add-calculation-outcome c = omega (arith, c .before .before .before .field .ensures .small, c .before .before .field2 .ensures .small)
 
-calculation-true-requires : tie.Need-calculation-true-requires Inv-loop μ-loop
-calculation-true-requires c κs = (rule-stored (c .before .before .before .before .before .args .table .now) (c .before .before .before .before .before .args .group) (c .before .before .before .before .before .pre .0) (c .before .loop .i) (c .before .before .before .field .ensures) (c .before .before .field2 .ensures) (omega arith), c .before .before .before .before .before .pre .1)
+calculation-outcome-requires : tie.Need-calculation-outcome-requires Inv-loop μ-loop
+calculation-outcome-requires c κs = let a = c .before .before .before .before .before in (rule-stored (a .args .table .now) (a .args .group) (a .pre .0) (c .before .before .before .field .ensures) (c .before .before .field2 .ensures) (c .before .loop .i) (omega arith), a .pre .1)
 
-element-write-truths : tie.Need-element-write-truths Inv-loop μ-loop
-element-write-truths c = omega (arith, rules-few (c .before .before .before .before .before .before .args .table .now) (c .before .before .before .before .before .before .args .group) (c .before .before .before .before .before .before .pre .0) (c .before .before .before .before .field .ensures) (c .before .before .before .field2 .ensures))
+byte-of-requires : tie.Need-byte-of-requires Inv-loop μ-loop
+byte-of-requires c κs = search needs
+
+element-write-outcomes : tie.Need-element-write-outcomes Inv-loop μ-loop
+element-write-outcomes c = let a = c .before .before .before .before .before .before .before in omega (arith, rules-few (a .args .table .now) (a .args .group) (a .pre .0) (c .before .before .before .before .before .field .ensures) (c .before .before .before .before .field2 .ensures))
 
 add-i : tie.Need-add-i Inv-loop μ-loop
 add-i c = search needs
@@ -46,10 +50,10 @@ loop-less : tie.Need-loop-less Inv-loop μ-loop
 loop-less c = search needs
 
 loop-again : tie.Need-loop-again Inv-loop μ-loop
-loop-again c = let a = c .before .before .before .before .before .before .args in (omega arith, λ rs h. stores-turn (a .table .now) (a .group) (c .before .before .before .before .before .before .pre .0) (c .before .before .before .before .field .ensures) (c .before .before .before .field2 .ensures) (λ r. calculation-holds rs (r .calculation)) (c .before .before .loop .truths) (c .before .before .loop .i) (c .before .before .loop .i) (omega arith) (omega arith) (c .calculation-true .ensures rs h) (c .before .before .loop .inv .1 rs h))
+loop-again c = let a = c .before .before .before .before .before .before .before in (omega arith, λ rs h. stores-turn (a .args .table .now) (a .args .group) (a .pre .0) (c .before .before .before .before .before .field .ensures) (c .before .before .before .before .field2 .ensures) (λ r. outcome-byte (outcome rs (r .calculation))) (c .before .before .before .loop .outcomes) (c .before .before .before .loop .i) (c .before .before .before .loop .i) (omega arith) (omega arith) (c .byte-of .ensures ∙ ap outcome-byte (c .before .calculation-outcome .ensures rs h)) (c .before .before .before .loop .inv .1 rs h))
 
 returns : tie.Need-returns Inv-loop μ-loop
-returns c = let a = c .before .before .before .before .before .args in λ rs h. stores-done (a .table .now) (a .group) (c .before .before .before .before .before .pre .0) (c .before .before .before .field .ensures) (c .before .before .field2 .ensures) (λ r. calculation-holds rs (r .calculation)) (c .before .loop .truths) (c .before .loop .i) (c .before .loop .i) (omega arith) (c .before .loop .inv .1 rs h)
+returns c = let a = c .before .before .before .before .before in λ rs h. stores-done (a .args .table .now) (a .args .group) (a .pre .0) (c .before .before .before .field .ensures) (c .before .before .field2 .ensures) (λ r. outcome-byte (outcome rs (r .calculation))) (c .before .loop .outcomes) (c .before .loop .i) (c .before .loop .i) (omega arith) (c .before .loop .inv .1 rs h)
 
 pub calculate-spec : {M : Type 1} → statement M
 calculate-spec =
@@ -60,9 +64,10 @@ calculate-spec =
     field-requires
     field-requires-2
     loop-holds
-    add-calculation-true
-    calculation-true-requires
-    element-write-truths
+    add-calculation-outcome
+    calculation-outcome-requires
+    byte-of-requires
+    element-write-outcomes
     add-i
     loop-less
     loop-again

@@ -1,6 +1,6 @@
 use Rattle.ask_kept.specs.laws.Kept.{rules-few, stores-turn, stores-done}
 use Rattle.ask_kept.specs.Kept.{client-bits}
-use Rattle.ask_checked.specs.laws.Decide.{rule-stored}
+use Rattle.ask_checked.specs.laws.Group.{rule-stored}
 use Rattle.ask_rule.specs.Rules.{question}
 use Rattle.spec_rule.specs.Kept.{bit}
 use Rattle.spec_rule.specs.Rule.{stands}
@@ -33,7 +33,7 @@ add-stands-for : tie.Need-add-stands-for Inv-loop μ-loop
 add-stands-for c = omega (arith, c .before .before .before .field .ensures .small, c .before .before .field2 .ensures .small)
 
 stands-for-requires : tie.Need-stands-for-requires Inv-loop μ-loop
-stands-for-requires c κs = rule-stored (c .before .before .before .before .before .before .before .before .args .table .now) (c .before .before .before .before .before .before .before .before .args .group) (c .before .before .before .before .before .before .before .before .pre .0) (c .before .loop .i) (c .before .before .before .field .ensures) (c .before .before .field2 .ensures) (omega arith)
+stands-for-requires c κs = rule-stored (c .before .before .before .before .before .before .before .before .args .table .now) (c .before .before .before .before .before .before .before .before .args .group) (c .before .before .before .before .before .before .before .before .pre .0) (c .before .before .before .field .ensures) (c .before .before .field2 .ensures) (c .before .loop .i) (omega arith)
 
 bit-of-requires : tie.Need-bit-of-requires Inv-loop μ-loop
 bit-of-requires c κs = search needs

@@ -1,59 +1,56 @@
 -- The loops over the rules of a group, turn by turn; and that what they leave gives the group's decision.
 use mathlib.Core.Path.{_≡_, refl, sym, ap, _∙_}
-use mathlib.Core.Bool.{Bool, true, false, cond, _&&_, and-false}
 use mathlib.Core.List.{List, [], _∷_, map}
-use Prim.Native.Nat.{ℕ, suc, _+_, _≤_, _<_}
+use Prim.Native.Nat.{ℕ, zero, suc, _+_, _-_, _≤_, _<_}
 use native.Mathlib.Omega.{arith}
-use lib.Dec.{leb}
 use lib.ListN.{length, take, drop, set, getD, length-map}
 use lib.Seq.{sets}
-use borrow.Author.Tests.{ne-eqb}
+use borrow.Author.Tests.{ne-eqb, le-leb, lt-leb}
 use Rattle.spec_lists.specs.Runs.{part}
-use Rattle.spec_calc.specs.declared.Reading.{Reading}
-use Rattle.spec_rule.specs.declared.Decision.{Decision}
-use Rattle.spec_rule.specs.Rule.{Rule, rank, calculation-holds, stands}
-use Rattle.spec_rule.specs.Decision.{no-access, granted, decision-by, then}
-use Rattle.spec_rule.specs.Kept.{bit, truths, says-stands, by-kept, kept-decision}
-use Rattle.spec_rule.specs.laws.Decision.{then-no-greater, then-greater}
-use Rattle.spec_rule.specs.laws.Kept.{kept-is, truths-enough, Settled, more-settled, kept-turn}
-use Rattle.spec_rule.specs.laws.Walk.{list-on, part-on, mapped-on, mapped-end, sets-on}
 use Rattle.spec_lists.specs.laws.Sets.{part-sets-all}
+use Rattle.spec_calc.specs.declared.Reading.{Reading}
+use Rattle.spec_rule.specs.declared.Outcome.the-variants as outcomes
+use Rattle.spec_rule.specs.declared.Verdict.{Verdict}
+use Rattle.spec_rule.specs.Rule.{Rule, stands, outcome}
+use Rattle.spec_rule.specs.Decision.{granted, decision-by}
+use Rattle.spec_rule.specs.Verdict.{nothing-given, by-outcome, then, normal, settled}
+use Rattle.spec_rule.specs.Kept.{bit, outcome-byte, byte-outcome, outcome-bytes, by-kept, kept-verdict, kept-decision}
+use Rattle.spec_rule.specs.laws.Decision.{nothing-then, failed, normal-normal, settled-end}
+use Rattle.spec_rule.specs.laws.Kept.{kept-is, outcome-bytes-enough, kept-turn}
+use Rattle.spec_rule.specs.laws.Walk.{list-on, part-on, mapped-on, mapped-end, sets-on}
 use Rattle.spec_file.specs.Limit.{access-groups, rules, most}
 use Rattle.table_fields.specs.Field.{Word}
 use Rattle.table_read.specs.Stored.{Stored, word-of}
 use Rattle.ask_rule.specs.Rules.{rule-at, question}
 use Rattle.ask_checked.specs.Group.{group-rules}
+use Rattle.ask_checked.specs.laws.Group.{group-count, group-few, group-on, group-end}
 use Rattle.ask_kept.specs.Kept.{client-bits, decision-kept}
-use Rattle.ask_kept.specs.laws.Group.{group-count, group-few, group-on, group-end}
 
--- ---- one rule: it does not pass, it can give no more, or it gives more
+-- ---- what a byte says of a calculation
 
-kept-none : (ks : List ℕ) (ts : List Bool) → kept-decision ks ts [] ≡ no-access
-kept-none [] ts = refl
+pub stopped-byte : (n : ℕ) → (n ≡ 0 → ⊥) → (n ≡ 1 → ⊥) → n ≤ 22 → byte-outcome n ≡ outcomes.Stopped (n - 2)
+stopped-byte zero a b l = absurd (a refl)
+stopped-byte (suc zero) a b l = absurd (b refl)
+stopped-byte (suc (suc i)) a b l = rw (le-leb i 20 (omega arith)) (ap outcomes.Stopped (let e : i ≡ suc (suc i) - 2 = omega arith in e))
+
+pub false-byte : (n : ℕ) → 22 < n → byte-outcome n ≡ outcomes.False
+false-byte zero l = refl
+false-byte (suc zero) l = absurd (omega arith)
+false-byte (suc (suc i)) l = rw (lt-leb i 20 (omega arith))
+
+-- ---- one rule: it does not stand, or it is tried
+
+kept-none : (ks : List ℕ) (os : List ℕ) → kept-verdict ks os [] ≡ nothing-given
+kept-none [] os = refl
 kept-none (k ∷ ks) [] = refl
-kept-none (k ∷ ks) (t ∷ ts) = refl
+kept-none (k ∷ ks) (o ∷ os) = refl
 
-module _ (d : Decision) (k : ℕ) (t : Bool) (r : Rule) where
-  pub not-kept : k ≡ 0 → Settled d → d ≡ then d (by-kept k t r)
-  not-kept e s = sym (ap (λ (x : ℕ). then d (by-kept x t r)) e ∙ s)
+module _ (v : Verdict) (k : ℕ) (o : ℕ) (r : Rule) where
+  pub not-kept : k ≡ 0 → normal v ≡ v → v ≡ normal (then v (by-kept k o r))
+  not-kept e s = sym (ap (λ (x : ℕ). normal (then v (by-kept x o r))) e ∙ failed v (granted r) s)
 
-  pub not-true-kept : t ≡ false → Settled d → d ≡ then d (by-kept k t r)
-  not-true-kept e s =
-      sym (
-      ap (λ (x : Bool). then d (cond (says-stands k && x) (granted r) no-access)) e
-      ∙ ap (λ (x : Bool). then d (cond x (granted r) no-access)) (and-false (says-stands k))
-      ∙ s
-      )
-
-  passes-kept : (k ≡ 0 → ⊥) → t ≡ true → by-kept k t r ≡ granted r
-  passes-kept n e = rw (ne-eqb k 0 n, e)
-
-  pub kept-no-more :
-      (k ≡ 0 → ⊥) → t ≡ true → leb (rank (r .permission)) (rank (d .access)) ≡ true → Settled d → d ≡ then d (by-kept k t r)
-  kept-no-more n e l s = sym (ap (then d) (passes-kept n e) ∙ then-no-greater d r l ∙ s)
-
-  pub kept-more : (k ≡ 0 → ⊥) → t ≡ true → leb (rank (r .permission)) (rank (d .access)) ≡ false → granted r ≡ then d (by-kept k t r)
-  kept-more n e l = sym (ap (then d) (passes-kept n e) ∙ then-greater d r l)
+  pub kept-tried : {w : Verdict} → (k ≡ 0 → ⊥) → w ≡ normal (then v (by-outcome (byte-outcome o) (granted r))) → w ≡ normal (then v (by-kept k o r))
+  kept-tried n e = e ∙ rw (ne-eqb k 0 n) refl
 
 -- ---- all rules of a group
 
@@ -76,41 +73,46 @@ module _
     stores-done u z = sym (z ∙ ap (sets l j) (mapped-end g (group-rules b i) k (group-end b i h f c k u)))
 
   -- what the rules give, from the k-th on
-  module _ (kept : List ℕ) (at : ℕ) (ts : List Bool) (k : ℕ) (v : Decision) where
-    abbrev rest : ℕ → Decision
+  module _ (kept : List ℕ) (at : ℕ) (os : List ℕ) (k : ℕ) (v : Verdict) where
+    abbrev rest : ℕ → Verdict
     rest m =
-        kept-decision (drop m (part (record { first = at; count = length (group-rules b i) }) kept)) (drop m ts) (drop m (group-rules b i))
+        kept-verdict (drop m (part (record { first = at; count = length (group-rules b i) }) kept)) (drop m os) (drop m (group-rules b i))
 
     pub decision-turn :
-        {w : Decision} → k < n → at + most rules ≤ length kept → k < length ts
-        → w ≡ then v (by-kept (getD kept (at + k) 0) (getD ts k false) (rule-at b (s + k)))
-        → decision-kept b i kept at ts ≡ then v (rest k)
-        → (then w no-access ≡ w) × (decision-kept b i kept at ts ≡ then w (rest (k + 1)))
+        {w : Verdict} → k < n → at + most rules ≤ length kept → k < length os
+        → w ≡ normal (then v (by-kept (getD kept (at + k) 0) (getD os k 0) (rule-at b (s + k))))
+        → decision-kept b i kept at os ≡ settled (then v (rest k))
+        → (normal w ≡ w) × (decision-kept b i kept at os ≡ settled (then w (rest (k + 1))))
     decision-turn u a t e z =
         let o = getD kept (at + k) 0 in
-        let y = getD ts k false in
+        let y = getD os k 0 in
         let r = rule-at b (s + k) in
         let x = group-count b i h f c in (
-          rw e (more-settled v o y r),
+          rw e (normal-normal (then v (by-kept o y r))),
           z
               ∙ kept-turn v
               (part-on (record { first = at; count = length (group-rules b i) }) kept 0 k (omega (arith, x, rules-few)) (omega (arith, x)))
-              (list-on ts false k t)
+              (list-on os 0 k t)
               (group-on b i h f c k u)
-              ∙ ap (λ (d : Decision). then d (rest (k + 1))) (sym e),
+              e,
         )
 
-    pub decision-done : n ≤ k → then v no-access ≡ v → decision-kept b i kept at ts ≡ then v (rest k) → v ≡ decision-kept b i kept at ts
-    decision-done u e z =
+    pub decision-done : n ≤ k → decision-kept b i kept at os ≡ settled (then v (rest k)) → settled v ≡ decision-kept b i kept at os
+    decision-done u z =
         sym (
         z
         ∙ ap
         (λ (rs : List Rule).
-        then v (kept-decision (drop k (part (record { first = at; count = length (group-rules b i) }) kept)) (drop k ts) rs))
+        settled (then v (kept-verdict (drop k (part (record { first = at; count = length (group-rules b i) }) kept)) (drop k os) rs)))
         (group-end b i h f c k u)
-        ∙ ap (then v) (kept-none (drop k (part (record { first = at; count = length (group-rules b i) }) kept)) (drop k ts))
-        ∙ e
+        ∙ ap (λ (w : Verdict). settled (then v w)) (kept-none (drop k (part (record { first = at; count = length (group-rules b i) }) kept)) (drop k os))
+        ∙ settled-end v
         )
+
+  pub decision-begun : (kept : List ℕ) (at : ℕ) (os : List ℕ) → decision-kept b i kept at os
+      ≡ settled (then nothing-given (kept-verdict (part (record { first = at; count = length (group-rules b i) }) kept) os (group-rules b i)))
+  decision-begun kept at os =
+      ap settled (sym (nothing-then (kept-verdict (part (record { first = at; count = length (group-rules b i) }) kept) os (group-rules b i))))
 
 -- ---- what keep and calculate leave gives the group's decision
 
@@ -119,21 +121,21 @@ module _ (b : List ℕ) (i : ℕ) (h : Stored b access-groups i) (user host : Li
   bits-count = length-map (group-rules b i) (λ r. bit (stands (question user host [] level []) r))
 
   pub kept-answers :
-      (kept : List ℕ) (at : ℕ) (ts : List Bool) (rs : List Reading) → at + most rules ≤ length kept → most rules ≤ length ts
-      → decision-kept b i (sets kept at (client-bits b i user host level)) at (sets ts 0 (truths rs (group-rules b i)))
+      (kept : List ℕ) (at : ℕ) (os : List ℕ) (rs : List Reading) → at + most rules ≤ length kept → most rules ≤ length os
+      → decision-kept b i (sets kept at (client-bits b i user host level)) at (sets os 0 (outcome-bytes rs (group-rules b i)))
       ≡ decision-by (question user host [] level rs) (group-rules b i)
-  kept-answers kept at ts rs l m =
+  kept-answers kept at os rs l m =
       let g = group-rules b i in
       let bits = client-bits b i user host level in
-      let vs = truths rs g in
-      let n : length vs ≡ length g = length-map g (λ r. calculation-holds rs (r .calculation)) in
+      let vs = outcome-bytes rs g in
+      let n : length vs ≡ length g = length-map g (λ r. outcome-byte (outcome rs (r .calculation))) in
       let few = group-few b i h in
       let x : part (record { first = at; count = length g }) (sets kept at bits) ≡ bits =
       ap (λ (k : ℕ). part (record { first = at; count = k }) (sets kept at bits)) (sym bits-count)
       ∙ part-sets-all bits kept at (omega (arith, bits-count)) in
-      let y : take (length g) (sets ts 0 vs) ≡ vs =
-      ap (λ (k : ℕ). take k (sets ts 0 vs)) (sym n) ∙ part-sets-all vs ts 0 (omega arith) in
-      ap (λ (ks : List ℕ). kept-decision ks (sets ts 0 vs) g) x
-      ∙ sym (truths-enough (length g) bits (sets ts 0 vs) g (omega arith))
-      ∙ ap (λ (us : List Bool). kept-decision bits us g) y
+      let y : take (length g) (sets os 0 vs) ≡ vs =
+      ap (λ (k : ℕ). take k (sets os 0 vs)) (sym n) ∙ part-sets-all vs os 0 (omega arith) in
+      ap (λ (ks : List ℕ). kept-decision ks (sets os 0 vs) g) x
+      ∙ sym (outcome-bytes-enough (length g) bits (sets os 0 vs) g (omega arith))
+      ∙ ap (λ (us : List ℕ). kept-decision bits us g) y
       ∙ kept-is (question user host [] level rs) g

@@ -1,20 +1,17 @@
-use Rattle.spec_calc.specs.Reader.{tree-of}
-use Rattle.calc_truth.specs.laws.Answers.{holds-is}
+use Rattle.spec_calc.specs.Value.{true-worth}
+use mathlib.Core.Path.{ap, _∙_}
 use borrow.Author.Needs.{needs}
 use Rattle.calc.proofs.holds.Statement.{statement}
 use Rattle.calc.proofs.holds.Tie as tie
 
-inputs-of-requires : tie.Need-inputs-of-requires
-inputs-of-requires c κs = search needs
+value-requires : tie.Need-value-requires
+value-requires c κs = search needs
 
-holds-for-requires : tie.Need-holds-for-requires
-holds-for-requires c κs = search needs
+near-requires : tie.Need-near-requires
+near-requires c κs = search needs
 
 returns : tie.Need-returns
-returns c =
-    let a = (c .before .before .before) in
-    holds-is (a .args .rs) _ _ (tree-of (a .args .s .now)) (c .before .inputs-of .ensures .0) (c .before .inputs-of .ensures .1)
-    (c .holds-for .ensures)
+returns c = c .near .ensures ∙ ap true-worth (c .before .value .ensures)
 
 pub holds-spec : {M : Type 1} → statement M
-holds-spec = tie.close (tie.spec inputs-of-requires holds-for-requires returns)
+holds-spec = tie.close (tie.spec value-requires near-requires returns)

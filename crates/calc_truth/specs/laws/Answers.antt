@@ -1,12 +1,12 @@
 -- From what is read to what is answered. Assumes nothing.
 use mathlib.Core.Path.{_≡_, refl, sym, _∙_, ap}
-use mathlib.Core.Bool.{Bool, true, false, not, cond, _&&_}
+use mathlib.Core.Bool.{Bool, true, false, not, cond, _&&_, false≢true}
 use mathlib.Core.List.{List, [], _∷_, map}
 use mathlib.Core.Option.{Option, none, some}
 use Prim.Native.Nat.{ℕ, zero, suc, _+_, _≤_, _<_}
 use native.Mathlib.Omega.{arith}
 use native.Mathlib.Numerals.{add-one}
-use types.Run.{OneOf, miss}
+use types.Run.{OneOf}
 use denote.Enum.Declared.{tagOf}
 use lib.ListN.{length, getD, drop, drop-of-length-le, List·getD-map}
 use lib.Seq.{drop-cons}
@@ -19,22 +19,24 @@ use Rattle.spec_calc.specs.declared.Worth.{Worth}
 use Rattle.spec_calc.specs.declared.Worth.the-variants as worths
 use Rattle.spec_calc.specs.Scanner.{start}
 use Rattle.spec_calc.specs.Expression.{Tree, number-tree, letter-tree, minus, negation, binary, choice}
-use Rattle.spec_calc.specs.Value.{heard, good, reading, value, letters, finite, finite-throughout, near-one, worth}
+use Rattle.spec_calc.specs.Value.{heard, good, reading, value, letters, finite, finite-throughout, lowest, lowest-bad, worth-by, tree-worth, near-one, worth}
 use Rattle.spec_calc.specs.Reader.{tree-of}
-use Rattle.spec_calc.specs.laws.Readings.{holds-both}
-use Rattle.spec_rule.specs.Rule.{true-tree}
+use Rattle.spec_rule.specs.declared.Outcome.{Outcome}
+use Rattle.spec_rule.specs.declared.Outcome.the-variants as outcomes
+use Rattle.spec_rule.specs.Rule.{judged}
 use Rattle.calc_symbol.specs.declared.Class.{Class}
 use Rattle.calc_symbol.specs.declared.Class.the-variants as class
+use Rattle.calc_symbol.specs.Scan.{started}
+use Rattle.calc_symbol.proofs.Class as class-type
 use Rattle.calc_value.specs.declared.Computed.{Computed}
 use Rattle.calc_value.specs.declared.Computed.the-variants as outcome
-use Rattle.calc_symbol.specs.Scan.{started}
 use Rattle.calc_value.specs.Parse.{value-with}
 use Rattle.calc_value.specs.Strict.{strict-value}
 use Rattle.calc_value.specs.Answer.{computed}
 use Rattle.calc_value.specs.laws.Strict.{strict-finite, strict-value-is, strict-near}
-use Rattle.calc_truth.specs.Answer.{given-letter, letter-begun, byte-letters, true-with, near-computed}
-use Rattle.calc_symbol.proofs.Class as class-type
-use Rattle.calc_truth.specs.laws.Letters.{spelling-none, bytes-same, given-tree}
+use Rattle.calc_truth.specs.Answer.{given-letter, letter-begun, byte-letters, lowest-from, outcome-by, outcome-with, near-computed}
+use Rattle.calc_truth.specs.laws.Letters.{no-letters, begun-letter, begun-nothing, bytes-same}
+use Rattle.calc_truth.specs.laws.Lowest.{letter-found, no-letter-found}
 
 pub allowed-yes : (rs : List Reading) (o : Option Tree) {w : Computed} {v : Float} → w ≡ computed rs o → w ≡ outcome.Is v → true ≡ not (missing o)
 allowed-yes rs none e q = let z : _≡_ {A = ℕ} 0 1 = cc in absurd (omega arith)
@@ -46,28 +48,16 @@ allowed-no rs (some t) e q = let z : _≡_ {A = ℕ} 0 1 = cc in absurd (omega a
 
 -- ---- letters
 
-abbrev no-letters : List ℕ
-no-letters = 0 ∷ 1 ∷ 3 ∷ []
-
 module _ (given : List Bool) (b : ℕ) (r : Class) (er : (y : List ℕ) → start b y ≡ started r b y) where
-  begun-by : (q : Class) → r ≡ q → letter-begun (start b []) ≡ letter-begun (started q b [])
-  begun-by q e = ap letter-begun (er [] ∙ ap (λ (y : Class). started y b []) e)
-
   pub letter-given : {i : ℕ} {t : Bool} → r ≡ class.Letter i → t ≡ getD given i false → t ≡ all (given-letter given) (letter-begun (start b []))
-  letter-given {i} e f = rw (begun-by (class.Letter i) e, f) (sym (and-true (getD given i false)))
+  letter-given {i} e f = rw (begun-letter b r er e, f) (sym (and-true (getD given i false)))
     where
       and-true : (b : Bool) → (b && true) ≡ b
       and-true true = refl
       and-true false = refl
 
   pub no-letter-given : OneOf no-letters (tagOf class-type.the-type r) → true ≡ all (given-letter given) (letter-begun (start b []))
-  no-letter-given = go r refl
-    where
-      go : (q : Class) → r ≡ q → OneOf no-letters (tagOf class-type.the-type q) → true ≡ all (given-letter given) (letter-begun (start b []))
-      go class.Blank e h = rw (begun-by class.Blank e)
-      go class.Figure e h = rw (begun-by class.Figure e)
-      go (class.Letter i) e h = absurd (miss no-letters 2 tt h)
-      go class.Other e h = rw (begun-by class.Other e, spelling-none b [])
+  no-letter-given h = rw (begun-nothing b r er h)
 
 -- ---- bytes one by one
 
@@ -121,51 +111,43 @@ strict-heard rs (negation t) = rw (strict-heard rs t)
 strict-heard rs (binary o t u) = rw (strict-heard rs t, strict-heard rs u)
 strict-heard rs (choice c x y) = rw (strict-heard rs c, strict-heard rs x, strict-heard rs y)
 
--- ---- truth
-
-module _ (s : List ℕ) (values : List Float) (goods : List Bool) {b : Bool} (eb : b ≡ all (given-letter goods) (byte-letters s)) where
-  with-is : true-with values goods (tree-of s) ≡ b && holds-of (tree-of s) (λ t. near-one (value-with values t))
-  with-is = given-tree s goods (λ t. near-one (value-with values t)) ∙ rw (← eb)
-
-  pub with-good :
-      {w : Computed} {r : Bool} → b ≡ true → w ≡ computed (map readings.Value values) (tree-of s) → r ≡ near-computed w
-      → r ≡ true-with values goods (tree-of s)
-  with-good {w} {r} e ew er =
-      let x : near-computed w ≡ holds-of (tree-of s) (λ t. near-one (value-with values t)) = rw ew (go (tree-of s)) in
-      let y : true-with values goods (tree-of s) ≡ holds-of (tree-of s) (λ t. near-one (value-with values t)) = with-is ∙ rw e in
-      er ∙ (x ∙ sym y)
-    where
-      go : (o : Option Tree) → near-computed (computed (map readings.Value values) o) ≡ holds-of o (λ t. near-one (value-with values t))
-      go none = refl
-      go (some t) = refl
-
-  pub with-bad : b ≡ false → false ≡ true-with values goods (tree-of s)
-  with-bad e = sym (with-is ∙ rw e)
-
 good-letter : (rs : List Reading) (i : ℕ) → given-letter (map good rs) i ≡ good (reading rs i)
 good-letter rs i = List·getD-map good rs i readings.NeverHeard
 
-all-good : (rs : List Reading) (ls : List ℕ) → all (given-letter (map good rs)) ls ≡ all (λ i. good (reading rs i)) ls
-all-good rs [] = refl
-all-good rs (i ∷ ls) = rw (good-letter rs i, all-good rs ls)
+lowest-good : (rs : List Reading) (is : List ℕ) → lowest (given-letter (map good rs)) is ≡ lowest-bad rs is
+lowest-good rs [] = refl
+lowest-good rs (i ∷ is) = rw (good-letter rs i, lowest-good rs is)
 
-pub holds-is :
-    (rs : List Reading) (values : List Float) (goods : List Bool) (o : Option Tree) {r : Bool} → values ≡ map heard rs → goods ≡ map good rs
-    → r ≡ true-with values goods o → r ≡ true-tree rs o
-holds-is rs values goods none ev eg e = e
-holds-is rs values goods (some t) ev eg e = e ∙ (rw (ev, eg, all-good rs (letters t), strict-heard rs t, strict-near rs t) refl ∙ sym (holds-both rs t))
+-- ---- what is answered, from what is computed and from the lowest letter that is not good
 
--- the value where every evaluated part is finite, as the code finds it
-finite-worth :
-    (rs : List Reading) (t : Tree)
-    → cond (finite-throughout rs t) (worths.Is (value rs t)) worths.Bad ≡ cond (finite (strict-value rs t)) (worths.Is (strict-value rs t)) worths.Bad
-finite-worth rs t = rw (strict-finite rs t) (go (finite-throughout rs t) refl)
+-- of a text that is a calculation
+module _ (s : List ℕ) (h : missing (tree-of s) ≡ false) (values : List Float) (goods : List Bool) {n : ℕ} (en : n ≡ lowest-from 21 goods (byte-letters s)) where
+  pub outcome-stopped : n < 21 → outcomes.Stopped n ≡ outcome-with values goods (tree-of s)
+  outcome-stopped l = go (tree-of s) refl h
+    where
+      go : (o : Option Tree) → tree-of s ≡ o → missing o ≡ false → outcomes.Stopped n ≡ outcome-with values goods o
+      go none p m = absurd (false≢true (sym m))
+      go (some t) p m = rw (letter-found goods s t p en l)
+
+  pub outcome-computed : {w : Computed} {r : Outcome} → 21 ≤ n → w ≡ computed (map readings.Value values) (tree-of s) → r ≡ near-computed w
+      → r ≡ outcome-with values goods (tree-of s)
+  outcome-computed {w} {r} l ew er = er ∙ ap near-computed ew ∙ go (tree-of s) refl
+    where
+      go : (o : Option Tree) → tree-of s ≡ o → near-computed (computed (map readings.Value values) o) ≡ outcome-with values goods o
+      go none p = refl
+      go (some t) p = rw (no-letter-found goods s t p en l)
+
+pub outcome-is :
+    (rs : List Reading) (values : List Float) (goods : List Bool) (o : Option Tree) {r : Outcome} → values ≡ map heard rs → goods ≡ map good rs
+    → r ≡ outcome-with values goods o → r ≡ judged (worth rs o)
+outcome-is rs values goods none ev eg e = e
+outcome-is rs values goods (some t) ev eg e =
+    e ∙ rw (ev, eg, lowest-good rs (letters t), strict-heard rs t, strict-near rs t) (go (lowest-bad rs (letters t)) (finite-throughout rs t) (value rs t))
   where
-    go : (b : Bool) → finite-throughout rs t ≡ b → cond b (worths.Is (value rs t)) worths.Bad ≡ cond b (worths.Is (strict-value rs t)) worths.Bad
-    go true e = ap worths.Is (sym (strict-value-is rs t e))
-    go false e = refl
-
--- ---- the answer of value, from what is computed, whether the letters are good and whether it is finite
+    go : (o : Option ℕ) (f : Bool) (x : Float) → outcome-by o (f && near-one x) ≡ judged (worth-by o f x)
+    go (some i) f x = refl
+    go none true x = refl
+    go none false x = refl
 
 module _
     (rs : List Reading) (s : List ℕ) {vs : List Float} {gs : List Bool} (ev : vs ≡ map heard rs) (eg : gs ≡ map good rs) {w : Computed}
@@ -177,20 +159,27 @@ module _
       go none e = refl
       go (some t) e = let z : _≡_ {A = ℕ} 0 1 = cc in absurd (omega arith)
 
-  module _ {v : Float} (q : w ≡ outcome.Is v) {b : Bool} (eb : b ≡ all (given-letter gs) (byte-letters s)) where
-    judged-value : worth rs (tree-of s) ≡ cond b (cond (finite v) (worths.Is v) worths.Bad) worths.Bad
-    judged-value = go (tree-of s) refl ew
+  module _ {v : Float} (q : w ≡ outcome.Is v) {n : ℕ} (en : n ≡ lowest-from 21 gs (byte-letters s)) where
+    -- there is a tree, and the value is what the code computes of it
+    of-tree : {r : Worth} → ((t : Tree) → tree-of s ≡ some t → strict-value rs t ≡ v → r ≡ tree-worth rs t) → r ≡ worth rs (tree-of s)
+    of-tree {r} f = go (tree-of s) refl ew
       where
-        go :
-            (o : Option Tree) → tree-of s ≡ o → w ≡ computed (map readings.Value vs) o
-            → worth rs o ≡ cond b (cond (finite v) (worths.Is v) worths.Bad) worths.Bad
+        go : (o : Option Tree) → tree-of s ≡ o → w ≡ computed (map readings.Value vs) o → r ≡ worth rs o
         go none p e = let z : _≡_ {A = ℕ} 0 1 = cc in absurd (omega arith)
-        go (some t) p e =
-            let x : strict-value rs t ≡ v = sym (strict-heard rs t) ∙ (ap (λ (l : List Float). value-with l t) (sym ev) ∙ cc) in
-            rw (← all-good rs (letters t), ← eg, ← bytes-same s t p gs, ← eb) (ap (λ (f : Worth). cond b f worths.Bad) (rw x at (finite-worth rs t)))
+        go (some t) p e = f t p (sym (strict-heard rs t) ∙ (ap (λ (l : List Float). value-with l t) (sym ev) ∙ cc))
 
-    pub value-good : {r : Worth} → b ≡ true → r ≡ cond (finite v) (worths.Is v) worths.Bad → r ≡ worth rs (tree-of s)
-    value-good h e = e ∙ sym (judged-value ∙ rw h)
+    lowest-here : (t : Tree) → lowest (given-letter gs) (letters t) ≡ lowest-bad rs (letters t)
+    lowest-here t = ap (λ (g : List Bool). lowest (given-letter g) (letters t)) eg ∙ lowest-good rs (letters t)
 
-    pub value-bad : b ≡ false → worths.Bad ≡ worth rs (tree-of s)
-    value-bad h = sym (judged-value ∙ rw h)
+    pub value-stopped : n < 21 → worths.BadBy n ≡ worth rs (tree-of s)
+    value-stopped l = of-tree (λ t p x. rw (sym (lowest-here t) ∙ letter-found gs s t p en l))
+
+    pub value-good : {r : Worth} → 21 ≤ n → r ≡ cond (finite v) (worths.Is v) worths.BadByArithmetic → r ≡ worth rs (tree-of s)
+    value-good {r} l e =
+        of-tree (λ t p x. e ∙ rw (← x, strict-finite rs t, sym (lowest-here t) ∙ no-letter-found gs s t p en l) (finite-worth t (finite-throughout rs t) refl))
+      where
+        finite-worth :
+            (t : Tree) (f : Bool) → finite-throughout rs t ≡ f
+            → cond f (worths.Is (strict-value rs t)) worths.BadByArithmetic ≡ worth-by none f (value rs t)
+        finite-worth t true g = ap worths.Is (strict-value-is rs t g)
+        finite-worth t false g = refl

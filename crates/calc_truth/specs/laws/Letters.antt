@@ -1,48 +1,40 @@
 -- The letters of a text's bytes are those of its tree. Assumes nothing.
 use mathlib.Core.Path.{_≡_, refl, sym, _∙_, ap}
-use mathlib.Core.Bool.{Bool, true, false, _&&_, and-false}
-use mathlib.Core.List.{List, [], _∷_, _++_, append-nil, append-assoc, List·Memᴰ}
+use mathlib.Core.Bool.{Bool, true, false}
+use mathlib.Core.List.{List, [], _∷_, _++_, List·Memᴰ}
 use mathlib.Core.Option.{Option, none, some}
 use Prim.Native.Nat.{ℕ}
+use types.Run.{OneOf, miss}
+use denote.Enum.Declared.{tagOf}
 use lib.ListN.{length, take}
 use Rattle.spec_lists.specs.Text.{same}
-use Rattle.spec_lists.specs.Select.{all, first, after, skip-if, holds-of}
-use Rattle.spec_lists.specs.laws.Both.{both, absurd-bool}
+use Rattle.spec_lists.specs.Select.{all, first, after, skip-if}
+use Rattle.spec_lists.specs.laws.Both.{both}
 use Rattle.spec_lists.specs.laws.Member.{all-member, first-member}
 use Rattle.spec_lists.specs.laws.Range.{bounded}
 use Rattle.spec_calc.specs.Symbol.{Symbol, numeral-byte, Spelling, spellings, Spells, end, skipped, numbered, capital, small, signed}
 use Rattle.spec_calc.specs.Scanner.{sign-of, start, spelling}
-use Rattle.spec_calc.specs.Expression.{Tree, Expression, plain, conditional, Joined, tighter, join, prefixed, Operand, negated, denied, a-number, a-letter}
-use Rattle.spec_calc.specs.Expression.{parenthesised, Parses}
+use Rattle.spec_calc.specs.Expression.{Tree}
 use Rattle.spec_calc.specs.Value.{letters}
 use Rattle.spec_calc.specs.Reader.{tree-of}
 use Rattle.spec_calc.specs.laws.Symbols.{blank-start, start-upper, start-lower}
 use Rattle.spec_calc.specs.laws.Spelling.{numeral-start}
 use Rattle.spec_calc.specs.laws.Theorem.{parses-sound}
-use Rattle.calc_truth.specs.Answer.{given-letter, letter-of, letters-in, letter-begun, byte-letters}
+use Rattle.spec_calc.specs.laws.Letters.{letters-in, nothing, nothing-is, sign-letters, parsed-letters}
+use Rattle.calc_symbol.specs.declared.Class.{Class}
+use Rattle.calc_symbol.specs.declared.Class.the-variants as class
+use Rattle.calc_symbol.specs.Scan.{started}
+use Rattle.calc_symbol.proofs.Class as class-type
+use Rattle.calc_truth.specs.Answer.{given-letter, letter-begun, byte-letters}
 
 -- ---- the bytes'
-
-abbrev nothing : List ℕ → Bool
-nothing [] = true
-nothing (i ∷ is) = false
-
-nothing-is : (is : List ℕ) → nothing is ≡ true → is ≡ []
-nothing-is [] e = refl
-nothing-is (i ∷ is) e = absurd-bool (sym e)
 
 abbrev no-letter : ℕ → Bool
 no-letter b = nothing (letter-begun (start b []))
 
--- a sign is no letter, and none of its bytes is one
-abbrev signs-only : Spelling → Bool
-signs-only x = nothing (letter-of (x .symbol)) && all no-letter (x .spelled)
-
-signs : {y : Spelling} → List·Memᴰ y spellings → (nothing (letter-of (y .symbol)) ≡ true) × (all no-letter (y .spelled) ≡ true)
-signs {y} m = both (nothing (letter-of (y .symbol))) (all no-letter (y .spelled)) (all-member signs-only spellings refl m)
-
-pub sign-letters : {y : Spelling} → List·Memᴰ y spellings → letter-of (y .symbol) ≡ []
-sign-letters {y} m = nothing-is (letter-of (y .symbol)) (signs m .0)
+-- none of a sign's bytes is a letter
+signs : {y : Spelling} → List·Memᴰ y spellings → all no-letter (y .spelled) ≡ true
+signs m = all-member (λ x. all no-letter (x .spelled)) spellings refl m
 
 pub spelling-none : (b : ℕ) (s : List ℕ) → letter-begun (spelling b s) ≡ []
 unfolding spelling
@@ -82,56 +74,35 @@ spells-letters (numbered {s = s} n d) = spells-letters d ∙ sym (figures-none s
 spells-letters (capital {b = b} e d) = let z = bounded 65 85 b e in rw (start-upper b [] (z .0) (z .1), spells-letters d)
 spells-letters (small {b = b} e d) = let z = bounded 97 117 b e in rw (start-lower b [] (z .0) (z .1), spells-letters d)
 spells-letters (signed {w = w} {r = r} q m l d) =
-    rw (q, sign-letters m) (spells-letters d ∙ sym (letters-none w r (signs m .1)))
+    rw (q, sign-letters m) (spells-letters d ∙ sym (letters-none w r (signs m)))
 
 -- ---- the tree's
 
-mutual
-  unfolding letters-in
-
-  expression-letters : {s r : List Symbol} {t : Tree} → Expression s r t → letters-in s ≡ letters t ++ letters-in r
-  expression-letters (plain d) = joined-letters d
-  expression-letters {r = r} (conditional {c = c} {x = x} {y = y} d₁ d₂ d₃) =
-      joined-letters d₁
-      ∙ rw (
-        expression-letters d₂,
-        expression-letters d₃,
-        append-assoc (letters c) (letters x ++ letters y) (letters-in r),
-        append-assoc (letters x) (letters y) (letters-in r),
-      )
-      refl
-
-  joined-letters : {l : ℕ} {s r : List Symbol} {t : Tree} → Joined l s r t → letters-in s ≡ letters t ++ letters-in r
-  joined-letters (tighter d) = joined-letters d
-  joined-letters {r = r} (join {t = t} {u = u} p d₁ d₂) = joined-letters d₁ ∙ rw (joined-letters d₂, append-assoc (letters t) (letters u) (letters-in r)) refl
-  joined-letters (prefixed d) = operand-letters d
-
-  operand-letters : {s r : List Symbol} {t : Tree} → Operand s r t → letters-in s ≡ letters t ++ letters-in r
-  operand-letters (negated d) = operand-letters d
-  operand-letters (denied d) = operand-letters d
-  operand-letters a-number = refl
-  operand-letters a-letter = refl
-  operand-letters (parenthesised d) = expression-letters d
-
--- those of a calculation's symbols are its tree's
-pub parsed-letters : (s : List ℕ) (t : Tree) → (y : Parses s t) → letters-in (y .spelled) ≡ letters t
-unfolding letters-in
-parsed-letters s t y = expression-letters (y .derived) ∙ append-nil (letters t)
+pub tree-letters : (s : List ℕ) (t : Tree) → tree-of s ≡ some t → byte-letters s ≡ letters t
+tree-letters s t e = let y = parses-sound s t e in sym (spells-letters (y .spelling)) ∙ parsed-letters s t y
 
 pub bytes-same :
     (s : List ℕ) (t : Tree) → tree-of s ≡ some t → (given : List Bool)
     → all (given-letter given) (byte-letters s) ≡ all (given-letter given) (letters t)
-bytes-same s t e given =
-    let y = parses-sound s t e in ap (all (given-letter given)) (sym (spells-letters (y .spelling)) ∙ parsed-letters s t y)
+bytes-same s t e given = ap (all (given-letter given)) (tree-letters s t e)
 
--- what holds of the bytes and of the tree holds of the tree
-pub given-tree :
-    (s : List ℕ) (given : List Bool) (p : Tree → Bool)
-    → holds-of (tree-of s) (λ t. all (given-letter given) (letters t) && p t) ≡ all (given-letter given) (byte-letters s) && holds-of (tree-of s) p
-given-tree s given p = go (tree-of s) refl
-  where
-    go :
-        (o : Option Tree) → tree-of s ≡ o
-        → holds-of o (λ t. all (given-letter given) (letters t) && p t) ≡ all (given-letter given) (byte-letters s) && holds-of o p
-    go none e = sym (and-false (all (given-letter given) (byte-letters s)))
-    go (some t) e = rw (bytes-same s t e given)
+-- ---- the letter of a byte, by its class
+
+abbrev pub no-letters : List ℕ
+no-letters = 0 ∷ 1 ∷ 3 ∷ []
+
+module _ (b : ℕ) (r : Class) (er : (y : List ℕ) → start b y ≡ started r b y) where
+  begun-by : (q : Class) → r ≡ q → letter-begun (start b []) ≡ letter-begun (started q b [])
+  begun-by q e = ap letter-begun (er [] ∙ ap (λ (y : Class). started y b []) e)
+
+  pub begun-letter : {i : ℕ} → r ≡ class.Letter i → letter-begun (start b []) ≡ i ∷ []
+  begun-letter {i} e = begun-by (class.Letter i) e
+
+  pub begun-nothing : OneOf no-letters (tagOf class-type.the-type r) → letter-begun (start b []) ≡ []
+  begun-nothing = go r refl
+    where
+      go : (q : Class) → r ≡ q → OneOf no-letters (tagOf class-type.the-type q) → letter-begun (start b []) ≡ []
+      go class.Blank e h = begun-by class.Blank e
+      go class.Figure e h = begun-by class.Figure e
+      go (class.Letter i) e h = absurd (miss no-letters 2 tt h)
+      go class.Other e h = begun-by class.Other e ∙ spelling-none b []

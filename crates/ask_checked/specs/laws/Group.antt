@@ -10,23 +10,28 @@ use Rattle.spec_file.specs.Limit.{access-groups, rules, most}
 use Rattle.spec_table.specs.View.{view}
 use Rattle.spec_table.specs.Check.{rules-run}
 use Rattle.spec_table.specs.Policy.{rule-of, row}
-use Rattle.spec_table.specs.laws.Standing.{stands, records-few}
+use Rattle.spec_table.specs.laws.Standing.{stands, rules-within, records-few}
 use Rattle.table_fields.specs.Field.{Word}
 use Rattle.table_read.specs.Stored.{Stored, word-of}
 use Rattle.ask_rule.specs.Rules.{rule-at}
 use Rattle.ask_checked.specs.Group.{group-rules}
-use Rattle.ask_checked.specs.laws.Decide.{run-inside}
 
 module _ (b : List ℕ) (i : ℕ) (h : Stored b access-groups i) where
+  run-inside : rules-run (row (view b) access-groups i) .first + rules-run (row (view b) access-groups i) .count ≤ length (view b .records rules)
+  run-inside = rules-within (view b) (stands b (h .table) .1) i (h .inside)
+
   pub group-counted : length (group-rules b i) ≡ rules-run (row (view b) access-groups i) .count
   group-counted =
       let run = rules-run (row (view b) access-groups i) in
-      length-map (part run (view b .records rules)) (rule-of (view b)) ∙ part-count run (view b .records rules) (run-inside b i h)
+      length-map (part run (view b .records rules)) (rule-of (view b)) ∙ part-count run (view b .records rules) run-inside
 
   pub group-few : length (group-rules b i) ≤ most rules
-  group-few = omega (arith, group-counted, run-inside b i h, records-few (view b) (stands b (h .table) .1) rules)
+  group-few = omega (arith, group-counted, run-inside, records-few (view b) (stands b (h .table) .1) rules)
 
   module _ {s n : ℕ} (f : Word (word-of b access-groups i 4) s) (c : Word (word-of b access-groups i 5) n) where
+    pub rule-stored : (k : ℕ) → k < n → Stored b rules (s + k)
+    rule-stored k l = record { table = h .table; inside = omega (arith, run-inside, f .is, c .is) }
+
     pub group-count : length (group-rules b i) ≡ n
     group-count = group-counted ∙ sym (c .is)
 
@@ -34,7 +39,7 @@ module _ (b : List ℕ) (i : ℕ) (h : Stored b access-groups i) where
     group-on k l =
         let run = rules-run (row (view b) access-groups i) in
         let x : run .first ≡ s = sym (f .is) in
-        read-on (rule-of (view b)) run (view b .records rules) [] k (run-inside b i h) (omega (arith, c .is))
+        read-on (rule-of (view b)) run (view b .records rules) [] k run-inside (omega (arith, c .is))
         ∙ ap (λ (m : ℕ). rule-at b (m + k) ∷ drop (k + 1) (group-rules b i)) x
 
     pub group-end : (k : ℕ) → n ≤ k → drop k (group-rules b i) ≡ []
