@@ -5,7 +5,7 @@ ghost use Rattle.spec_table.specs.Check.{is-table};
 ghost use Rattle.abi_ask.specs.Answers.{Answers};
 
 #[no_mangle]
-pub extern "C" fn hrazvanut_abi_decide_roles(
+pub extern "C" fn hrazvanut_abi_decide_letter(
     table: &[u8],
     group: &[u8],
     user: &[u8],
@@ -28,7 +28,7 @@ pub extern "C" fn hrazvanut_abi_decide_roles(
 
 // Asks of its caller: hrazvanut_abi_is_table has said 1 of the same bytes, or an accepted load left them.
 #[no_mangle]
-pub extern "C" fn hrazvanut_abi_decide_roles_checked(
+pub extern "C" fn hrazvanut_abi_decide_letter_checked(
     table: &[u8],
     group: &[u8],
     user: &[u8],

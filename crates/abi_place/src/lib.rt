@@ -1,7 +1,7 @@
 // The library's functions for C on one place of a register: its client removed, its right told. include/hrazvanut.h calls them.
 ghost use mathlib.Core.Path.{_≡_};
 ghost use Rattle.spec_places.specs.Storage.{right-in};
-ghost use Rattle.api_numbers.specs.Numbers.{right-number};
+ghost use Rattle.spec_rule.specs.Number.{decision-number};
 ghost use Rattle.abi_place.specs.Answers.{Removes};
 
 #[no_mangle]
@@ -13,8 +13,8 @@ pub extern "C" fn hrazvanut_abi_remove(places: &mut [u8], place: usize, changed:
 }
 
 #[no_mangle]
-pub extern "C" fn hrazvanut_abi_right(places: &[u8], place: usize) -> u8
-    ensures { λ r. ⌜ r ≡ right-number (right-in (now (places .entry)) place) ⌝ }
+pub extern "C" fn hrazvanut_abi_right_letter(places: &[u8], place: usize) -> u8
+    ensures { λ r. ⌜ r ≡ decision-number (right-in (now (places .entry)) place) ⌝ }
 {
-    api_numbers::right_number(place::right(places, place))
+    ask_number::number(place::right(places, place))
 }

@@ -2,9 +2,7 @@
 use mathlib.Core.Bool.{Bool, cond}
 use mathlib.Core.Option.{Option, none, some}
 use Prim.Native.Nat.{ℕ, _+_, _*_, min}
-use Rattle.spec_rule.specs.declared.Access.{Access}
-use Rattle.spec_rule.specs.declared.Decision.{Decision}
-use Rattle.spec_rule.specs.Rule.{rank}
+use Rattle.spec_rule.specs.Number.{decision-number}
 use Rattle.spec_file.specs.Refusal as refusal
 use Rattle.spec_load.specs.declared.Loaded.{Loaded}
 use Rattle.spec_load.specs.declared.Loaded.the-variants as loaded
@@ -36,16 +34,9 @@ abbrev pub listed-number : Listed → ℕ
 listed-number (listed.Warnings n) = packed n 0 0
 listed-number (listed.Refused k p) = packed p 0 (refusal.number k)
 
--- access in bits 0 and 1, trap in bit 2
-abbrev pub right-bits : Access → Bool → ℕ
-right-bits a trap = rank a + cond trap 4 0
-
-abbrev pub right-number : Decision → ℕ
-right-number d = right-bits (d .access) (d .trap)
-
--- a question: these bits, and the refusal
+-- a question: access, trap and letter as a register keeps them, and the refusal
 abbrev pub answer-number : Answer → ℕ
-answer-number a = packed (right-bits (decision.access-in a) (decision.trap-in a)) 0 (or-zero (decision.number a))
+answer-number a = packed (decision-number (decision.decision-in a)) 0 (or-zero (decision.number a))
 
 -- where a name stands, and its length
 abbrev pub at-in : Found → ℕ

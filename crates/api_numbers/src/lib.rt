@@ -4,13 +4,10 @@ use spec_decision::Found;
 use spec_file::Refusal;
 use spec_load::Listed;
 use spec_load::Loaded;
-use spec_rule::Access;
-use spec_rule::Decision;
 ghost use mathlib.Core.Path.{_≡_};
 ghost use Prim.Native.Nat.{_<_, min};
 ghost use Rattle.spec_file.specs.Refusal as refusal;
-ghost use Rattle.spec_rule.specs.Rule.{rank};
-ghost use Rattle.api_numbers.specs.Numbers.{packed, load-number, listed-number, right-number, answer-number, found-number};
+ghost use Rattle.api_numbers.specs.Numbers.{packed, load-number, listed-number, answer-number, found-number};
 
 fn at_most(n: usize, most: u32) -> u64
     ensures { λ r. ⌜ r ≡ min n most ⌝ }
@@ -72,31 +69,13 @@ pub fn listed_number(l: Listed) -> u64
     }
 }
 
-fn access_number(a: Access) -> u8
-    ensures { λ r. ⌜ r ≡ rank a ⌝ }
-{
-    match a {
-        Access::None => 0,
-        Access::Read => 1,
-        Access::Write => 2,
-    }
-}
-
-pub fn right_number(d: Decision) -> u8
-    ensures { λ r. ⌜ r ≡ right-number d ⌝ }
-{
-    let access = d.access;
-    let low = access_number(access);
-    if d.trap { low + 4 } else { low }
-}
-
 pub fn answer_number(a: Answer) -> u64
     ensures { λ r. ⌜ r ≡ answer-number a ⌝ }
 {
     match a {
         Answer::Answered(d) => {
-            let right = right_number(d);
-            packed(right as usize, 0, 0)
+            let decided = ask_number::number(d);
+            packed(decided as usize, 0, 0)
         }
         Answer::NotTable => packed(0, 0, 20),
         Answer::BadLevel => packed(0, 0, 21),

@@ -22,10 +22,10 @@ pub fn right(places: &[u8], place: usize) -> Decision
     ensures { λ r. ⌜ r ≡ right-in (now (places .entry)) place ⌝ }
 {
     if !reg_bytes::has_places(places) {
-        return reg_right::decoded(0);
+        return ask_number::from_number(0); // no register
     }
     if place < 64 {
-        return reg_right::decoded(reg_bytes::right(places, place));
+        return ask_number::from_number(reg_bytes::right(places, place));
     }
-    reg_right::decoded(0)
+    ask_number::from_number(0)
 }

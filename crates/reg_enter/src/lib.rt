@@ -7,7 +7,8 @@ ghost use Rattle.spec_rule.specs.Kept.{bit};
 ghost use Rattle.spec_table.specs.Check.{is-table};
 ghost use Rattle.spec_register.specs.Register.{most-clients, client-of};
 ghost use Rattle.spec_register.specs.Right.{differ};
-ghost use Rattle.spec_places.specs.Storage.{readings-in, decoded};
+ghost use Rattle.spec_rule.specs.Number.{decision-from};
+ghost use Rattle.spec_places.specs.Storage.{readings-in};
 ghost use Rattle.spec_places.specs.Writing.{entered, freed};
 ghost use Rattle.spec_places.specs.laws.Fits.{Fits};
 ghost use Rattle.reg_bytes.specs.Placed.{Placed};
@@ -17,7 +18,7 @@ ghost use Rattle.reg_enter.specs.Entered.{Enters, Left};
 // The bit of a place whose right's code was before and is after.
 fn changed_bit(p: usize, before: u8, after: u8) -> u64
     requires { ⌜ p < most-clients ⌝ }
-    ensures { λ r. ⌜ r ≡ bit (differ (decoded before) (decoded after)) * 2 ^ p ⌝ }
+    ensures { λ r. ⌜ r ≡ bit (differ (decision-from before) (decision-from after)) * 2 ^ p ⌝ }
 {
     if reg_right::differ(before, after) {
         return 1u64 << p;

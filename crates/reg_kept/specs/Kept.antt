@@ -1,6 +1,5 @@
 -- What a place keeps of its client, as the code hands it on.
 use mathlib.Core.Path.{_≡_}
-use mathlib.Core.Bool.{Bool, false}
 use mathlib.Core.List.{List, [], _∷_}
 use mathlib.Core.Option.{some}
 use Prim.Native.Nat.{ℕ, _≤_}
@@ -8,7 +7,7 @@ use lib.Ieee.{Float}
 use lib.ListN.{length, take, replicate}
 use lib.Seq.{sets}
 use Rattle.spec_calc.specs.declared.Reading.{Reading}
-use Rattle.spec_rule.specs.Kept.{truths}
+use Rattle.spec_rule.specs.Kept.{outcome-bytes}
 use Rattle.spec_file.specs.Limit.{most, rules}
 use Rattle.spec_register.specs.Register.{client-of}
 use Rattle.spec_places.specs.Storage.{readings-in}
@@ -32,10 +31,10 @@ kept-of t states values g l u h = kept t (readings-in states values) (client-of 
 abbrev pub kept-by-number : List ℕ → List ℕ → List Float → ℕ → List ℕ → List ℕ → ℕ → List ℕ
 kept-by-number t states values i u h l = kept-by t (readings-in states values) (client-of [] l u h) (some i)
 
--- the truths of the i-th group's calculations of some readings, then false
-abbrev pub truths-from : List ℕ → ℕ → List Reading → List Bool
-truths-from t i rs = sets (replicate (most rules) false) 0 (truths rs (rules-at t i))
+-- the outcomes of the i-th group's calculations of some readings, then false
+abbrev pub outcomes-from : List ℕ → ℕ → List Reading → List ℕ
+outcomes-from t i rs = sets (replicate (most rules) 0) 0 (outcome-bytes rs (rules-at t i))
 
 -- of the group's readings now
-abbrev pub truths-now : List ℕ → ℕ → List ℕ → List Float → List Bool
-truths-now t i states values = truths-from t i (readings-in states values i)
+abbrev pub outcomes-now : List ℕ → ℕ → List ℕ → List Float → List ℕ
+outcomes-now t i states values = outcomes-from t i (readings-in states values i)

@@ -8,7 +8,7 @@ ghost use Rattle.spec_file.specs.Limit.{access-groups};
 ghost use Rattle.spec_table.specs.Check.{is-table};
 ghost use Rattle.spec_places.specs.Storage.{nothing-kept};
 ghost use Rattle.table_read.specs.Stored.{Stored};
-ghost use Rattle.reg_kept.specs.Kept.{Keeps, kept-by-number, kept-of, truths-now};
+ghost use Rattle.reg_kept.specs.Kept.{Keeps, kept-by-number, kept-of, outcomes-now};
 
 // The number of the answering group and 1, or 0; the right's code; and of each of the group's rules, count of them, 1 if it stands.
 pub struct Kept {
@@ -44,16 +44,16 @@ fn wide(n: u32) -> usize
 }
 
 // Whose calculations are true now, of an access group's rules. Inner: callers know the group from a search in a checked table.
-pub fn truths_of(table: &[u8], group: usize, states: &[u8], values: &[f64]) -> [bool; 256]
+pub fn outcomes_of(table: &[u8], group: usize, states: &[u8], values: &[f64]) -> [u8; 256]
     requires { ⌜ Stored (now table) access-groups group ⌝ }
-    ensures { λ r. ⌜ r ≡ truths-now (now (table .entry)) group (now (states .entry)) (now (values .entry)) ⌝ }
+    ensures { λ r. ⌜ r ≡ outcomes-now (now (table .entry)) group (now (states .entry)) (now (values .entry)) ⌝ }
 {
     let inputs = reg_inputs::inputs_at(states, values, group * 21);
     let heard = inputs.values;
     let goods = inputs.good;
-    let mut truths = [false; 256];
-    ask_kept::calculate(table, group, &heard, &goods, &mut truths);
-    truths
+    let mut outcomes: [u8; 256] = [0; 256];
+    ask_kept::calculate(table, group, &heard, &goods, &mut outcomes);
+    outcomes
 }
 
 // What is kept of a client that an access group answers for: each rule is tried at most once, each calculation run once.
@@ -71,8 +71,8 @@ fn kept_by_group(
 {
     let mut flags: [u8; 256] = [0; 256];
     ask_kept::keep(table, i, user, host, wide(level), &mut flags, 0);
-    let truths = truths_of(table, i, states, values);
-    let right = reg_right::right_code(ask_kept::kept_decision(table, i, &flags, 0, &truths));
+    let outcomes = outcomes_of(table, i, states, values);
+    let right = ask_number::number(ask_kept::kept_decision(table, i, &flags, 0, &outcomes));
     let count = table_read::field(table, Section::AccessGroups, i, 5);
     Kept {
         number: small(i + 1),

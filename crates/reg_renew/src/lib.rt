@@ -15,31 +15,31 @@ fn wide(n: u8) -> usize
 }
 
 // Renews the right of one place, and says by a bit whether it has changed. A place that another group answers for costs one look at a byte.
-fn renew_place(places: &mut [u8], p: usize, table: &[u8], group: usize, truths: &[bool; 256]) -> u64
+fn renew_place(places: &mut [u8], p: usize, table: &[u8], group: usize, outcomes: &[u8; 256]) -> u64
     requires { ⌜ Placed (now places) p ⌝ }
-    requires { ⌜ Stored (now table) access-groups group × (most rules ≤ length (now truths)) ⌝ }
-    ensures { λ r. ⌜ Renews-place (now (table .entry)) group (now (truths .entry)) p (now (places .entry)) (now (places .exit)) r ⌝ }
+    requires { ⌜ Stored (now table) access-groups group × (most rules ≤ length (now outcomes)) ⌝ }
+    ensures { λ r. ⌜ Renews-place (now (table .entry)) group (now (outcomes .entry)) p (now (places .entry)) (now (places .exit)) r ⌝ }
 {
     if wide(reg_bytes::number(places, p)) != group + 1 {
         return 0;
     }
     let before = reg_bytes::right(places, p);
     let at = p * 448 + 187;
-    let after = reg_right::right_code(ask_kept::kept_decision(table, group, places, at, truths));
+    let after = ask_number::number(ask_kept::kept_decision(table, group, places, at, outcomes));
     places[p * 448 + 186] = after;
     reg_right::changed(before, after)
 }
 
-fn renew_by(places: &mut [u8], table: &[u8], group: usize, truths: &[bool; 256]) -> u64
+fn renew_by(places: &mut [u8], table: &[u8], group: usize, outcomes: &[u8; 256]) -> u64
     requires { ⌜ Placed (now places) 0 ⌝ }
-    requires { ⌜ Stored (now table) access-groups group × (most rules ≤ length (now truths)) ⌝ }
-    ensures { λ r. ⌜ Renews-all (now (table .entry)) group (now (truths .entry)) (now (places .entry)) (now (places .exit)) r ⌝ }
+    requires { ⌜ Stored (now table) access-groups group × (most rules ≤ length (now outcomes)) ⌝ }
+    ensures { λ r. ⌜ Renews-all (now (table .entry)) group (now (outcomes .entry)) (now (places .entry)) (now (places .exit)) r ⌝ }
 {
     let mut m: u64 = 0;
     let mut p: usize = 64;
     while 0 < p {
         p -= 1;
-        m = renew_place(places, p, table, group, truths) + 2 * m;
+        m = renew_place(places, p, table, group, outcomes) + 2 * m;
     }
     m
 }
@@ -52,6 +52,6 @@ pub fn renew(places: &mut [u8], states: &[u8], values: &[f64], table: &[u8], gro
     ensures { λ r.
         ⌜ All-renewed (now (table .entry)) group (readings-in (now (states .entry)) (now (values .entry)) group) (now (places .entry)) (now (places .exit)) r ⌝ }
 {
-    let truths = reg_kept::truths_of(table, group, states, values);
-    renew_by(places, table, group, &truths)
+    let outcomes = reg_kept::outcomes_of(table, group, states, values);
+    renew_by(places, table, group, &outcomes)
 }

@@ -9,8 +9,8 @@ use Rattle.api_numbers.proofs.answer_number.Tie as tie
 enum-known-a : tie.Need-enum-known-a
 enum-known-a c = search needs
 
-right-number-requires : tie.Need-right-number-requires
-right-number-requires c κs = search needs
+number-requires : tie.Need-number-requires
+number-requires c κs = search needs
 
 cast-packed : tie.Need-cast-packed
 cast-packed c = search needs
@@ -37,7 +37,7 @@ packed-requires-4 : tie.Need-packed-requires-4
 packed-requires-4 c κs = search needs
 
 returns : tie.Need-returns
-returns c = c .packed .ensures ∙ ap (λ (n : ℕ). packed n 0 0) (c .before .right-number .ensures) ∙ answered-is (c .before .before .before .a .given .1)
+returns c = c .packed .ensures ∙ ap (λ (n : ℕ). packed n 0 0) (c .before .number .ensures) ∙ answered-is (c .before .before .before .a .given .1)
 
 returns-2 : tie.Need-returns-2
 returns-2 c = c .packed2 .ensures ∙ sym (ap answer-number (c .before .enum-told .given .1))
@@ -53,7 +53,7 @@ answer-number-spec =
     tie.close
     (tie.spec
     enum-known-a
-    right-number-requires
+    number-requires
     cast-packed
     packed-requires
     enum-told

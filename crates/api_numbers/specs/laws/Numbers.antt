@@ -1,12 +1,9 @@
 -- Laws of the numbers of answers.
-use mathlib.Core.Path.{_≡_, refl, sym, ap}
-use mathlib.Core.Bool.{true, false}
-use Prim.Native.Nat.{ℕ, _+_, _≤_, _<_}
+use mathlib.Core.Path.{_≡_, sym, ap}
+use Prim.Native.Nat.{ℕ, _<_}
 use native.Mathlib.Omega.{arith}
 use Rattle.spec_rule.specs.declared.Decision.{Decision}
-use Rattle.spec_rule.specs.declared.Access.{Access}
-use Rattle.spec_rule.specs.declared.Access.the-variants as access
-use Rattle.spec_rule.specs.Rule.{rank}
+use Rattle.spec_rule.specs.Number.{decision-number}
 use Rattle.spec_file.specs.declared.Refusal.{Refusal}
 use Rattle.spec_file.specs.Refusal as refusal
 use Rattle.spec_file.specs.laws.Numbered.{number-small}
@@ -18,15 +15,10 @@ use Rattle.spec_decision.specs.declared.Answer.{Answer}
 use Rattle.spec_decision.specs.declared.Answer.the-variants as answer
 use Rattle.spec_decision.specs.declared.Found.{Found}
 use Rattle.spec_decision.specs.declared.Found.the-variants as found
-use Rattle.api_numbers.specs.Numbers.{packed, load-number, listed-number, right-number, answer-number, found-number}
+use Rattle.api_numbers.specs.Numbers.{packed, load-number, listed-number, answer-number, found-number}
 
 pub refusal-small : (k : Refusal) → refusal.number k < 256
 refusal-small k = omega (arith, number-small k)
-
-pub rank-small : (a : Access) → rank a ≤ 2
-rank-small access.None = omega arith
-rank-small access.Read = omega arith
-rank-small access.Write = omega arith
 
 pub loaded-is : {l : Loaded} {n m : ℕ} → l ≡ loaded.Accepted n m → packed n m 0 ≡ load-number l
 loaded-is e = sym (ap load-number e)
@@ -40,13 +32,7 @@ listed-is e = sym (ap listed-number e)
 pub listed-refused : {l : Listed} {k : Refusal} {p : ℕ} → l ≡ listed.Refused k p → packed p 0 (refusal.number k) ≡ listed-number l
 listed-refused e = sym (ap listed-number e)
 
-pub trap-is : (d : Decision) → d .trap ≡ true → rank (d .access) + 4 ≡ right-number d
-trap-is d b = rw b refl
-
-pub no-trap-is : (d : Decision) → d .trap ≡ false → rank (d .access) ≡ right-number d
-no-trap-is d b = rw b (omega arith)
-
-pub answered-is : {x : Answer} {d : Decision} → x ≡ answer.Answered d → packed (right-number d) 0 0 ≡ answer-number x
+pub answered-is : {x : Answer} {d : Decision} → x ≡ answer.Answered d → packed (decision-number d) 0 0 ≡ answer-number x
 answered-is e = sym (ap answer-number e)
 
 pub found-is : {x : Found} {at n : ℕ} → x ≡ found.Part at n → packed at n 0 ≡ found-number x

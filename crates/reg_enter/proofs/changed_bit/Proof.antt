@@ -1,5 +1,5 @@
 use Rattle.spec_places.specs.laws.Changed.{bit-on, bit-off}
-use Rattle.spec_places.specs.Storage.{decoded}
+use Rattle.spec_rule.specs.Number.{decision-from}
 use Rattle.spec_register.specs.Right.{differ}
 use mathlib.Core.Path.{sym, _∙_}
 use borrow.Author.Needs.{needs}
@@ -13,10 +13,10 @@ shl-result : tie.Need-shl-result
 shl-result c = search needs
 
 returns : tie.Need-returns
-returns c = let a = c .before .before .args in bit-on (differ (decoded (a .before)) (decoded (a .after))) (a .p) (c .before .before .pre) (sym (c .before .differ .ensures) ∙ c .if1 .taken)
+returns c = let a = c .before .before .args in bit-on (differ (decision-from (a .before)) (decision-from (a .after))) (a .p) (c .before .before .pre) (sym (c .before .differ .ensures) ∙ c .if1 .taken)
 
 returns-2 : tie.Need-returns-2
-returns-2 c = let a = c .before .before .args in bit-off (differ (decoded (a .before)) (decoded (a .after))) (a .p) (sym (c .before .differ .ensures) ∙ c .if1 .left)
+returns-2 c = let a = c .before .before .args in bit-off (differ (decision-from (a .before)) (decision-from (a .after))) (a .p) (sym (c .before .differ .ensures) ∙ c .if1 .left)
 
 pub changed-bit-spec : {M : Type 1} → statement M
 changed-bit-spec = tie.close (tie.spec differ-requires shl-result returns returns-2)

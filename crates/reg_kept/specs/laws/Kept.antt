@@ -1,6 +1,6 @@
 -- What the parts that the code works out make together: the bytes that a place keeps of a client.
 use mathlib.Core.Path.{_≡_, refl, sym, ap, ap₂, subst, _∙_}
-use mathlib.Core.Bool.{Bool, true, false, cond}
+use mathlib.Core.Bool.{Bool, true, cond}
 use mathlib.Core.List.{List, [], _∷_}
 use mathlib.Core.Option.{Option}
 use Prim.Native.Nat.{ℕ, suc, _+_, _*_, _<_}
@@ -8,16 +8,17 @@ use native.Mathlib.Omega.{arith}
 use lib.Ieee.{Float}
 use lib.ListN.{length, take, replicate, length-replicate}
 use lib.Seq.{sets, length-sets}
+use Rattle.spec_lists.specs.laws.Sets.{part-sets-all}
 use Rattle.spec_rule.specs.declared.Decision.{Decision}
 use Rattle.spec_rule.specs.Decision.{decision-by}
-use Rattle.spec_lists.specs.laws.Sets.{part-sets-all}
+use Rattle.spec_rule.specs.Number.{decision-number}
 use Rattle.spec_file.specs.Limit.{access-groups, rules, most}
 use Rattle.spec_table.specs.View.{view}
 use Rattle.spec_table.specs.Check.{is-table}
 use Rattle.spec_table.specs.laws.Standing.{stands, records-few}
 use Rattle.spec_decision.specs.Groups.{answering-number}
 use Rattle.spec_register.specs.Register.{Client, client-of, never-heard, letters}
-use Rattle.spec_places.specs.Storage.{nothing-kept, readings-in, right-code}
+use Rattle.spec_places.specs.Storage.{nothing-kept, readings-in}
 use Rattle.spec_places.specs.Writing.{kept-by, kept}
 use Rattle.spec_places.specs.laws.Numbers.{kept-agrees}
 use Rattle.spec_places.specs.laws.Readings.{none-heard}
@@ -29,11 +30,11 @@ use Rattle.table_read.specs.Search.{index-of}
 use Rattle.table_read.specs.laws.Search.{index-at, index-none}
 use Rattle.ask_rule.specs.Rules.{question}
 use Rattle.ask_checked.specs.Group.{group-rules}
+use Rattle.ask_checked.specs.laws.Group.{group-counted, group-few}
 use Rattle.ask_kept.specs.Kept.{client-bits, decision-kept}
-use Rattle.ask_kept.specs.laws.Group.{group-counted, group-few}
 use Rattle.ask_kept.specs.laws.Kept.{bits-count, kept-answers}
 use Rattle.reg_kept.specs.declared.Kept.{Kept}
-use Rattle.reg_kept.specs.Kept.{Keeps, kept-of, kept-by-number, truths-now}
+use Rattle.reg_kept.specs.Kept.{Keeps, kept-of, kept-by-number, outcomes-now}
 
 three : {a b c d : ℕ} {xs ys : List ℕ} → a ≡ b → c ≡ d → xs ≡ ys → _≡_ {A = List ℕ} (a ∷ c ∷ xs) (b ∷ d ∷ ys)
 three e f g = cc
@@ -63,23 +64,23 @@ module _ (t : List ℕ) (i : ℕ) (h : Stored t access-groups i) where
           ap₂ take n flags-are ∙ part-sets-all bits no-flags 0 (omega (arith, bits-count t i h u host l, group-few t i h, no-flags-count))
 
       decision-is :
-          {ts : List Bool} {d : Decision} → ts ≡ truths-now t i states values → d ≡ decision-kept t i flags 0 ts
+          {os : List ℕ} {d : Decision} → os ≡ outcomes-now t i states values → d ≡ decision-kept t i flags 0 os
           → d ≡ decision-by (question u host [] l (readings-in states values i)) (group-rules t i)
       decision-is y g =
-          let none-true : List Bool = replicate (most rules) false in
-          let n : length none-true ≡ most rules = length-replicate {A = Bool} (most rules) false in
+          let none-true : List ℕ = replicate (most rules) 0 in
+          let n : length none-true ≡ most rules = length-replicate {A = ℕ} (most rules) 0 in
           g
-          ∙ ap₂ (λ (k : List ℕ) (b : List Bool). decision-kept t i k 0 b) flags-are y
+          ∙ ap₂ (λ (k : List ℕ) (b : List ℕ). decision-kept t i k 0 b) flags-are y
           ∙ kept-answers t i h u host l no-flags 0 none-true (readings-in states values i) (omega (arith, no-flags-count)) (omega arith)
 
       pub keeps :
-          {ts : List Bool} {d : Decision} {right number count : ℕ} → ts ≡ truths-now t i states values → d ≡ decision-kept t i flags 0 ts
-          → right ≡ right-code d → Word (word-of t access-groups i 5) count → number ≡ i + 1
+          {os : List ℕ} {d : Decision} {right number count : ℕ} → os ≡ outcomes-now t i states values → d ≡ decision-kept t i flags 0 os
+          → right ≡ decision-number d → Word (word-of t access-groups i 5) count → number ≡ i + 1
           → Keeps (kept-by-number t states values i u host l) (record { number = number; right = right; count = count; flags = flags })
       keeps {number = number} y g f c n =
           let z : number ≡ suc i = omega arith in
           record {
-            is = three z (f ∙ ap right-code (decision-is y g)) (flags-taken c);
+            is = three z (f ∙ ap decision-number (decision-is y g)) (flags-taken c);
             few = omega (arith, c .is, group-counted t i h, group-few t i h);
             whole = ap length flags-are ∙ length-sets no-flags 0 (client-bits t i u host l) ∙ no-flags-count;
           }

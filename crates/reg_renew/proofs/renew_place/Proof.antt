@@ -6,7 +6,7 @@ use lib.ListN.{length-set}
 use borrow.Author.Needs.{needs}
 use Rattle.reg_renew.specs.laws.Renew.{not-renewed, place-renewed}
 use Rattle.reg_kept.specs.laws.Kept.{group-low}
-use Rattle.spec_places.specs.Storage.{right-code, decoded}
+use Rattle.spec_rule.specs.Number.{decision-number, decision-from}
 use Rattle.spec_register.specs.Right.{differ}
 use Rattle.spec_rule.specs.Kept.{bit}
 use Rattle.reg_renew.proofs.renew_place.Statement.{statement}
@@ -25,7 +25,7 @@ same-length : tie.Need-same-length
 same-length c = search needs
 
 returns : tie.Need-returns
-returns c = let a = c .before .before .before .before .before .before .args in not-renewed (a .table .now) (a .group) (a .truths .now) (a .places .now) (a .p) (λ e. c .if1 .taken (c .before .wide .ensures ∙ c .before .before .number .ensures ∙ e ∙ sym (add-one (a .group))))
+returns c = let a = c .before .before .before .before .before .before .args in not-renewed (a .table .now) (a .group) (a .outcomes .now) (a .places .now) (a .p) (λ e. c .if1 .taken (c .before .wide .ensures ∙ c .before .before .number .ensures ∙ e ∙ sym (add-one (a .group))))
 
 right-requires : tie.Need-right-requires
 right-requires c κs = search needs
@@ -39,8 +39,8 @@ add-at c = search needs
 kept-decision-requires : tie.Need-kept-decision-requires
 kept-decision-requires c κs = search needs
 
-right-code-requires : tie.Need-right-code-requires
-right-code-requires c κs = search needs
+number-requires-2 : tie.Need-number-requires-2
+number-requires-2 c κs = search needs
 
 mul-places : tie.Need-mul-places
 mul-places c = search needs
@@ -58,7 +58,7 @@ same-length-2 : tie.Need-same-length-2
 same-length-2 c = simp length-set
 
 returns-2 : tie.Need-returns-2
-returns-2 c = let a = c .before .before .before .before .before .before .before .before .before .before .before .before .args in place-renewed (a .table .now) (a .group) (a .truths .now) (a .places .now) (a .p) {at = a .p * 448 + 187} (c .before .before .before .before .before .before .before .before .before .before .before .before .pre .0) (sym (c .before .before .before .before .before .before .before .wide .ensures ∙ c .before .before .before .before .before .before .before .before .number .ensures) ∙ c .before .before .before .before .before .before .if1 .left ∙ add-one (a .group)) (omega arith) (c .before .right-code .ensures ∙ ap right-code (c .before .before .kept-decision .ensures)) (omega arith) (c .changed .ensures ∙ ap (λ (n : ℕ). bit (differ (decoded n) (decoded (c .before .right-code .result)))) (c .before .before .before .before .right .ensures))
+returns-2 c = let a = c .before .before .before .before .before .before .before .before .before .before .before .before .args in place-renewed (a .table .now) (a .group) (a .outcomes .now) (a .places .now) (a .p) {at = a .p * 448 + 187} (c .before .before .before .before .before .before .before .before .before .before .before .before .pre .0) (sym (c .before .before .before .before .before .before .before .wide .ensures ∙ c .before .before .before .before .before .before .before .before .number .ensures) ∙ c .before .before .before .before .before .before .if1 .left ∙ add-one (a .group)) (omega arith) (c .before .number2 .ensures ∙ ap decision-number (c .before .before .kept-decision .ensures)) (omega arith) (c .changed .ensures ∙ ap (λ (n : ℕ). bit (differ (decision-from n) (decision-from (c .before .number2 .result)))) (c .before .before .before .before .right .ensures))
 
 pub renew-place-spec : {M : Type 1} → statement M
 renew-place-spec =
@@ -73,7 +73,7 @@ renew-place-spec =
     mul-at
     add-at
     kept-decision-requires
-    right-code-requires
+    number-requires-2
     mul-places
     add-places
     slice-write-places

@@ -1,37 +1,30 @@
--- Two rights that are read from bytes differ exactly if their codes do.
-use mathlib.Core.Path.{_≡_, refl}
-use mathlib.Core.Bool.{true, false, not}
-use Prim.Native.Nat.{ℕ, zero, suc}
-use native.Mathlib.Omega.{arith}
+-- Two rights that are read from bytes differ exactly if their numbers do.
+use mathlib.Core.Path.{_≡_, refl, sym, ap, _∙_}
+use mathlib.Core.Bool.{Bool, true, false, not}
+use Prim.Native.Nat.{ℕ, _/_}
 use lib.Dec.{eqb}
-use borrow.Author.Tests.{ne-eqb}
-use Rattle.spec_rule.specs.declared.Access.the-variants as access
+use borrow.Author.Tests.{eqb-true, eqb-false}
 use Rattle.spec_rule.specs.declared.Decision.{Decision}
-use Rattle.spec_rule.specs.Decision.{with-trap, no-access}
+use Rattle.spec_rule.specs.Number.{decision-number, decision-from}
+use Rattle.spec_rule.specs.laws.Number.{decision-again, letter-known}
 use Rattle.spec_register.specs.Right.{differ}
-use Rattle.spec_places.specs.Storage.{right-code, decoded}
+use Rattle.spec_register.specs.laws.Changed.{differ-self, differ-is}
 
--- what holds of the four rights holds of any that is read from a byte
-of-four :
-    (P : Decision → Type 0) → P no-access → P (with-trap access.Read false) → P (with-trap access.Write false)
-    → P (with-trap access.Write true) → (n : ℕ) → P (decoded n)
-of-four P a b c d zero = a
-of-four P a b c d (suc zero) = b
-of-four P a b c d (suc (suc zero)) = c
-of-four P a b c d (suc (suc (suc zero))) = d
-of-four P a b c d (suc (suc (suc (suc n)))) =
-    let k = suc (suc (suc (suc n))) in
-    rw (ne-eqb k 1 (λ e. omega arith), ne-eqb k 2 (λ e. omega arith), ne-eqb k 3 (λ e. omega arith)) a
+read-again : (n : ℕ) → decision-from (decision-number (decision-from n)) ≡ decision-from n
+read-again n = decision-again (decision-from n) (letter-known (n / 8))
 
-abbrev By-codes : Decision → Decision → Type 0
-By-codes d e = not (eqb (right-code d) (right-code e)) ≡ differ d e
+pub differ-by-numbers :
+    (m n : ℕ) → not (eqb (decision-number (decision-from m)) (decision-number (decision-from n))) ≡ differ (decision-from m) (decision-from n)
+differ-by-numbers m n = go (eqb (decision-number (decision-from m)) (decision-number (decision-from n))) refl
+  where
+    one : Decision
+    one = decision-from m
 
-pub differ-by-codes : (m n : ℕ) → not (eqb (right-code (decoded m)) (right-code (decoded n))) ≡ differ (decoded m) (decoded n)
-differ-by-codes m n =
-    of-four
-    (λ d. By-codes d (decoded n))
-    (of-four (By-codes no-access) refl refl refl refl n)
-    (of-four (By-codes (with-trap access.Read false)) refl refl refl refl n)
-    (of-four (By-codes (with-trap access.Write false)) refl refl refl refl n)
-    (of-four (By-codes (with-trap access.Write true)) refl refl refl refl n)
-    m
+    other : Decision
+    other = decision-from n
+
+    go : (b : Bool) → eqb (decision-number one) (decision-number other) ≡ b → not b ≡ differ one other
+    go true e =
+        let z : one ≡ other = sym (read-again m) ∙ ap decision-from (eqb-true (decision-number one) (decision-number other) e) ∙ read-again n in
+        sym (ap (differ one) (sym z) ∙ differ-self one)
+    go false e = sym (differ-is one other .1 (λ z. eqb-false (decision-number one) (decision-number other) e (ap decision-number z)))

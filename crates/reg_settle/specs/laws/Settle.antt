@@ -15,7 +15,8 @@ use Rattle.spec_rule.specs.declared.Decision.{Decision}
 use Rattle.spec_rule.specs.Kept.{bit, says-stands}
 use Rattle.spec_register.specs.Register.{Client, client-of, most-clients, never-heard}
 use Rattle.spec_register.specs.Right.{differ}
-use Rattle.spec_places.specs.Storage.{Lent, places-bytes, all-readings, are-places, at-place, kept-at, decoded, client-from, readings-in, right-in}
+use Rattle.spec_rule.specs.Number.{decision-from}
+use Rattle.spec_places.specs.Storage.{Lent, places-bytes, all-readings, are-places, at-place, kept-at, client-from, readings-in, right-in}
 use Rattle.spec_places.specs.Writing.{kept, settled-client, settled}
 use Rattle.spec_places.specs.Calls.{are-states, has-room}
 use Rattle.spec_places.specs.laws.Fits.{kept-length, kept-least}
@@ -58,7 +59,7 @@ module _ (t : List ℕ) (b : List ℕ) (p : ℕ) where
 
   pub place-settled :
       {k : Kept} {c : List ℕ} {code m : ℕ} → Placed b p → taken ≡ true → Keeps (kept-here t b p) k → c ≡ sets b (kept-at p) (kept-bytes k)
-      → code ≡ getD b (kept-at p + 1) 0 → m ≡ bit (differ (decoded code) (decoded (k .right)))
+      → code ≡ getD b (kept-at p + 1) 0 → m ≡ bit (differ (decision-from code) (decision-from (k .right)))
       → Settles-place t p b c m
   place-settled {k} {c} {code} {m} h n q w o y =
       record {
@@ -66,7 +67,7 @@ module _ (t : List ℕ) (b : List ℕ) (p : ℕ) where
         changed =
             y
             ∙ ap₂ (λ (d f : Decision). bit (differ d f))
-            (ap decoded o ∙ sym (right-read b p (h .room) (h .inside)))
+            (ap decision-from o ∙ sym (right-read b p (h .room) (h .inside)))
             (sym after);
       }
     where
@@ -82,11 +83,11 @@ module _ (t : List ℕ) (b : List ℕ) (p : ℕ) where
       same : length c ≡ length b
       same = ap length w ∙ length-sets b (kept-at p) (kept-bytes k)
 
-      after : right-in c p ≡ decoded (k .right)
+      after : right-in c p ≡ decision-from (k .right)
       after =
           right-read c p (omega (arith, h .room, same)) (h .inside)
-          ∙ ap (λ (x : List ℕ). decoded (getD x (kept-at p + 1) 0)) w
-          ∙ ap decoded (getD-sets (kept-bytes k) b (kept-at p) 1 0 (omega (arith, h .room, h .inside, count, most)) (omega (arith, count, least)))
+          ∙ ap (λ (x : List ℕ). decision-from (getD x (kept-at p + 1) 0)) w
+          ∙ ap decision-from (getD-sets (kept-bytes k) b (kept-at p) 1 0 (omega (arith, h .room, h .inside, count, most)) (omega (arith, count, least)))
 
 -- ---- the loop: the places from p on are done
 
