@@ -58,7 +58,7 @@ pub record Held (table before done buffer : List ℕ) (count : ℕ) : Type 0 whe
 
 -- the most bytes of an answer with its newline, so that a piece has no more answers than that for each of its bytes
 abbrev pub longest-reply : ℕ
-longest-reply = 18
+longest-reply = 20
 
 -- n bytes were written to the start of the lent bytes, and those behind stay
 pub record Wrote (out out′ : List ℕ) (n : ℕ) : Type 0 where

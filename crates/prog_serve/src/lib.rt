@@ -31,7 +31,7 @@ fn answer_pieces(table: &[u8], fd: i32, piece: &mut [u8], buffer: &mut [u8]) -> 
     requires { ⌜ (is-table (now table) ≡ true) × (length (now buffer) ≡ room) × (length (now piece) ≤ 4096) ⌝ }
     ensures { λ r. ⌜ Ends (now (buffer .exit)) r ⌝ }
 {
-    let mut out = [0u8; 73728];
+    let mut out = [0u8; 81920];
     let mut count = 0;
     let mut rounds: u64 = 0;
     while rounds < MOST {
@@ -62,7 +62,7 @@ pub fn serve(table: &[u8], fd: i32, size: usize)
 {
     let mut piece = io::buffer();
     let mut buffer = [0u8; 256];
-    let mut out = [0u8; 18];
+    let mut out = [0u8; 20];
     let most = at_most(size);
     match answer_pieces(table, fd, &mut piece[..most], &mut buffer) {
         Ended::Whole(count) => {

@@ -6,10 +6,12 @@ ghost use lib.ListN.{length};
 ghost use mathlib.Core.List.{_++_};
 ghost use Rattle.spec_lists.specs.Text.{bytes};
 ghost use Rattle.prog_text.specs.Put.{Put};
-ghost use Rattle.prog_words.specs.Words.{access-word, log-word, answer-text, refused-line};
+ghost use Rattle.prog_words.specs.Words.{access-word, log-word, letter-word, answer-text, refused-line};
+use ask_number::letter_number;
 use prog_text::put;
 use spec_decision::Answer;
 use spec_rule::Access;
+use spec_rule::Stop;
 
 fn put_access(a: Access, out: &mut [u8], at: usize) -> usize
     requires { ⌜ at ≤ length (now out) ⌝ }
@@ -32,6 +34,15 @@ fn put_trap(trap: bool, out: &mut [u8], at: usize) -> usize
     put(b" NOTRAPWRITE", out, at)
 }
 
+fn put_letter(letter: Stop, out: &mut [u8], at: usize) -> usize
+    requires { ⌜ at ≤ length (now out) ⌝ }
+    ensures { λ r. ⌜ Put (bytes " " ++ letter-word letter) (now (out .entry)) at (now (out .exit)) r ⌝ }
+{
+    let words = b"-ABCDEFGHIJKLMNOPQRSTU";
+    let n = letter_number(letter);
+    put(&[b' ', words[n as usize]], out, at)
+}
+
 // What is printed for an answer. Callers begin at 0 or behind another text, which ends within.
 pub fn answer_text(a: Answer, out: &mut [u8], at: usize) -> usize
     requires { ⌜ at ≤ length (now out) ⌝ }
@@ -40,8 +51,10 @@ pub fn answer_text(a: Answer, out: &mut [u8], at: usize) -> usize
     match a {
         Answer::Answered(d) => {
             let access = d.access;
+            let letter = d.letter;
             let next = put_access(access, out, at);
-            put_trap(d.trap, out, next)
+            let last = put_trap(d.trap, out, next);
+            put_letter(letter, out, last)
         }
         Answer::NotTable => put(b"refused 20", out, at),
         Answer::BadLevel => put(b"refused 21", out, at),

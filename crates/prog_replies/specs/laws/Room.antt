@@ -1,5 +1,5 @@
--- How much room answers need: 18 bytes for each byte of a piece are enough.
-use mathlib.Core.Path.{_≡_, refl, sym, ap, _∙_}
+-- How much room answers need: 20 bytes for each byte of a piece are enough.
+use mathlib.Core.Path.{_≡_, refl}
 use mathlib.Core.Bool.{Bool, true, false}
 use mathlib.Core.List.{List, [], _∷_, _++_}
 use Prim.Native.Nat.{ℕ, suc, _+_, _*_, _≤_}
@@ -12,7 +12,7 @@ use Rattle.prog_replies.specs.Input.{ends-line, in-first, parted, replie
 use Rattle.prog_replies.specs.Pieces.{plain, Answers}
 use Rattle.prog_replies.specs.laws.Pieces.{by-first}
 
-pub short-replies : (table : List ℕ) (ls : List (List ℕ)) → length (replies table ls) ≤ 18 * length ls
+pub short-replies : (table : List ℕ) (ls : List (List ℕ)) → length (replies table ls) ≤ 20 * length ls
 unfolding replies
 short-replies table [] = omega arith
 short-replies table (l ∷ ls) =
@@ -43,7 +43,7 @@ few-behind (b ∷ h) p k = go (ends-line b) refl (few-behind h p)
 -- with that room the answers stand whole at the start
 pub stand-whole :
     {table h piece out out′ buffer : List ℕ} {printed count : ℕ} → Answers table h piece out out′ printed buffer count → plain h ≡ true
-    → 18 * length piece ≤ length out
+    → 20 * length piece ≤ length out
     → take printed out′ ≡ replies table (parted (h ++ piece) .lines)
 stand-whole {table} {h} {piece} a k r =
     put-whole (a .answers) (let z = short-replies table (parted (h ++ piece) .lines) in let y = few-behind h piece k in omega arith)

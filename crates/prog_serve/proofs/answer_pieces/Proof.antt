@@ -9,7 +9,7 @@ use Rattle.prog_serve.proofs.answer_pieces.Tie as tie
 
 abbrev Inv-loop : tie.InvT-loop
 Inv-loop table fd piece₀ buffer₀ out₀ count₀ rounds₀ piece buffer out count rounds =
-    (length piece ≡ length piece₀) × (length out ≡ 73728) × State buffer count
+    (length piece ≡ length piece₀) × (length out ≡ 81920) × State buffer count
 
 abbrev μ-loop : tie.MeasureT-loop
 μ-loop table fd piece₀ buffer₀ out₀ count₀ rounds₀ piece buffer out count rounds = 4611686018427387904 - rounds

@@ -15,6 +15,9 @@ put-access-requires c κs = search needs
 put-trap-requires : tie.Need-put-trap-requires
 put-trap-requires c κs = put-within (c .before .before .before .put-access .ensures)
 
+put-letter-requires : tie.Need-put-letter-requires
+put-letter-requires c κs = put-within (c .before .before .before .put-trap .ensures)
+
 enum-told : tie.Need-enum-told
 enum-told c = search needs
 
@@ -47,7 +50,7 @@ same-length c = search needs
 
 returns : tie.Need-returns
 unfolding answer-text
-returns c = put-as (ap answer-text (c .before .before .before .before .before .before .before .before .before .a .given .1)) (put-put (c .before .before .before .before .before .before .put-access .ensures) (c .before .before .put-trap .ensures))
+returns c = put-as (ap answer-text (c .before .before .before .before .before .before .before .before .before .before .before .before .before .a .given .1)) (put-put (c .before .before .before .before .before .before .before .before .before .before .put-access .ensures) (put-put (c .before .before .before .before .before .before .put-trap .ensures) (c .before .before .put-letter .ensures)))
 
 same-length-2 : tie.Need-same-length-2
 same-length-2 c = search needs
@@ -77,6 +80,7 @@ answer-text-spec =
     enum-known-a
     put-access-requires
     put-trap-requires
+    put-letter-requires
     enum-told
     slice-aggregate-put
     put-requires
