@@ -14,12 +14,28 @@ fn value_written(x: f64, s: &[u8]) -> bool {
     same(x, vec_bits::from_bits(vec_bits::bits(s)))
 }
 
-// Whether what a text comes to is as written: a value, or bad where a reading or an evaluated part is.
+// Whether a letter is the one that is written behind `bad `.
+fn letter_written(i: u8, s: &[u8]) -> bool {
+    let letter = part(s, 1, b' ');
+    if letter.len() != 1 {
+        return false;
+    }
+    if 20 < i {
+        return false;
+    }
+    if letter[0] != b'A' + i {
+        return false;
+    }
+    equal(part(s, 0, b' '), b"bad")
+}
+
+// Whether what a text comes to is as written: a value, or bad with the letter of a reading, or with none where an evaluated part is.
 fn as_written(w: Worth, s: &[u8]) -> bool {
     match w {
         Worth::NoCalculation => false,
-        Worth::Bad => equal(s, b"bad"),
-        Worth::Is(x) => !equal(s, b"bad") && value_written(x, s),
+        Worth::BadBy(i) => letter_written(i, s),
+        Worth::BadByArithmetic => equal(s, b"bad -"),
+        Worth::Is(x) => s.len() == 16 && value_written(x, s),
     }
 }
 
@@ -61,7 +77,7 @@ fn judge_all(s: &[u8]) {
 }
 
 fn main() {
-    let mut buf = [0u8; 524288];
+    let mut buf = [0u8; 540672];
     let n = prog_input::read(b"calc", &mut buf);
     judge_all(&buf[..n]);
 }
