@@ -21,6 +21,16 @@ impl Reading {
     }
 }
 
+/// What a calculation answers, by document 02's fifth request.
+#[derive(Clone, Copy, Debug, PartialEq)]
+pub enum Calculated {
+    Value(f64),
+    /// Bad by this letter.
+    Letter(u8),
+    /// Bad by arithmetic.
+    Arithmetic,
+}
+
 #[derive(Clone, Copy, Debug, PartialEq, Eq)]
 pub enum Operator {
     Or,
@@ -76,22 +86,44 @@ pub fn parse(text: &[u8]) -> Option<Tree> {
     reader.symbols.is_empty().then_some(tree)
 }
 
-/// Whether each letter in the tree, in either branch, has a good reading.
-pub fn hears_all(tree: &Tree, readings: &Readings) -> bool {
-    tree.letters().into_iter().all(|l| readings[l as usize].good().is_some())
+/// The lowest letter in the text, in either branch, whose reading is bad.
+pub fn bad_letter(tree: &Tree, readings: &Readings) -> Option<u8> {
+    tree.letters().into_iter().filter(|l| readings[*l as usize].good().is_none()).min()
 }
 
-/// The value; none where it is bad, by a letter or else by arithmetic.
-pub fn value(tree: &Tree, readings: &Readings) -> Option<f64> {
-    if !hears_all(tree, readings) {
-        return None;
+/// A bad letter comes before bad arithmetic.
+pub fn result(tree: &Tree, readings: &Readings) -> Calculated {
+    match bad_letter(tree, readings) {
+        Some(letter) => Calculated::Letter(letter),
+        None => tree.value(readings).map_or(Calculated::Arithmetic, Calculated::Value),
     }
-    tree.value(readings)
+}
+
+/// The value; none where it is bad.
+pub fn value(tree: &Tree, readings: &Readings) -> Option<f64> {
+    match result(tree, readings) {
+        Calculated::Value(value) => Some(value),
+        _ => None,
+    }
 }
 
 /// 0.99 < result < 1.01; false where the value is bad.
 pub fn holds(tree: &Tree, readings: &Readings) -> bool {
     value(tree, readings).is_some_and(|v| 0.99 < v && v < 1.01)
+}
+
+/// The value's bits, or `bad` with the letter, or with `-` for arithmetic.
+pub fn written(result: Calculated) -> String {
+    match result {
+        Calculated::Value(value) => format!("{:016x}", value.to_bits()),
+        Calculated::Letter(letter) => format!("bad {}", capital(Some(letter))),
+        Calculated::Arithmetic => format!("bad {}", capital(None)),
+    }
+}
+
+/// The letter, or `-` for none.
+pub fn capital(letter: Option<u8>) -> char {
+    letter.map_or('-', |l| char::from(b'A' + l))
 }
 
 fn symbols(text: &[u8]) -> Option<Vec<Symbol>> {

@@ -6,7 +6,8 @@
 //! `question` (decision and look-up), `calculation`, `programs`. `register` is
 //! document 02's first request, `script` its calls as lines; its second, roles,
 //! is part of `question`, its third, bad arithmetic, of `calculation`, its fourth,
-//! undefined groups, of `file`.
+//! undefined groups, of `file`, its fifth, the stopping letter, of `calculation`
+//! and `question`.
 #![forbid(unsafe_code)]
 
 pub mod calculation;

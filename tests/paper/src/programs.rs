@@ -1,6 +1,6 @@
 //! The two programs: what they print for what they read.
 
-use crate::calculation::{number, Reading, Readings};
+use crate::calculation::{capital, number, Reading, Readings};
 use crate::question::{decide, Access, Question};
 use crate::{load, read, Refusal, LETTERS, TABLE_BYTES};
 
@@ -51,7 +51,7 @@ pub fn answer_line(table: &[u8], line: &[u8]) -> String {
                 Access::Write => "WRITE",
             };
             let log = if answer.trap { "TRAPWRITE" } else { "NOTRAPWRITE" };
-            format!("{access} {log}\n")
+            format!("{access} {log} {}\n", capital(answer.letter))
         }
     }
 }

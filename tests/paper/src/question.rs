@@ -1,6 +1,6 @@
 //! The question: the decision, and the look-up of an input's name.
 
-use crate::calculation::{holds, parse, Readings};
+use crate::calculation::{bad_letter, holds, parse, Readings, Tree};
 use crate::table::{is_table, Run, StoredRule, Text, View, ACCESS_GROUPS, UNDEFINED};
 use crate::{LETTERS, ROLES, ROLE_BYTES};
 
@@ -15,6 +15,8 @@ pub enum Access {
 pub struct Answer {
     pub access: Access,
     pub trap: bool,
+    /// The one that stopped the asker, A being 0.
+    pub letter: Option<u8>,
 }
 
 /// A question without its table.
@@ -28,7 +30,7 @@ pub struct Question<'a> {
     pub readings: Readings,
 }
 
-pub const NOTHING: Answer = Answer { access: Access::None, trap: false };
+pub const NOTHING: Answer = Answer { access: Access::None, trap: false, letter: None };
 
 /// The answer, or refusal 20, 21 or 26.
 pub fn decide(table: &[u8], question: &Question) -> Result<Answer, u8> {
@@ -51,10 +53,19 @@ pub fn decide_checked(table: &[u8], question: &Question) -> Result<Answer, u8> {
     let (_, _, (first, count)) = view.access_group(group);
     let rules: Vec<StoredRule> = (first..first + count).map(|n| view.rule(n)).collect();
     let passing: Vec<&StoredRule> = rules.iter().filter(|rule| passes(&view, rule, question)).collect();
+    let access = passing.iter().map(|rule| access_of(rule)).max().unwrap_or(Access::None);
     Ok(Answer {
-        access: passing.iter().map(|rule| access_of(rule)).max().unwrap_or(Access::None),
+        access,
         trap: passing.iter().find(|r| access_of(r) == Access::Write).is_some_and(|r| r.traps()),
+        letter: rules.iter().filter(|r| access_of(r) > access).find_map(|r| stopped(&view, r, question)),
     })
+}
+
+/// Document 02's fifth request: the letter by which a rule's calculation is bad, if
+/// the rule fails by nothing else.
+fn stopped(view: &View, rule: &StoredRule, question: &Question) -> Option<u8> {
+    let tree = calculation(view, rule).filter(|_| admits(view, rule, question))?;
+    bad_letter(&tree, &question.readings)
 }
 
 fn access_of(rule: &StoredRule) -> Access {
@@ -78,12 +89,16 @@ pub(crate) fn answering_group(view: &View, name: &[u8]) -> Option<usize> {
 }
 
 fn passes(view: &View, rule: &StoredRule, question: &Question) -> bool {
+    admits(view, rule, question) && calculation_holds(view, rule, question)
+}
+
+/// All but the calculation.
+fn admits(view: &View, rule: &StoredRule, question: &Question) -> bool {
     let host = question.host.to_ascii_lowercase();
     !rule.is_switched_off()
         && question.level as usize <= rule.level()
         && has_member(view, rule.users, |n| view.user_group(n).1, |member| is_user(member, question))
         && has_member(view, rule.hosts, |n| view.host_group(n).1, |member| member == host)
-        && calculation_holds(view, rule, question)
 }
 
 /// Document 02's second request: `role/` and a role, else the user's name.
@@ -111,8 +126,12 @@ fn has_member(
 }
 
 fn calculation_holds(view: &View, rule: &StoredRule, question: &Question) -> bool {
-    rule.calculation == (0, 0)
-        || parse(view.string(rule.calculation)).is_some_and(|tree| holds(&tree, &question.readings))
+    rule.calculation == (0, 0) || calculation(view, rule).is_some_and(|tree| holds(&tree, &question.readings))
+}
+
+/// The calculation of a rule that has one.
+fn calculation(view: &View, rule: &StoredRule) -> Option<Tree> {
+    parse(view.string(rule.calculation))
 }
 
 /// Where the name of a letter's first input stands, and its length; or

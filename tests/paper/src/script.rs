@@ -121,7 +121,7 @@ pub fn line(call: &Call, answer: Result<Done, Refusal>, rights: &Rights) -> Stri
     format!("{said} | {}", rights.join(" "))
 }
 
-/// N, R or W, then `t` for trap or `-`.
+/// N, R or W, then `t` for trap or `-`. The scripts have no letter.
 pub fn right(answer: &Answer) -> String {
     let access = match answer.access {
         Access::None => 'N',

@@ -21,7 +21,7 @@ fn the_checker_in_full() {
 fn four_questions() {
     let rules = br#"ASG(DEFAULT) {INPA(B1:PGA) RULE(1,READ) RULE(1,WRITE,TRAPWRITE) {CALC("A>0.3?0:1")}}"#;
     let lines = b"- ann pc1 1 A:0.25\n- ann pc1 1 A:nan\n- ann pc1 1\n- ann pc1 2 A:0.25";
-    let answers = "WRITE TRAPWRITE\nREAD NOTRAPWRITE\nREAD NOTRAPWRITE\nrefused 21\n";
+    let answers = "WRITE TRAPWRITE -\nREAD NOTRAPWRITE A\nREAD NOTRAPWRITE A\nrefused 21\n";
     assert_eq!(ask(rules, lines), answers);
 }
 
@@ -41,13 +41,13 @@ fn long_calculation() {
 #[test]
 fn levels() {
     let answers = |rules: &[u8]| ask(rules, b"- u h 0\n- u h 1\n");
-    assert_eq!(answers(b"ASG(DEFAULT){RULE(1,WRITE)}"), "WRITE NOTRAPWRITE\nWRITE NOTRAPWRITE\n");
-    assert_eq!(answers(b"ASG(DEFAULT){RULE(0,WRITE)}"), "WRITE NOTRAPWRITE\nNONE NOTRAPWRITE\n");
+    assert_eq!(answers(b"ASG(DEFAULT){RULE(1,WRITE)}"), "WRITE NOTRAPWRITE -\nWRITE NOTRAPWRITE -\n");
+    assert_eq!(answers(b"ASG(DEFAULT){RULE(0,WRITE)}"), "WRITE NOTRAPWRITE -\nNONE NOTRAPWRITE -\n");
 }
 
 #[test]
 fn no_group_and_no_default() {
-    assert_eq!(ask(b"ASG(a){RULE(1,WRITE)}", b"b u h 0\n"), "NONE NOTRAPWRITE\n");
+    assert_eq!(ask(b"ASG(a){RULE(1,WRITE)}", b"b u h 0\n"), "NONE NOTRAPWRITE -\n");
 }
 
 #[test]

@@ -87,7 +87,7 @@ fn refusals_in_their_order() {
 #[test]
 fn channel_access_has_none() {
     let lines = b"- someone pc1 1\n- role/op pc1 1\n- op pc1 1\n";
-    assert_eq!(ask(RULES, lines), "WRITE NOTRAPWRITE\nNONE NOTRAPWRITE\nNONE NOTRAPWRITE\n");
+    assert_eq!(ask(RULES, lines), "WRITE NOTRAPWRITE -\nNONE NOTRAPWRITE -\nNONE NOTRAPWRITE -\n");
     let mut register = Register::empty();
     for user in ["someone", "role/op", "op"] {
         let client = Client { user: user.into(), ..Client::default() };
