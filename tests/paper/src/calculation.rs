@@ -121,6 +121,13 @@ pub fn written(result: Calculated) -> String {
     }
 }
 
+/// Whether a result, given by document 01 or by a request, is this one. Before
+/// document 02's fifth request a bad one had no second word.
+pub fn agrees(given: &str, result: Calculated) -> bool {
+    let found = written(result);
+    given == found || given == "bad" && !matches!(result, Calculated::Value(_))
+}
+
 /// The letter, or `-` for none.
 pub fn capital(letter: Option<u8>) -> char {
     letter.map_or('-', |l| char::from(b'A' + l))

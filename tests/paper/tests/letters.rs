@@ -1,7 +1,7 @@
 //! The stopping letter by its request's sentences.
 
-use paper::calculation::{parse, result, written, Readings};
-use paper::programs::ask;
+use paper::calculation::{self, parse, result, written, Calculated, Readings};
+use paper::programs::{self, ask};
 use paper::register::changed;
 use paper::{decide, Access, Client, Question, Reading, Register, LETTERS, TABLE_BYTES};
 
@@ -179,6 +179,24 @@ fn of_the_group_that_answers() {
 fn no_third_word_if_refused() {
     let file = br#"ASG(DEFAULT){INPA(x)RULE(1,WRITE){CALC("A")}}"#;
     assert_eq!(ask(file, b"- u h 2\n- u h\n- u h 1\n"), "refused 21\nrefused line\nNONE NOTRAPWRITE A\n");
+}
+
+/// What vectors that are older have not is not held against them.
+#[test]
+fn older_answers() {
+    let printed = "refused 21\nREAD NOTRAPWRITE A\nWRITE TRAPWRITE -\nrefused line\n";
+    let older = "refused 21\nREAD NOTRAPWRITE\nWRITE TRAPWRITE\nrefused line\n";
+    assert!(programs::agrees(printed, printed) && programs::agrees(older, printed));
+    let wrong = ["A", "READ", "NOTRAPWRITE", "21", "line", "\n"];
+    for (text, word) in [printed, older].into_iter().flat_map(|text| wrong.map(|word| (text, word))) {
+        let other = text.replacen(word, "-", 1);
+        assert!(!programs::agrees(&other, printed), "{other}");
+    }
+    let (letter, value) = (Calculated::Letter(1), Calculated::Value(1.0));
+    assert!(["bad", "bad B"].iter().all(|given| calculation::agrees(given, letter)));
+    assert!(["bad", "bad -"].iter().all(|given| calculation::agrees(given, Calculated::Arithmetic)));
+    assert!(!calculation::agrees("bad A", letter) && !calculation::agrees("bad -", letter));
+    assert!(!calculation::agrees("bad", value) && !calculation::agrees("bad B", Calculated::Arithmetic));
 }
 
 /// The right of a place has the letter too, and another letter is another right.

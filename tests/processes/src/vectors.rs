@@ -1,6 +1,6 @@
 //! The two programs on a folder of vectors: its `check` and its `ask`.
 
-use paper::programs;
+use paper::programs::{self, agrees};
 use processes::compare::{Bench, Go, Rules};
 use processes::process::How;
 use std::ffi::OsStr;
@@ -17,7 +17,8 @@ fn entries(folder: &Path) -> Vec<PathBuf> {
     paths
 }
 
-/// An amended one, named `check/NAME` or `ask/NAME`, is held to `paper`.
+/// An amended one, named `check/NAME` or `ask/NAME`, is held to `paper`; so are the
+/// answers of one that has no letters and else agrees.
 pub fn run(bench: &mut Bench, folder: &Path, amended: &[&str]) -> Go {
     let is_amended = |kind: &str, name: Option<&OsStr>| {
         amended.contains(&&*format!("{kind}/{}", name.unwrap_or_default().to_string_lossy()))
@@ -33,9 +34,10 @@ pub fn run(bench: &mut Bench, folder: &Path, amended: &[&str]) -> Go {
     }
     for path in entries(&folder.join("ask")) {
         let (input, mut output) = (bytes(&path.join("stdin")), bytes(&path.join("stdout")));
-        if is_amended("ask", path.file_name()) {
-            let rules = std::fs::read(path.join("rules.acf")).unwrap_or_default();
-            output = programs::ask(&rules, &input).into_bytes();
+        let rules = std::fs::read(path.join("rules.acf")).unwrap_or_default();
+        let printed = programs::ask(&rules, &input);
+        if is_amended("ask", path.file_name()) || agrees(&String::from_utf8_lossy(&output), &printed) {
+            output = printed.into_bytes();
         }
         bench.ask(Rules::In(&path), &input, &How::Pipe, &output)?;
     }
