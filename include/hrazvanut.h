@@ -1,10 +1,10 @@
 /* Verified access security for EPICS gateways: the proved library, for C (C99 or later) and C++ (C++11 or later).
  *
- * A gateway calls hrazvanut_load, hrazvanut_list_warnings, hrazvanut_is_table, hrazvanut_decide, hrazvanut_find_input and
- * hrazvanut_allowed; or it lends a register that holds its clients, and calls hrazvanut_reload, hrazvanut_add_client,
- * hrazvanut_change_client, hrazvanut_remove_client, hrazvanut_set_reading and hrazvanut_right_of. Those that take a table that was checked
- * before have names that end in _checked. All stand at the end of this file, each with its contract in words, and are inline: they pass
- * the parts of their structs on to the proved functions, hrazvanut_abi_*, and take the answers apart.
+ * A gateway calls hrazvanut_load, hrazvanut_list_warnings, hrazvanut_is_table, hrazvanut_decide, hrazvanut_find_input,
+ * hrazvanut_stopping_input and hrazvanut_allowed; or it lends a register that holds its clients, and calls hrazvanut_reload,
+ * hrazvanut_add_client, hrazvanut_change_client, hrazvanut_remove_client, hrazvanut_set_reading and hrazvanut_right_of. Those that take a
+ * table that was checked before have names that end in _checked. All stand at the end of this file, each with its contract in words, and
+ * are inline: they pass the parts of their structs on to the proved functions, hrazvanut_abi_*, and take the answers apart.
  *
  * Of every call whose name does not end in _checked: any bytes, any lengths, any numbers get an answer, in bounds and in bounded time. A
  * question, a register and a client are not NULL.
@@ -39,8 +39,9 @@
  *
  * Header and library are of one revision of the repository. A library knows no struct of this header; a function hrazvanut_abi_* whose
  * parameters or form of answer change gets another name, so that a header does not link with a library that it cannot talk to. Where the
- * rules change and the form does not, as in 5.0 and 6.0, MAJOR grows and the names stay. */
-#define HRAZVANUT_VERSION_MAJOR 6
+ * rules change and the form does not, as in 5.0 and 6.0, MAJOR grows and the names stay. In 7.0 a right has a letter, so `changed` tells
+ * of more, and three names are new. */
+#define HRAZVANUT_VERSION_MAJOR 7
 #define HRAZVANUT_VERSION_MINOR 0
 #define HRAZVANUT_VERSION (HRAZVANUT_VERSION_MAJOR * 1000 + HRAZVANUT_VERSION_MINOR)
 
@@ -205,6 +206,7 @@ struct hrazvanut_answer {
     enum hrazvanut_refusal refusal;
     enum hrazvanut_access access; /* HRAZVANUT_NONE if refused */
     bool trap;                    /* whether writes are to be trapped; not if refused */
+    char letter;                  /* 'A' to 'U': the one whose reading stopped the asker; 0 if there is none, as when refused */
 };
 
 /* Of a look-up. */
@@ -214,8 +216,8 @@ struct hrazvanut_found {
     size_t at;                  /* where it starts in the table, in bytes */
 };
 
-/* Of a client that is added, changed or removed. In each `changed` below, bit p is set exactly if the right of the place p, its access or
- * its trap flag, is another after the call than before: those clients are to be told. No bit is set if refused. */
+/* Of a client that is added, changed or removed. In each `changed` below, bit p is set exactly if the right of the place p, its access, its
+ * trap flag or its letter, is another after the call than before: those clients are to be told. No bit is set if refused. */
 struct hrazvanut_entered {
     enum hrazvanut_refusal refusal;
     size_t place; /* the client's; HRAZVANUT_PLACES, at which nobody stands, if refused */
@@ -238,6 +240,7 @@ struct hrazvanut_reloaded {
 struct hrazvanut_right {
     enum hrazvanut_access access;
     bool trap;
+    char letter; /* as of a question */
 };
 
 /* ---- the proved functions, on numbers and slices. Gateways call those of the next part. */
@@ -248,7 +251,8 @@ extern "C" {
 
 /* No pointer may be NULL. `values` is aligned as double, `places` as uint16_t. An answer of 64 bits holds a first number in bits 0 to 31, a
  * second in bits 32 to 47, and the refusal above them: of a load the length and the number of warnings, or the place; of a list of warnings
- * their number, or the place; of a question the access in bits 0 and 1 and the trap flag in bit 2; of a look-up the place and the length.
+ * their number, or the place; of a question the right; of a look-up the place and the length. A right has the access in bits 0 and 1, the
+ * trap flag in bit 2 and the letter in bits 3 to 7: 0 for none, 1 for A up to 21 for U.
  * An answer of 8 bits is 1 or 0. The letter i has states[i] and values[i]: past the end of states it was never heard, past the end of
  * values it is not a number. The role i is the next lengths[i] bytes of roles, in which all stand one behind the other; what is left
  * behind the last is not looked at, and lengths that go past the end are refused as too many roles are.
@@ -256,7 +260,7 @@ extern "C" {
  * A register is lent as three slices, those of its struct: of a slice that is longer the start is used, a slice that is shorter makes the
  * call refused with 34, before every other refusal, and each right NONE. The answer's first number is for a client that is added its place;
  * a reload answers as a load does; else both numbers are 0. `changed` is one word, or none with a length of 0; it is aligned as uint64_t
- * and written only if the call is not refused. A right has the access in bits 0 and 1 and the trap flag in bit 2. */
+ * and written only if the call is not refused. */
 uint64_t hrazvanut_abi_load(const uint8_t *text, size_t text_length, uint8_t *table, size_t table_length);
 uint64_t hrazvanut_abi_list_warnings(const uint8_t *text, size_t text_length, size_t skip, uint8_t *numbers, size_t numbers_length,
                                      uint16_t *places, size_t places_length);
@@ -266,8 +270,8 @@ typedef uint64_t hrazvanut_abi_question(const uint8_t *table, size_t table_lengt
                                         const uint8_t *roles, size_t roles_length, const uint8_t *lengths, size_t lengths_length,
                                         uint32_t level, const uint8_t *states, size_t states_length, const double *values,
                                         size_t values_length);
-hrazvanut_abi_question hrazvanut_abi_decide_roles;
-hrazvanut_abi_question hrazvanut_abi_decide_roles_checked;
+hrazvanut_abi_question hrazvanut_abi_decide_letter;
+hrazvanut_abi_question hrazvanut_abi_decide_letter_checked;
 uint64_t hrazvanut_abi_find_input(const uint8_t *table, size_t table_length, const uint8_t *group, size_t group_length, uint32_t letter);
 uint8_t hrazvanut_abi_allowed(const uint8_t *text, size_t text_length);
 typedef uint64_t hrazvanut_abi_adding(uint8_t *places, size_t places_length, const uint8_t *states, size_t states_length,
@@ -292,7 +296,7 @@ hrazvanut_abi_setting hrazvanut_abi_set;
 hrazvanut_abi_setting hrazvanut_abi_set_checked;
 uint64_t hrazvanut_abi_reload(uint8_t *places, size_t places_length, uint8_t *states, size_t states_length, const uint8_t *text,
                               size_t text_length, uint8_t *table, size_t table_length, uint64_t *changed, size_t changed_length);
-uint8_t hrazvanut_abi_right(const uint8_t *places, size_t places_length, size_t place);
+uint8_t hrazvanut_abi_right_letter(const uint8_t *places, size_t places_length, size_t place);
 
 #ifdef __cplusplus
 }
@@ -308,6 +312,13 @@ static inline const uint8_t *hrazvanut_abi_bytes(const void *start, size_t lengt
 static inline size_t hrazvanut_abi_first(uint64_t answer) { return (size_t)(answer & 0xffffffffu); }
 static inline size_t hrazvanut_abi_second(uint64_t answer) { return (size_t)(answer >> 32 & 0xffffu); }
 static inline enum hrazvanut_refusal hrazvanut_abi_refusal(uint64_t answer) { return (enum hrazvanut_refusal)(answer >> 48); }
+
+/* The letter of a right, as a capital. */
+static inline char hrazvanut_abi_letter(uint64_t right)
+{
+    unsigned number = (unsigned)(right >> 3 & 31);
+    return (char)(number == 0 ? 0 : 'A' + number - 1);
+}
 
 /* A reading as a byte and a value; its state is compared, not cut to a byte. */
 static inline uint8_t hrazvanut_abi_state(struct hrazvanut_reading reading)
@@ -378,6 +389,7 @@ static inline struct hrazvanut_answer hrazvanut_abi_ask(hrazvanut_abi_question *
     a.refusal = hrazvanut_abi_refusal(answer);
     a.access = (enum hrazvanut_access)(answer & 3);
     a.trap = (answer & 4) != 0;
+    a.letter = hrazvanut_abi_letter(answer);
     return a;
 }
 
@@ -538,11 +550,18 @@ static inline bool hrazvanut_is_table(struct hrazvanut_table table)
 /* Who may do what with a channel of a group. A rule whose calculation names a letter with a bad reading does not match; nor does one
  * whose calculation evaluates a part that is infinite or not a number, as 0/0 is. A member `role/NAME` of a user group is whoever has
  * the role NAME, and nobody by the user's name; the role of no bytes is that of the member `role/`. Every other member is the user of that
- * name. Refused: 20 not a table, then 21 a level neither 0 nor 1, then 26 more than HRAZVANUT_ROLES roles or one of more than
+ * name.
+ *
+ * The answer's letter says which reading to look at. It is the lowest in the calculation, in either branch, whose reading is bad: of the
+ * first rule of the group whose permission is above the access answered, whose calculation names a bad reading, and which fails by nothing
+ * else: it is not switched off, and level, user or role, and host are as it wants them. Without such a rule there is none: where a
+ * calculation is false, or bad by arithmetic, no reading is to blame.
+ *
+ * Refused: 20 not a table, then 21 a level neither 0 nor 1, then 26 more than HRAZVANUT_ROLES roles or one of more than
  * HRAZVANUT_ROLE_LENGTH bytes. */
 static inline struct hrazvanut_answer hrazvanut_decide(struct hrazvanut_table table, const struct hrazvanut_question *question)
 {
-    return hrazvanut_abi_ask(hrazvanut_abi_decide_roles, table, question);
+    return hrazvanut_abi_ask(hrazvanut_abi_decide_letter, table, question);
 }
 
 /* The same, for bytes of which hrazvanut_is_table has said true and that were not written since: the one precondition of this library,
@@ -550,7 +569,7 @@ static inline struct hrazvanut_answer hrazvanut_decide(struct hrazvanut_table ta
  * that an accepted load wrote need not be checked. Of other bytes nothing is promised, not even that it stays in bounds. */
 static inline struct hrazvanut_answer hrazvanut_decide_checked(struct hrazvanut_table table, const struct hrazvanut_question *question)
 {
-    return hrazvanut_abi_ask(hrazvanut_abi_decide_roles_checked, table, question);
+    return hrazvanut_abi_ask(hrazvanut_abi_decide_letter_checked, table, question);
 }
 
 /* ---- a look-up */
@@ -568,6 +587,14 @@ static inline struct hrazvanut_found hrazvanut_find_input(struct hrazvanut_table
     return found;
 }
 
+/* The name of the process variable that stopped an asker: the one that feeds the letter of an answer, or of a right, for a question of that
+ * group on that table. If a load wrote the table there is always such an input; other tables may have calculations of letters that have
+ * none. Refused: 20 not a table, then 22 no such input, as for every letter but 'A' to 'U': for 0 too, which an answer without one has. */
+static inline struct hrazvanut_found hrazvanut_stopping_input(struct hrazvanut_table table, struct hrazvanut_text group, char letter)
+{
+    return hrazvanut_find_input(table, group, (uint32_t)(letter - 'A')); /* what is below 'A' is far above 'U' */
+}
+
 /* ---- a calculation */
 
 /* Whether a text is a calculation that 01 allows, of at most 79 bytes, apart from its letters having inputs. */
@@ -583,7 +610,8 @@ static inline bool hrazvanut_allowed(struct hrazvanut_text text)
  * whatever calls were made, as long as nobody else writes the register or the table:
  *
  * - each client's right is what hrazvanut_decide would answer now to a question with its names and level, no roles, and the readings of the
- *   group that answers (for a group that is not defined those of DEFAULT); while the bytes are no table it is NONE without trap;
+ *   group that answers (for a group that is not defined those of DEFAULT), its letter too; while the bytes are no table it is NONE without
+ *   trap or letter;
  * - a client stays as last given until it is changed or removed, a reading as last set until the next accepted reload.
  *
  * A refused call changes no byte of the register or of the table. */
@@ -618,7 +646,7 @@ static inline struct hrazvanut_entered hrazvanut_change_client_checked(struct hr
     return hrazvanut_abi_reenter(hrazvanut_abi_change_checked, reg, table, place, client);
 }
 
-/* Removes the client at a place; the place is free, and its right NONE without trap. Refused: 25 no client there. */
+/* Removes the client at a place; the place is free, and its right NONE without trap or letter. Refused: 25 no client there. */
 static inline struct hrazvanut_entered hrazvanut_remove_client(struct hrazvanut_register *reg, size_t place)
 {
     uint64_t changed = 0;
@@ -659,14 +687,15 @@ static inline struct hrazvanut_reloaded hrazvanut_reload(struct hrazvanut_regist
     return reloaded;
 }
 
-/* The right that the client at a place has now: a look at the register, not a decision. NONE without trap at a free place and at every
- * place over 63. */
+/* The right that the client at a place has now: a look at the register, not a decision. NONE without trap or letter at a free place and at
+ * every place over 63. */
 static inline struct hrazvanut_right hrazvanut_right_of(const struct hrazvanut_register *reg, size_t place)
 {
-    uint8_t answer = hrazvanut_abi_right(reg->places, sizeof reg->places, place);
+    uint8_t answer = hrazvanut_abi_right_letter(reg->places, sizeof reg->places, place);
     struct hrazvanut_right right;
     right.access = (enum hrazvanut_access)(answer & 3);
     right.trap = (answer & 4) != 0;
+    right.letter = hrazvanut_abi_letter(answer);
     return right;
 }
 

@@ -50,7 +50,7 @@ static void words(void)
     static const int known[] = {0, 1, 2, 3, 4, 5, 6, 7, 8, 9, 10, 11, 12, 20, 21, 22, 23, 24, 25, 26, 34};
     size_t k = 0;
     int n;
-    CHECK(HRAZVANUT_VERSION == 6000 && HRAZVANUT_VERSION / 1000 == HRAZVANUT_VERSION_MAJOR);
+    CHECK(HRAZVANUT_VERSION == 7000 && HRAZVANUT_VERSION / 1000 == HRAZVANUT_VERSION_MAJOR);
     CHECK(HRAZVANUT_ROLES == 16 && HRAZVANUT_ROLE_LENGTH == 60);
     CHECK(hrazvanut_abi_bytes(NULL, 0) != NULL);
     CHECK(hrazvanut_string(NULL).length == 0);
@@ -242,19 +242,26 @@ static struct hrazvanut_answer ask(struct hrazvanut_table table, const struct hr
     struct hrazvanut_answer answer = hrazvanut_decide(table, question);
     if (hrazvanut_is_table(table)) {
         struct hrazvanut_answer checked = hrazvanut_decide_checked(table, question);
-        CHECK(checked.refusal == answer.refusal && checked.access == answer.access && checked.trap == answer.trap);
+        CHECK(checked.refusal == answer.refusal && checked.access == answer.access && checked.trap == answer.trap &&
+              checked.letter == answer.letter);
     }
     return answer;
 }
 
+/* No reading is to blame. */
 static bool answers(struct hrazvanut_answer answer, enum hrazvanut_access access, bool trap)
 {
-    return answer.refusal == HRAZVANUT_NOT_REFUSED && answer.access == access && answer.trap == trap;
+    return answer.refusal == HRAZVANUT_NOT_REFUSED && answer.access == access && answer.trap == trap && answer.letter == 0;
+}
+
+static bool blames(struct hrazvanut_answer answer, enum hrazvanut_access access, char letter)
+{
+    return answer.refusal == HRAZVANUT_NOT_REFUSED && answer.access == access && !answer.trap && answer.letter == letter;
 }
 
 static bool refuses(struct hrazvanut_answer answer, enum hrazvanut_refusal refusal)
 {
-    return answer.refusal == refusal && answer.access == HRAZVANUT_NONE && !answer.trap;
+    return answer.refusal == refusal && answer.access == HRAZVANUT_NONE && !answer.trap && answer.letter == 0;
 }
 
 static const char site[] = "UAG(users) {ann} HAG(hosts) {pc1}\n"
@@ -328,22 +335,22 @@ static void readings(struct hrazvanut_table table)
     bad[0] = NAN, bad[1] = HUGE_VAL, bad[2] = -HUGE_VAL;
     for (i = 0; i < 3; i++) {
         q.readings[0].value = bad[i];
-        CHECK(answers(ask(table, &q), HRAZVANUT_READ, false));
+        CHECK(blames(ask(table, &q), HRAZVANUT_READ, 'A'));
     }
     q.readings[0].value = 0.3;
     CHECK(answers(ask(table, &q), HRAZVANUT_READ, false));
     q.readings[0].value = -0.0;
     CHECK(answers(ask(table, &q), HRAZVANUT_WRITE, true));
     q.readings[0].state = HRAZVANUT_NEVER_HEARD;
-    CHECK(answers(ask(table, &q), HRAZVANUT_READ, false));
+    CHECK(blames(ask(table, &q), HRAZVANUT_READ, 'A'));
     q.readings[0].state = HRAZVANUT_INVALID;
-    CHECK(answers(ask(table, &q), HRAZVANUT_READ, false));
+    CHECK(blames(ask(table, &q), HRAZVANUT_READ, 'A'));
     q.readings[0].state = (enum hrazvanut_state)3;
-    CHECK(answers(ask(table, &q), HRAZVANUT_READ, false));
+    CHECK(blames(ask(table, &q), HRAZVANUT_READ, 'A'));
     q.readings[0].state = (enum hrazvanut_state)258;
-    CHECK(answers(ask(table, &q), HRAZVANUT_READ, false));
+    CHECK(blames(ask(table, &q), HRAZVANUT_READ, 'A'));
     q.readings[0].state = (enum hrazvanut_state)-254;
-    CHECK(answers(ask(table, &q), HRAZVANUT_READ, false));
+    CHECK(blames(ask(table, &q), HRAZVANUT_READ, 'A'));
 }
 
 /* Each letter has its own reading. */
@@ -360,7 +367,10 @@ static void letters(void)
             struct hrazvanut_question q = ZERO;
             q.readings[heard].state = HRAZVANUT_VALUE;
             q.readings[heard].value = 7;
-            CHECK(answers(ask(table, &q), heard == letter ? HRAZVANUT_WRITE : HRAZVANUT_NONE, false));
+            if (heard == letter)
+                CHECK(answers(ask(table, &q), HRAZVANUT_WRITE, false));
+            else
+                CHECK(blames(ask(table, &q), HRAZVANUT_NONE, (char)('A' + letter)));
         }
     }
 }
@@ -507,9 +517,10 @@ static uint64_t pooled(struct hrazvanut_table table, const char *pool, size_t le
     static const double calm = 0;
     const uint8_t *bytes = (const uint8_t *)pool, *each = (const uint8_t *)lengths;
     uint64_t answer =
-        hrazvanut_abi_decide_roles(table.start, table.length, &some, 0, &some, 0, &some, 0, bytes, length, each, count, 1, &some, 0, &calm, 0);
-    CHECK(answer == hrazvanut_abi_decide_roles_checked(table.start, table.length, &some, 0, &some, 0, &some, 0, bytes, length, each, count, 1,
-                                                       &some, 0, &calm, 0));
+        hrazvanut_abi_decide_letter(table.start, table.length, &some, 0, &some, 0, &some, 0, bytes, length, each, count, 1, &some, 0, &calm,
+                                    0);
+    CHECK(answer == hrazvanut_abi_decide_letter_checked(table.start, table.length, &some, 0, &some, 0, &some, 0, bytes, length, each, count,
+                                                        1, &some, 0, &calm, 0));
     return answer;
 }
 
@@ -535,15 +546,15 @@ static void numbers(struct hrazvanut_table table)
     const uint64_t none = UINT64_C(20) << 48;
     const uint8_t *bytes = table.start;
     size_t length = table.length;
-    CHECK(hrazvanut_abi_decide_roles(bytes, length, ann, 0, ann, 3, pc1, 3, ann, 0, ann, 0, 1, &heard, 1, &calm, 1) == 6);
-    CHECK(hrazvanut_abi_decide_roles(bytes, length, ann, 0, ann, 3, pc1, 3, ann, 0, ann, 0, 1, &heard, 1, &calm, 0) == 1);
-    CHECK(hrazvanut_abi_decide_roles(bytes, length, ann, 0, ann, 3, pc1, 3, ann, 0, ann, 0, 1, &heard, 0, &calm, 1) == 1);
-    CHECK(hrazvanut_abi_decide_roles(bytes, length, ann, 0, ann, 3, pc1, 3, ann, 0, ann, 0, 1, &unknown, 1, &calm, 1) == 1);
-    CHECK(hrazvanut_abi_decide_roles(bytes, length, ann, 0, ann, 3, pc1, 3, ann, 0, ann, 0, 2, &heard, 1, &calm, 1) == UINT64_C(21) << 48);
-    CHECK(hrazvanut_abi_decide_roles(bytes, 0, ann, 0, ann, 3, pc1, 3, ann, 0, ann, 0, 2, &heard, 1, &calm, 1) == none);
-    CHECK(hrazvanut_abi_decide_roles(bytes, 0, ann, 0, ann, 3, pc1, 3, ann, 0, ann, 3, 2, &heard, 1, &calm, 1) == none);
-    CHECK(hrazvanut_abi_decide_roles(bytes, length, ann, 0, ann, 3, pc1, 3, ann, 3, ann, 1, 1, &heard, 1, &calm, 1) == UINT64_C(26) << 48);
-    CHECK(hrazvanut_abi_decide_roles_checked(bytes, length, ann, 0, ann, 3, pc1, 3, ann, 0, ann, 0, 1, &heard, 1, &calm, 1) == 6);
+    CHECK(hrazvanut_abi_decide_letter(bytes, length, ann, 0, ann, 3, pc1, 3, ann, 0, ann, 0, 1, &heard, 1, &calm, 1) == 6);
+    CHECK(hrazvanut_abi_decide_letter(bytes, length, ann, 0, ann, 3, pc1, 3, ann, 0, ann, 0, 1, &heard, 1, &calm, 0) == 9);
+    CHECK(hrazvanut_abi_decide_letter(bytes, length, ann, 0, ann, 3, pc1, 3, ann, 0, ann, 0, 1, &heard, 0, &calm, 1) == 9);
+    CHECK(hrazvanut_abi_decide_letter(bytes, length, ann, 0, ann, 3, pc1, 3, ann, 0, ann, 0, 1, &unknown, 1, &calm, 1) == 9);
+    CHECK(hrazvanut_abi_decide_letter(bytes, length, ann, 0, ann, 3, pc1, 3, ann, 0, ann, 0, 2, &heard, 1, &calm, 1) == UINT64_C(21) << 48);
+    CHECK(hrazvanut_abi_decide_letter(bytes, 0, ann, 0, ann, 3, pc1, 3, ann, 0, ann, 0, 2, &heard, 1, &calm, 1) == none);
+    CHECK(hrazvanut_abi_decide_letter(bytes, 0, ann, 0, ann, 3, pc1, 3, ann, 0, ann, 3, 2, &heard, 1, &calm, 1) == none);
+    CHECK(hrazvanut_abi_decide_letter(bytes, length, ann, 0, ann, 3, pc1, 3, ann, 3, ann, 1, 1, &heard, 1, &calm, 1) == UINT64_C(26) << 48);
+    CHECK(hrazvanut_abi_decide_letter_checked(bytes, length, ann, 0, ann, 3, pc1, 3, ann, 0, ann, 0, 1, &heard, 1, &calm, 1) == 6);
     CHECK(hrazvanut_abi_find_input(table.start, 0, ann, 0, 0) == none);
     CHECK(hrazvanut_abi_find_input(table.start, table.length, ann, 0, 1) == UINT64_C(22) << 48);
     CHECK(hrazvanut_abi_find_input(table.start, table.length, ann, 0, 0) >> 32 == 6);
@@ -586,6 +597,89 @@ static void look_ups(void)
     }
 }
 
+/* From the letter of an answer to the process variable. */
+static const char stops[] = "UAG(u) {ann} ASG(DEFAULT) {INPU(D:U) INPA(D:A) INPB(D:B) RULE(1,READ)\n"
+                            "RULE(1,WRITE,TRAPWRITE) {UAG(u) CALC(\"u>0?B:A\")}}\n"
+                            "ASG(tower) {INPB(T:B) RULE(1,NONE) {CALC(\"B\")} RULE(1,READ) {CALC(\"b\")}} ASG(bare)\n";
+
+static void blamed(struct hrazvanut_table table, const struct hrazvanut_question *q, enum hrazvanut_access access, char letter,
+                   const char *name)
+{
+    struct hrazvanut_answer answer = ask(table, q);
+    struct hrazvanut_found found = hrazvanut_stopping_input(table, q->group, answer.letter);
+    CHECK(blames(answer, access, letter));
+    CHECK(found.refusal == HRAZVANUT_NOT_REFUSED && is_text(found.name, name));
+    CHECK(found.name.start == (const char *)table.start + found.at);
+}
+
+static void answers_to_inputs(struct hrazvanut_table table)
+{
+    struct hrazvanut_question q = of_ann();
+    blamed(table, &q, HRAZVANUT_READ, 'B', "D:B");
+    q.readings[0].state = HRAZVANUT_INVALID;
+    blamed(table, &q, HRAZVANUT_READ, 'A', "D:A");
+    q.group = hrazvanut_string("nowhere");
+    blamed(table, &q, HRAZVANUT_READ, 'A', "D:A");
+    q.group = hrazvanut_string("tower");
+    blamed(table, &q, HRAZVANUT_NONE, 'B', "T:B");
+    q.group = hrazvanut_string("bare");
+    CHECK(answers(ask(table, &q), HRAZVANUT_NONE, false));
+    q.group = hrazvanut_string("");
+    q.readings[0] = q.readings[1] = of_ann().readings[0];
+    blamed(table, &q, HRAZVANUT_READ, 'U', "D:U");
+    q.readings[20] = q.readings[0];
+    CHECK(answers(ask(table, &q), HRAZVANUT_READ, false));
+    q.readings[20].state = HRAZVANUT_NEVER_HEARD;
+    q.user = hrazvanut_string("eve");
+    CHECK(answers(ask(table, &q), HRAZVANUT_READ, false));
+}
+
+/* Each byte for a letter, in a group and in none. */
+static void each_byte(struct hrazvanut_table table)
+{
+    struct hrazvanut_text no_group = ZERO;
+    struct hrazvanut_table none = ZERO;
+    int byte;
+    for (byte = 0; byte < 256; byte++) {
+        struct hrazvanut_found found = hrazvanut_stopping_input(table, no_group, (char)byte);
+        bool here = byte == 'A' || byte == 'B' || byte == 'U';
+        CHECK(found.refusal == (here ? HRAZVANUT_NOT_REFUSED : HRAZVANUT_REFUSED_NO_INPUT));
+        CHECK(here ? found.name.start[2] == byte && found.name.length == 3 : found.name.start == NULL && found.name.length == 0);
+        found = hrazvanut_stopping_input(table, hrazvanut_string("tower"), (char)byte);
+        CHECK(found.refusal == (byte == 'B' ? HRAZVANUT_NOT_REFUSED : HRAZVANUT_REFUSED_NO_INPUT));
+        CHECK(hrazvanut_stopping_input(none, no_group, (char)byte).refusal == HRAZVANUT_REFUSED_NOT_TABLE);
+    }
+}
+
+/* A table that no load writes: its first input, of 6 bytes, is another letter's, so that U has none. */
+static void letter_without_input(struct hrazvanut_table table)
+{
+    struct hrazvanut_question q = of_ann();
+    struct hrazvanut_answer answer;
+    q.readings[1] = q.readings[0];
+    lent[lent[22] | lent[23] << 8] = 3;
+    CHECK(hrazvanut_is_table(table));
+    answer = ask(table, &q);
+    CHECK(blames(answer, HRAZVANUT_READ, 'U'));
+    CHECK(hrazvanut_stopping_input(table, q.group, answer.letter).refusal == HRAZVANUT_REFUSED_NO_INPUT);
+}
+
+static void stopping(void)
+{
+    static const uint8_t ann[] = "ann";
+    static const uint8_t heard[2] = {2, 2};
+    static const double calm[2] = {0, 0};
+    struct hrazvanut_table table = load(stops).table;
+    const uint8_t *bytes = table.start;
+    size_t length = table.length;
+    CHECK(hrazvanut_is_table(table));
+    CHECK(hrazvanut_abi_decide_letter(bytes, length, ann, 0, ann, 3, ann, 0, ann, 0, ann, 0, 1, heard, 2, calm, 2) == (1 | 21 << 3));
+    CHECK(hrazvanut_abi_decide_letter(bytes, length, ann, 0, ann, 3, ann, 0, ann, 0, ann, 0, 1, heard, 1, calm, 1) == (1 | 2 << 3));
+    answers_to_inputs(table);
+    each_byte(table);
+    letter_without_input(table);
+}
+
 static void calculations(void)
 {
     struct hrazvanut_text none = ZERO;
@@ -602,6 +696,7 @@ int main(void)
     tables();
     questions();
     look_ups();
+    stopping();
     calculations();
     registers();
     printf("%lu checks, %lu wrong\n", checks, wrong);

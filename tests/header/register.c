@@ -19,10 +19,17 @@ static const char site[] = "UAG(users) {ann} HAG(hosts) {pc1}\n"
 
 /* ---- calls, each with what holds of every one */
 
+/* No reading is to blame. */
 static bool has(size_t place, enum hrazvanut_access access, bool trap)
 {
     struct hrazvanut_right right = hrazvanut_right_of(&reg, place);
-    return right.access == access && right.trap == trap;
+    return right.access == access && right.trap == trap && right.letter == 0;
+}
+
+static bool blames(size_t place, enum hrazvanut_access access, char letter)
+{
+    struct hrazvanut_right right = hrazvanut_right_of(&reg, place);
+    return right.access == access && !right.trap && right.letter == letter;
 }
 
 static uint64_t differing(void)
@@ -31,7 +38,7 @@ static uint64_t differing(void)
     size_t p;
     for (p = 0; p < PLACES; p++) {
         struct hrazvanut_right was = hrazvanut_right_of(&before, p), is = hrazvanut_right_of(&reg, p);
-        bits |= (uint64_t)(was.access != is.access || was.trap != is.trap) << p;
+        bits |= (uint64_t)(was.access != is.access || was.trap != is.trap || was.letter != is.letter) << p;
     }
     return bits;
 }
@@ -160,7 +167,7 @@ static void empty(void)
     CHECK(has(0, HRAZVANUT_NONE, false));
     CHECK(change(0, &nobody).refusal == HRAZVANUT_NOT_REFUSED);
     CHECK(reload(site).changed == 1);
-    CHECK(has(0, HRAZVANUT_READ, false));
+    CHECK(blames(0, HRAZVANUT_READ, 'U'));
     for (i = 0; i < sizeof beyond / sizeof *beyond; i++) {
         CHECK(has(beyond[i], HRAZVANUT_NONE, false));
         CHECK(remove_at(beyond[i]).refusal == HRAZVANUT_REFUSED_NO_CLIENT);
@@ -282,17 +289,18 @@ static void readings(void)
     start();
     bad[0] = NAN, bad[1] = HUGE_VAL, bad[2] = -HUGE_VAL;
     c = client_of("", "ann", "pc1", 1);
-    CHECK(add(&c).place == 0 && has(0, HRAZVANUT_READ, false));
+    CHECK(add(&c).place == 0 && blames(0, HRAZVANUT_READ, 'A'));
     for (i = 0; i < sizeof bad_states / sizeof *bad_states; i++) {
         CHECK(set("", 0, HRAZVANUT_VALUE, 0.25).changed == 1 && has(0, HRAZVANUT_WRITE, true));
-        CHECK(set("DEFAULT", 0, bad_states[i], 0.25).changed == 1 && has(0, HRAZVANUT_READ, false));
+        CHECK(set("DEFAULT", 0, bad_states[i], 0.25).changed == 1 && blames(0, HRAZVANUT_READ, 'A'));
         CHECK((reg.states[LETTERS] == HRAZVANUT_NEVER_HEARD) == (bad_states[i] == 0) && reg.states[LETTERS] != HRAZVANUT_VALUE);
     }
     for (i = 0; i < 3; i++) {
         CHECK(set("DEFAULT", 0, HRAZVANUT_VALUE, -0.0).changed == 1 && has(0, HRAZVANUT_WRITE, true));
-        CHECK(set("", 0, HRAZVANUT_VALUE, bad[i]).changed == 1 && has(0, HRAZVANUT_READ, false));
+        CHECK(set("", 0, HRAZVANUT_VALUE, bad[i]).changed == 1 && blames(0, HRAZVANUT_READ, 'A'));
     }
-    CHECK(set("", 0, HRAZVANUT_VALUE, 0.3).changed == 0);
+    CHECK(set("", 0, HRAZVANUT_VALUE, 0.3).changed == 1 && has(0, HRAZVANUT_READ, false)); /* the letter alone */
+    CHECK(set("", 0, HRAZVANUT_VALUE, 0.31).changed == 0);
     CHECK(set("", 0, HRAZVANUT_VALUE, 0.29).changed == 1);
 }
 
@@ -304,9 +312,9 @@ static void groups(void)
     size_t i;
     start();
     c = client_of("tower", "", "", 0);
-    CHECK(add(&c).place == 0 && has(0, HRAZVANUT_NONE, false));
+    CHECK(add(&c).place == 0 && blames(0, HRAZVANUT_NONE, 'A'));
     c = client_of("nowhere", "ann", "pc1", 1);
-    CHECK(add(&c).place == 1 && has(1, HRAZVANUT_READ, false));
+    CHECK(add(&c).place == 1 && blames(1, HRAZVANUT_READ, 'A'));
     CHECK(set("", 0, HRAZVANUT_VALUE, 0).changed == 2 && has(1, HRAZVANUT_WRITE, true));
     CHECK(set("tower", 1, HRAZVANUT_VALUE, 1).changed == 0);
     CHECK(set("tower", 0, HRAZVANUT_VALUE, 1).changed == 1 && has(0, HRAZVANUT_WRITE, true));
@@ -338,7 +346,7 @@ static void last_reading(void)
         at[6] = (char)('0' + i % 10);
     }
     strcpy(at, "ASG(g63) {INPU(x) RULE(1,WRITE) {CALC(\"U\")}}");
-    CHECK(reload(text).changed == 0 && add(&c).changed == 0);
+    CHECK(reload(text).changed == 0 && add(&c).changed == 1 && blames(0, HRAZVANUT_NONE, 'U'));
     CHECK(set("g63", 20, HRAZVANUT_VALUE, 1).changed == 1 && has(0, HRAZVANUT_WRITE, false));
     CHECK(reg.states[READINGS - 1] == HRAZVANUT_VALUE && reg.values[READINGS - 1] == 1);
 }
@@ -368,11 +376,33 @@ static void reloads(void)
     r = reload_into(text, lent, length);
     CHECK(r.loaded.refusal == HRAZVANUT_NOT_REFUSED && r.loaded.table.start == lent && r.loaded.table.length == length);
     CHECK(r.loaded.place == 0 && r.loaded.needed == 0 && r.loaded.warnings == 2 && r.changed == 1);
-    CHECK(memcmp(stored + length, lent + length, sizeof lent - length) == 0 && has(0, HRAZVANUT_NONE, false));
+    CHECK(memcmp(stored + length, lent + length, sizeof lent - length) == 0 && blames(0, HRAZVANUT_NONE, 'A'));
     table = r.loaded.table;
     CHECK(set("", 0, HRAZVANUT_VALUE, 1).changed == 1 && has(0, HRAZVANUT_READ, false));
-    CHECK(reload(text).changed == 1 && has(0, HRAZVANUT_NONE, false));
-    CHECK(reload(site).changed == 1 && has(0, HRAZVANUT_READ, false));
+    CHECK(reload(text).changed == 1 && blames(0, HRAZVANUT_NONE, 'A'));
+    CHECK(reload(site).changed == 1 && blames(0, HRAZVANUT_READ, 'A'));
+}
+
+/* Another letter is another right: each call that gives one tells it. */
+static void letters(void)
+{
+    static const char text[] = "ASG(DEFAULT) {INPB(x) INPT(x) INPU(x) RULE(1,READ) RULE(1,WRITE) {CALC(\"U+t+B\")}}\n"
+                               "ASG(tower) {INPC(x) RULE(1,WRITE) {CALC(\"C\")}}\n";
+    struct hrazvanut_client c = client_of("", "", "", 1), tower = client_of("tower", "", "", 1);
+    start();
+    reload(text);
+    CHECK(add(&c).changed == 1 && add(&tower).changed == 2);
+    CHECK(blames(0, HRAZVANUT_READ, 'B') && blames(1, HRAZVANUT_NONE, 'C'));
+    CHECK(set("", 19, HRAZVANUT_VALUE, 0).changed == 0 && blames(0, HRAZVANUT_READ, 'B'));
+    CHECK(set("", 1, HRAZVANUT_VALUE, 0).changed == 1 && blames(0, HRAZVANUT_READ, 'U'));
+    CHECK(set("", 19, HRAZVANUT_INVALID, 0).changed == 1 && blames(0, HRAZVANUT_READ, 'T'));
+    CHECK(set("", 20, HRAZVANUT_VALUE, 1).changed == 0 && blames(0, HRAZVANUT_READ, 'T'));
+    CHECK(set("", 19, HRAZVANUT_VALUE, 7).changed == 1 && has(0, HRAZVANUT_READ, false));
+    CHECK(change(1, &c).changed == 2 && has(1, HRAZVANUT_READ, false));
+    CHECK(change(0, &tower).changed == 1 && blames(0, HRAZVANUT_NONE, 'C'));
+    CHECK(reload(text).changed == 2 && blames(0, HRAZVANUT_NONE, 'C') && blames(1, HRAZVANUT_READ, 'B'));
+    CHECK(remove_at(0).changed == 1 && has(0, HRAZVANUT_NONE, false));
+    CHECK(add(&tower).changed == 1 && blames(0, HRAZVANUT_NONE, 'C'));
 }
 
 /* ---- the numbers of the proved functions, bit by bit */
@@ -419,7 +449,7 @@ static void short_slices(void)
     CHECK(set_number(1, 99, &changed, 1) == no_register);
     CHECK(reload_number(1, &changed) == no_register);
     CHECK(hrazvanut_abi_remove(reg.places, sizeof reg.places - 1, 99, &changed, 1) == no_register);
-    CHECK(hrazvanut_abi_right(reg.places, sizeof reg.places - 1, 0) == 0);
+    CHECK(hrazvanut_abi_right_letter(reg.places, sizeof reg.places - 1, 0) == 0);
     CHECK(changed == 5 && memcmp(&reg, &before, sizeof reg) == 0);
 }
 
@@ -430,11 +460,12 @@ static void numbers(void)
     CHECK(add_number(sizeof reg.places, sizeof reg.states, READINGS, 2, &changed, 1) == UINT64_C(21) << 48 && changed == 5);
     CHECK(add_number(sizeof reg.places, sizeof reg.states, READINGS, 0, &changed, 0) == 0 && changed == 5);
     CHECK(add_number(sizeof reg.places, sizeof reg.states, READINGS, 1, &changed, 1) == 1 && changed == 2);
-    CHECK(hrazvanut_abi_right(reg.places, sizeof reg.places, 0) == 1 && hrazvanut_abi_right(reg.places, sizeof reg.places, 64) == 0);
+    CHECK(hrazvanut_abi_right_letter(reg.places, sizeof reg.places, 0) == (1 | 21 << 3));
+    CHECK(hrazvanut_abi_right_letter(reg.places, sizeof reg.places, 64) == 0);
     short_slices();
     CHECK(set_number(0, 1, &changed, 1) == UINT64_C(22) << 48 && changed == 2);
     CHECK(set_number(0, 20, &changed, 0) == 0 && changed == 2);
-    CHECK(hrazvanut_abi_right(reg.places, sizeof reg.places, 0) == 2);
+    CHECK(hrazvanut_abi_right_letter(reg.places, sizeof reg.places, 0) == 2);
     CHECK(change_number(0, 2, 1, &changed) == UINT64_C(25) << 48 && changed == 2);
     CHECK(change_number(0, 1, 2, &changed) == UINT64_C(21) << 48 && changed == 2);
     CHECK(change_number(0, 0, 1, &changed) == 0 && changed == 1);
@@ -455,5 +486,6 @@ void registers(void)
     groups();
     last_reading();
     reloads();
+    letters();
     numbers();
 }

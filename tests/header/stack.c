@@ -78,6 +78,8 @@ static void call_decide_checked(const struct input *in)
 
 static void call_find_input(const struct input *in) { hrazvanut_find_input(in->table, in->text, 20); }
 
+static void call_stopping_input(const struct input *in) { hrazvanut_stopping_input(in->table, in->text, 'U'); }
+
 static void call_allowed(const struct input *in) { hrazvanut_allowed(in->text); }
 
 /* All places but the last are taken; each process has it anew. */
@@ -143,6 +145,7 @@ static const struct call {
     {"hrazvanut_decide", call_decide},
     {"hrazvanut_decide_checked", call_decide_checked},
     {"hrazvanut_find_input", call_find_input},
+    {"hrazvanut_stopping_input", call_stopping_input},
     {"hrazvanut_allowed", call_allowed},
     {"hrazvanut_add_client", call_add_client},
     {"hrazvanut_change_client", call_change_client},

@@ -18,7 +18,7 @@ int main(void)
            (int)hrazvanut_list_warnings(text, 0, warnings).refusal + (int)hrazvanut_add_client(&reg, table, &client).refusal +
            (int)hrazvanut_change_client(&reg, table, 0, &client).refusal + (int)hrazvanut_remove_client(&reg, 0).refusal +
            (int)hrazvanut_set_reading(&reg, table, text, 0, reading).refusal + (int)hrazvanut_reload(&reg, text, room).loaded.refusal +
-           (int)hrazvanut_right_of(&reg, 0).access;
+           (int)hrazvanut_right_of(&reg, 0).access + (int)hrazvanut_stopping_input(table, text, 0).refusal;
 #elif WRONG == 1
     return (int)hrazvanut_load(room, text).refusal;
 #elif WRONG == 2
@@ -56,5 +56,9 @@ int main(void)
 #elif WRONG == 17
     client.roles[0] = text;
     return 0;
+#elif WRONG == 18
+    return (int)hrazvanut_stopping_input(text, table, 'A').refusal;
+#elif WRONG == 19
+    return (int)hrazvanut_stopping_input(table, text, hrazvanut_decide(table, &question)).refusal;
 #endif
 }
