@@ -4,8 +4,8 @@
 
 use crate::questions::{all_readings, as_lent};
 use crate::score::{same, text, Score, Verdict};
-use library::Asked;
-use paper::calculation::{hears_all, holds, parse, value};
+use library::{Asked, Decision};
+use paper::calculation::{self, agrees, bad_letter, holds, parse, written};
 use paper::{script, Reading, Readings, CALCULATION_BYTES, LETTERS, TABLE_BYTES};
 use std::path::Path;
 
@@ -40,17 +40,23 @@ fn one(line: &str) -> Verdict {
     }
 }
 
-fn by_paper(calculation: &[u8], result: &str, truth: &str, readings: &Readings) -> Verdict {
+fn by_paper(calculation: &[u8], given: &str, truth: &str, readings: &Readings) -> Verdict {
     let tree = parse(calculation).ok_or("paper refuses it")?;
-    let bits = |v: f64| format!("{:016x}", v.to_bits());
-    same("paper's value", result, &value(&tree, readings).map_or("bad".to_string(), bits))?;
+    let found = calculation::result(&tree, readings);
+    if !agrees(given, found) {
+        same("paper's result", given, &written(found))?;
+    }
     same("paper's truth", truth, &holds(&tree, readings).to_string())
 }
 
-/// The truth, and the value: that of a text is the one that it equals.
+/// The truth, the letter that makes it bad, and the value: that of a text is the
+/// one that it equals.
 fn by_library(calculation: &[u8], result: &str, truth: &str, readings: &Readings) -> Verdict {
-    same("library's truth", Some(truth == "true"), is_true(calculation, readings))?;
-    if result == "bad" {
+    let letter = bad_by(calculation, readings);
+    let answer = decided(calculation, readings).ok_or("the library refuses it")?;
+    same("library's truth", truth == "true", answer.access == 2)?;
+    same("library's letter", letter.map_or(0, |l| b'A' + l), answer.letter)?;
+    if result.starts_with("bad") {
         return is_bad(calculation, readings);
     }
     let Some(letter) = unused(calculation) else { return Ok(()) };
@@ -73,11 +79,16 @@ fn is_bad(calculation: &[u8], readings: &Readings) -> Verdict {
     for (before, behind) in any.into_iter().chain(sides) {
         fits("library's value", false, &around(before, calculation, behind), readings)?;
     }
-    let heard = parse(calculation).is_some_and(|tree| hears_all(&tree, readings));
+    let heard = bad_by(calculation, readings).is_none();
     for (before, behind) in [("1?1:(", ")"), ("0?", ":1")] {
         fits("library's branch not chosen", heard, &around(before, calculation, behind), readings)?;
     }
     Ok(())
+}
+
+/// The letter that makes it bad, by `paper`, which agrees with what is given.
+fn bad_by(calculation: &[u8], readings: &Readings) -> Option<u8> {
+    bad_letter(&parse(calculation)?, readings)
 }
 
 /// A text that is too long to be asked says nothing.
@@ -85,7 +96,7 @@ fn fits(what: &str, expected: bool, calculation: &[u8], readings: &Readings) -> 
     if calculation.len() > CALCULATION_BYTES {
         return Ok(());
     }
-    same(what, Some(expected), is_true(calculation, readings))
+    same(what, Some(expected), decided(calculation, readings).map(|answer| answer.access == 2))
 }
 
 /// A letter that a calculation does not name.
@@ -93,8 +104,8 @@ fn unused(calculation: &[u8]) -> Option<usize> {
     (0..LETTERS).find(|l| !calculation.iter().any(|b| b.to_ascii_uppercase() == b'A' + *l as u8))
 }
 
-/// Whether a rule with this calculation passes; nothing if no file has it.
-fn is_true(calculation: &[u8], readings: &Readings) -> Option<bool> {
+/// What one rule with this calculation gives; nothing if no file has it.
+fn decided(calculation: &[u8], readings: &Readings) -> Option<Decision> {
     let inputs: String = ('A'..='U').map(|letter| format!("INP{letter}(x)")).collect();
     let before = format!("ASG(DEFAULT){{{inputs}RULE(1,WRITE){{CALC(\"");
     let file = [before.as_bytes(), calculation, b"\")}}"].concat();
@@ -105,5 +116,5 @@ fn is_true(calculation: &[u8], readings: &Readings) -> Option<bool> {
     let (states, values) = as_lent(readings);
     let asked =
         Asked { group: b"", user: b"", host: b"", roles: &[], level: 1, states: &states, values: &values };
-    Some(library::decide(&table, &asked).access == 2)
+    Some(library::decide(&table, &asked))
 }

@@ -2,6 +2,7 @@
 
 use crate::score::{bytes, entries, same, text, Score, Verdict};
 use library::Asked;
+use paper::calculation::capital;
 use paper::{programs, script, Access, Question, Reading, LETTERS, TABLE_BYTES};
 use processes::compare::{Bench, Difference, Rules};
 use processes::process::How;
@@ -16,9 +17,18 @@ pub fn asker(folder: &Path, bench: &mut Bench, score: &mut Score) {
 fn asker_one(path: &Path, bench: &mut Bench) -> Verdict {
     let rules = std::fs::read(path.join("rules.acf")).unwrap_or_default();
     let (input, output) = (bytes(&path.join("stdin"))?, text(&path.join("stdout"))?);
-    same("paper", &output, &programs::ask(&rules, &input))?;
-    let done = bench.ask(Rules::In(path), &input, &How::Pipe, output.as_bytes());
+    let printed = programs::ask(&rules, &input);
+    agrees(&output, &printed)?;
+    let done = bench.ask(Rules::In(path), &input, &How::Pipe, printed.as_bytes());
     done.map_err(|Difference(what)| what)
+}
+
+/// What is given by `paper`, its letters aside if none are given.
+fn agrees(given: &str, by_paper: &str) -> Verdict {
+    if programs::agrees(given, by_paper) {
+        return Ok(());
+    }
+    same("paper", given, by_paper)
 }
 
 /// Each line is a vector.
@@ -64,20 +74,20 @@ fn decide_one(table: &[u8], line: &str, answer: &str) -> Verdict {
     };
     let question = Question { group: &group, user: &user, host: &host, roles: &roles, level, readings };
     let paper = match paper::decide(table, &question) {
-        Ok(answer) => said(answer.access as u64, answer.trap),
+        Ok(answer) => said(answer.access as u64, answer.trap, capital(answer.letter)),
         Err(number) => format!("refused {number}"),
     };
-    same("paper", answer, &paper)?;
+    agrees(answer, &paper)?;
     let (states, values) = as_lent(&readings);
     let (group, user, host) = (&group[..], &user[..], &host[..]);
     let asked = Asked { group, user, host, roles: &roles, level, states: &states, values: &values };
-    same("library", (answer, true), by_library(library::decide(table, &asked)).as_parts())?;
+    same("library", (&*paper, true), by_library(library::decide(table, &asked)).as_parts())?;
     if !library::is_table(table) {
         return Ok(());
     }
     // SAFETY: the library has just said so of these bytes.
     let checked = unsafe { library::decide_checked(table, &asked) };
-    same("library, checked", (answer, true), by_library(checked).as_parts())
+    same("library, checked", (&*paper, true), by_library(checked).as_parts())
 }
 
 /// An answer in words, and whether the proved function's number says the same.
@@ -91,16 +101,25 @@ impl Said {
 
 fn by_library(decision: library::Decision) -> Said {
     let text = match decision.refusal {
-        0 => said(decision.access, decision.trap),
+        0 => said(decision.access, decision.trap, word(decision.letter)),
         number => format!("refused {number}"),
     };
     Said(text, decision.agrees)
 }
 
-fn said(access: u64, trap: bool) -> String {
+/// A letter of C's; `-` for none.
+fn word(letter: u8) -> char {
+    if letter == 0 {
+        '-'
+    } else {
+        letter.into()
+    }
+}
+
+fn said(access: u64, trap: bool, letter: char) -> String {
     let names = [(Access::None, "NONE"), (Access::Read, "READ"), (Access::Write, "WRITE")];
     let name = names.iter().find(|(a, _)| *a as u64 == access).map_or("?", |(_, name)| name);
-    format!("{name} {}", if trap { "TRAPWRITE" } else { "NOTRAPWRITE" })
+    format!("{name} {} {letter}", if trap { "TRAPWRITE" } else { "NOTRAPWRITE" })
 }
 
 /// 21 readings parted by a byte.

@@ -2,7 +2,7 @@
 //! the check of the table.
 
 use crate::score::{of_extension, same, text, Score, Verdict};
-use library::register::{How, Outcome, Register};
+use library::register::{How, Outcome, Register, Right};
 use paper::register::{changed, Rights};
 use paper::script::{self, Call, Done};
 use paper::{Access, Answer, Loaded, Refusal, TABLE_BYTES};
@@ -31,11 +31,12 @@ fn by_lines(what: &str, expected: &str, found: &str) -> Verdict {
     same(what, expected, found)
 }
 
-/// What the script prints by the library; the changed places are those whose
-/// rights are others.
+/// What the script prints by the library; the letters, which it does not print, are
+/// `paper`'s, and the changed places those whose rights are others.
 fn by_library(text: &str, checked: bool) -> Result<String, String> {
     let mut register = Register::empty();
     let mut table = vec![0; TABLE_BYTES];
+    let (mut paper, mut lent) = (paper::Register::empty(), table.clone());
     let mut printed = String::new();
     for line in text.lines() {
         let call = script::call(line).ok_or_else(|| format!("no call: {line}"))?;
@@ -46,19 +47,22 @@ fn by_library(text: &str, checked: bool) -> Result<String, String> {
         let after = rights(&register);
         same(&format!("changed places of {line}"), changed(&before, &after), outcome.changed)?;
         printed += &format!("{}\n", script::line(&call, answer(&call, outcome), &after));
+        let _ = paper.call(&mut lent, &call);
+        let letters = |rights: &Rights| rights.map(|right| right.letter);
+        same(&format!("letters after {line}"), letters(&paper.rights(&lent)), letters(&after))?;
     }
     Ok(printed)
 }
 
 fn rights(register: &Register) -> Rights {
     std::array::from_fn(|place| {
-        let (access, trap) = register.right(place);
+        let Right { access, trap, letter } = register.right(place);
         let access = match access {
             0 => Access::None,
             1 => Access::Read,
             _ => Access::Write,
         };
-        Answer { access, trap }
+        Answer { access, trap, letter: (letter != 0).then(|| letter.wrapping_sub(b'A')) }
     })
 }
 

@@ -5,7 +5,7 @@ use inputs::question::Owned;
 use inputs::random::Random;
 use library::{Asked, Decision, Found, List, Load, Pool};
 use paper::table::View;
-use paper::Access;
+use paper::{Access, Answer};
 use std::collections::BTreeMap;
 use std::fmt::Debug;
 
@@ -31,6 +31,8 @@ pub fn hex(bytes: &[u8]) -> String {
 
 /// A load that says nothing yet.
 const NOTHING: Load = Load { refusal: 0, place: 0, needed: 0, warnings: 0, length: 0, agrees: true };
+
+const NO_RIGHT: Decision = Decision { refusal: 0, access: 0, trap: false, letter: 0, agrees: true };
 
 /// Bytes that stand before and behind each lent buffer.
 const GUARD: usize = 24;
@@ -116,7 +118,8 @@ impl Comparison {
     /// The question by `decide`, and by `decide_checked` if it is a table.
     pub fn decide(&mut self, table: &[u8], question: &Owned) -> Go {
         let paper = decision_by_paper(table, question);
-        self.count(format!("decide {:2} {} {}", paper.refusal, paper.access, paper.trap));
+        let stopped = if paper.letter > 0 { " stopped by a letter" } else { "" };
+        self.count(format!("decide {:2} {} {}{stopped}", paper.refusal, paper.access, paper.trap));
         let describe = |name: &str| format!("{name}\ntable {}\n{}", hex(table), described(question));
         self.same(paper, library::decide(table, &asked(question)), || describe("decide"))?;
         if !paper::is_table(table) || !library::is_table(table) {
@@ -138,7 +141,7 @@ impl Comparison {
         } else {
             pool.bytes.truncate(random.below(pool.bytes.len()));
             if paper.refusal == 0 {
-                paper = Decision { refusal: 26, access: 0, trap: false, agrees: true };
+                paper = Decision { refusal: 26, ..NO_RIGHT };
             }
         }
         self.count(format!("roles in a pool {:2}", paper.refusal));
@@ -153,13 +156,18 @@ impl Comparison {
         self.same(paper.number(), library, || format!("checked, {}", describe()))
     }
 
+    /// By the letter of an answer, as C has it, or by any other byte.
+    pub fn stopping_input(&mut self, table: &[u8], group: &[u8], letter: u8) -> Go {
+        let number = if letter.is_ascii_uppercase() { letter - b'A' } else { u8::MAX };
+        let paper = found_by_paper(table, group, number.into());
+        self.count(format!("stopping_input {:2}", paper.refusal));
+        self.same(paper, library::stopping_input(table, group, letter), || {
+            format!("stopping_input of byte {letter} in group {}\ntable {}", hex(group), hex(table))
+        })
+    }
+
     pub fn find_input(&mut self, table: &[u8], group: &[u8], letter: u32) -> Go {
-        let paper = match paper::find_input(table, group, letter) {
-            Ok((place, length)) => {
-                Found { refusal: 0, place: place as u64, length: length as u64, agrees: true }
-            }
-            Err(refusal) => Found { refusal: refusal.into(), place: 0, length: 0, agrees: true },
-        };
+        let paper = found_by_paper(table, group, letter);
         self.count(format!("find_input {:2}", paper.refusal));
         self.same(paper, library::find_input(table, group, letter), || {
             format!("find_input of letter {letter} in group {}\ntable {}", hex(group), hex(table))
@@ -177,6 +185,13 @@ impl Comparison {
 pub fn first_difference(ours: &[u8], theirs: &[u8]) -> Option<(isize, u8, u8)> {
     let place = ours.iter().zip(theirs).position(|(a, b)| a != b)?;
     Some((place as isize - GUARD as isize, ours[place], theirs[place]))
+}
+
+fn found_by_paper(table: &[u8], group: &[u8], letter: u32) -> Found {
+    match paper::find_input(table, group, letter) {
+        Ok((place, length)) => Found { refusal: 0, place: place as u64, length: length as u64, agrees: true },
+        Err(refusal) => Found { refusal: refusal.into(), place: 0, length: 0, agrees: true },
+    }
 }
 
 /// The numbers and places from the skip-th on, as many as have room.
@@ -212,16 +227,21 @@ fn asked(question: &Owned) -> Asked<'_> {
 
 fn decision_by_paper(table: &[u8], question: &Owned) -> Decision {
     match paper::decide(table, &question.question()) {
-        Err(refusal) => Decision { refusal: refusal.into(), access: 0, trap: false, agrees: true },
+        Err(refusal) => Decision { refusal: refusal.into(), ..NO_RIGHT },
         Ok(answer) => {
             let access = match answer.access {
                 Access::None => 0,
                 Access::Read => 1,
                 Access::Write => 2,
             };
-            Decision { refusal: 0, access, trap: answer.trap, agrees: true }
+            Decision { access, trap: answer.trap, letter: letter_of(&answer), ..NO_RIGHT }
         }
     }
+}
+
+/// As C has it.
+pub fn letter_of(answer: &Answer) -> u8 {
+    answer.letter.map_or(0, |l| b'A' + l)
 }
 
 fn described(question: &Owned) -> String {

@@ -1,15 +1,15 @@
 //! A sequence of calls on a register, by `paper` and by the header on its struct;
 //! `slices` asks the proved functions the same.
 
-use crate::compare::{first_difference, hex, Comparison, Go};
+use crate::compare::{first_difference, hex, letter_of, Comparison, Go};
 use crate::slices::{Parts, Slices};
 use inputs::question::Names;
 use inputs::random::Random;
 use inputs::register::{call, reading, Mood};
-use library::register::{How, Outcome, Register};
+use library::register::{How, Outcome, Register, Right};
 use paper::register::{changed, Rights};
 use paper::script::{self, Call, Done};
-use paper::{Access, Answer, Reading, Refusal, LETTERS, PLACES};
+use paper::{Answer, Reading, Refusal, LETTERS, PLACES};
 
 const NOTHING: Outcome =
     Outcome { refusal: 0, place: 0, needed: 0, warnings: 0, length: 0, changed: 0, agrees: true };
@@ -127,12 +127,9 @@ impl Pair {
 
     /// The rights by the library; those behind the last place are none.
     fn shown(&self) -> String {
-        let of = |place: usize| {
-            let (access, trap) = self.library.right(place);
-            right_text(access, trap)
-        };
+        let of = |place: usize| right_text(self.library.right(place));
         let behind = [PLACES, PLACES + 1, 256, 1 << 32, usize::MAX];
-        let astray: Vec<usize> = behind.into_iter().filter(|place| of(*place) != "N-").collect();
+        let astray: Vec<usize> = behind.into_iter().filter(|place| of(*place) != "N--").collect();
         let mut rights: Vec<String> = (0..PLACES).map(of).collect();
         rights.extend(astray.iter().map(|place| format!("and one at {place}")));
         rights.join(" ")
@@ -193,11 +190,14 @@ fn name(call: &Call) -> &'static str {
 }
 
 fn shown(rights: &Rights) -> String {
-    let of = |a: &Answer| script::right(a);
+    let of = |a: &Answer| right_text(Right { access: a.access as u64, trap: a.trap, letter: letter_of(a) });
     rights.iter().map(of).collect::<Vec<String>>().join(" ")
 }
 
-fn right_text(access: u64, trap: bool) -> String {
-    let known = [Access::None, Access::Read, Access::Write].get(access as usize).copied();
-    known.map_or(format!("{access}?"), |access| script::right(&Answer { access, trap }))
+/// Access, trap flag and letter, or what stands in its place.
+fn right_text(right: Right) -> String {
+    let access =
+        ["N", "R", "W"].get(right.access as usize).map_or(format!("{}?", right.access), |a| a.to_string());
+    let letter = if right.letter == 0 { "-".to_string() } else { [right.letter].escape_ascii().to_string() };
+    format!("{access}{}{letter}", if right.trap { 't' } else { '-' })
 }

@@ -6,7 +6,7 @@ use crate::slices::{Parts, Slices};
 use inputs::question::Names;
 use inputs::random::Random;
 use inputs::register::{call, Mood};
-use library::register::{How, Outcome, Register};
+use library::register::{How, Outcome, Register, Right};
 use paper::script::{written, Call};
 use paper::{Refusal, PLACES};
 
@@ -40,7 +40,7 @@ fn fill(random: &mut Random, names: &Names, register: &mut Register, table: &mut
     }
 }
 
-fn rights(register: &Register) -> Vec<(u64, bool)> {
+fn rights(register: &Register) -> Vec<Right> {
     (0..PLACES).map(|place| register.right(place)).collect()
 }
 
@@ -91,13 +91,14 @@ fn refusal(call: &Call, table: &[u8], outcome: &Outcome) -> String {
 }
 
 /// Each right is one, and the changed places are those whose rights are others.
-fn told(before: &[(u64, bool)], after: &[(u64, bool)], outcome: &Outcome) -> String {
+fn told(before: &[Right], after: &[Right], outcome: &Outcome) -> String {
     let bits: u64 = (0..PLACES).filter(|p| before[*p] != after[*p]).map(|p| 1 << p).sum();
     if bits != outcome.changed {
         return format!("changed {:x}, not {bits:x}", outcome.changed);
     }
-    let strange = before.iter().chain(after).find(|(access, _)| *access > 2);
-    strange.map_or(String::new(), |(access, _)| format!("access {access}"))
+    let known = |right: &Right| right.access <= 2 && matches!(right.letter, 0 | b'A'..=b'U');
+    let strange = before.iter().chain(after).find(|right| !known(right));
+    strange.map_or(String::new(), |right| format!("{right:?}"))
 }
 
 /// Refused: no byte is another. A load writes its table and forgets readings;

@@ -45,6 +45,8 @@ pub struct Decision {
     /// 0 NONE, 1 READ, 2 WRITE.
     pub access: u64,
     pub trap: bool,
+    /// `A` to `U`, or 0 for none, as C has it.
+    pub letter: u8,
     /// The proved function's number says the same.
     pub agrees: bool,
 }
@@ -148,6 +150,9 @@ calls! {
     fn library_find_input(
         table: In, table_length: usize, group: In, group_length: usize, letter: u32, out: *mut u64,
     );
+    fn library_stopping_input(
+        table: In, table_length: usize, group: In, group_length: usize, letter: u8, out: *mut u64,
+    );
     fn library_allowed(text: In, text_length: usize) -> c_int;
 }
 
@@ -226,10 +231,10 @@ impl<'a> Question<'a> {
     }
 
     unsafe fn ask(&self, checked: bool, table: &[u8]) -> Decision {
-        let mut out = [0; 3];
+        let mut out = [0; 4];
         calls::library_decide(checked.into(), table.as_ptr(), table.len(), self.made, out.as_mut_ptr());
-        let [refusal, access, trap] = out;
-        Decision { refusal, access, trap: trap != 0, agrees: true }
+        let [refusal, access, trap, letter] = out;
+        Decision { refusal, access, trap: trap != 0, letter: letter as u8, agrees: true }
     }
 }
 
@@ -271,7 +276,16 @@ pub unsafe fn decide_pool_checked(table: &[u8], asked: &Asked, pool: &Pool) -> u
 impl Decision {
     /// As the proved function answers it.
     pub fn number(&self) -> u64 {
-        self.access | u64::from(self.trap) << 2 | self.refusal << 48
+        self.access | u64::from(self.trap) << 2 | letter_number(self.letter) << 3 | self.refusal << 48
+    }
+}
+
+/// 1 for `A` and so on, 0 for none.
+pub fn letter_number(letter: u8) -> u64 {
+    if letter == 0 {
+        0
+    } else {
+        u64::from(letter.wrapping_sub(b'A' - 1))
     }
 }
 
@@ -307,6 +321,24 @@ pub fn find_input(table: &[u8], group: &[u8], letter: u32) -> Found {
     // SAFETY: as above.
     unsafe {
         calls::library_find_input(
+            table.as_ptr(),
+            table.len(),
+            group.as_ptr(),
+            group.len(),
+            letter,
+            out.as_mut_ptr(),
+        );
+    }
+    let [refusal, place, length, agrees] = out;
+    Found { refusal, place, length, agrees: agrees != 0 }
+}
+
+/// By the letter of an answer, as C has it.
+pub fn stopping_input(table: &[u8], group: &[u8], letter: u8) -> Found {
+    let mut out = [0; 4];
+    // SAFETY: as above.
+    unsafe {
+        calls::library_stopping_input(
             table.as_ptr(),
             table.len(),
             group.as_ptr(),

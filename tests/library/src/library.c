@@ -84,15 +84,16 @@ struct hrazvanut_question *library_question(const uint8_t *group, size_t group_l
 
 void library_forget(struct hrazvanut_question *question) { free(question); }
 
-/* refusal, access, trap */
+/* refusal, access, trap, letter */
 void library_decide(int checked, const uint8_t *table, size_t table_length, const struct hrazvanut_question *question,
-                    uint64_t out[3])
+                    uint64_t out[4])
 {
     struct hrazvanut_answer answer =
         (checked ? hrazvanut_decide_checked : hrazvanut_decide)(table_of(table, table_length), question);
     out[0] = answer.refusal;
     out[1] = answer.access;
     out[2] = answer.trap;
+    out[3] = (unsigned char)answer.letter;
 }
 
 /* The proved function's number, on arrays of any lengths. */
@@ -101,20 +102,30 @@ uint64_t library_decide_number(int checked, const uint8_t *table, size_t table_l
                                const uint8_t *roles, size_t roles_length, const uint8_t *lengths, size_t lengths_length,
                                uint32_t level, const uint8_t *states, size_t states_length, const double *values, size_t values_length)
 {
-    return (checked ? hrazvanut_abi_decide_roles_checked : hrazvanut_abi_decide_roles)(
+    return (checked ? hrazvanut_abi_decide_letter_checked : hrazvanut_abi_decide_letter)(
         table, table_length, group, group_length, user, user_length, host, host_length, roles, roles_length, lengths, lengths_length,
         level, states, states_length, values, values_length);
 }
 
 /* refusal, place, length; whether the name is the part of the table that starts there */
-void library_find_input(const uint8_t *table, size_t table_length, const uint8_t *group, size_t group_length, uint32_t letter,
-                        uint64_t out[4])
+static void tell(struct hrazvanut_found found, const uint8_t *table, uint64_t out[4])
 {
-    struct hrazvanut_found found = hrazvanut_find_input(table_of(table, table_length), text_of(group, group_length), letter);
     out[0] = found.refusal;
     out[1] = found.at;
     out[2] = found.name.length;
     out[3] = found.name.start == (found.refusal ? NULL : (const char *)table + found.at);
+}
+
+void library_find_input(const uint8_t *table, size_t table_length, const uint8_t *group, size_t group_length, uint32_t letter,
+                        uint64_t out[4])
+{
+    tell(hrazvanut_find_input(table_of(table, table_length), text_of(group, group_length), letter), table, out);
+}
+
+void library_stopping_input(const uint8_t *table, size_t table_length, const uint8_t *group, size_t group_length, uint8_t letter,
+                            uint64_t out[4])
+{
+    tell(hrazvanut_stopping_input(table_of(table, table_length), text_of(group, group_length), (char)letter), table, out);
 }
 
 int library_allowed(const uint8_t *text, size_t text_length) { return hrazvanut_allowed(text_of(text, text_length)); }

@@ -109,12 +109,13 @@ void library_call(int call, struct hrazvanut_register *reg, const struct given *
     out[6] = r.loaded.table.start == (call != RELOAD || r.loaded.refusal ? NULL : g->table);
 }
 
-/* access, trap */
-void library_right(const struct hrazvanut_register *reg, size_t place, uint64_t out[2])
+/* access, trap, letter */
+void library_right(const struct hrazvanut_register *reg, size_t place, uint64_t out[3])
 {
     struct hrazvanut_right right = hrazvanut_right_of(reg, place);
     out[0] = right.access;
     out[1] = right.trap;
+    out[2] = (unsigned char)right.letter;
 }
 
 /* ---- by the proved functions */
@@ -144,5 +145,5 @@ uint64_t library_call_number(int call, const struct lent *l, const struct given 
 
 uint8_t library_right_number(const uint8_t *places, size_t places_length, size_t place)
 {
-    return hrazvanut_abi_right(places, places_length, place);
+    return hrazvanut_abi_right_letter(places, places_length, place);
 }

@@ -31,6 +31,16 @@ pub struct Outcome {
     pub agrees: bool,
 }
 
+/// The right of a place.
+#[derive(Clone, Copy, Debug, PartialEq, Eq)]
+pub struct Right {
+    /// 0 NONE, 1 READ, 2 WRITE.
+    pub access: u64,
+    pub trap: bool,
+    /// `A` to `U`, or 0 for none, as C has it.
+    pub letter: u8,
+}
+
 /// The header's struct, zeroed at first.
 pub struct Register {
     made: *mut Made,
@@ -200,12 +210,11 @@ impl Register {
         Outcome { refusal, place, needed, warnings, length, changed, agrees: agrees != 0 }
     }
 
-    /// 0 NONE, 1 READ, 2 WRITE, and the trap flag.
-    pub fn right(&self, place: usize) -> (u64, bool) {
-        let mut out = [0; 2];
-        // SAFETY: the struct was made by `library_register`; two numbers are written.
+    pub fn right(&self, place: usize) -> Right {
+        let mut out = [0; 3];
+        // SAFETY: the struct was made by `library_register`; three numbers are written.
         unsafe { calls::library_right(self.made, place, out.as_mut_ptr()) };
-        (out[0], out[1] != 0)
+        Right { access: out[0], trap: out[1] != 0, letter: out[2] as u8 }
     }
 }
 

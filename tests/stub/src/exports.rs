@@ -138,6 +138,10 @@ pub unsafe extern "C" fn hrazvanut_abi_reload(
 }
 
 #[no_mangle]
-pub unsafe extern "C" fn hrazvanut_abi_right(places: *const u8, places_len: usize, place: usize) -> u8 {
+pub unsafe extern "C" fn hrazvanut_abi_right_letter(
+    places: *const u8,
+    places_len: usize,
+    place: usize,
+) -> u8 {
     right_at(part(places, places_len), place)
 }
