@@ -1,7 +1,7 @@
 //! The calculation with the faults 106 to 122, and tables that answer by it.
 
 use crate::fault;
-use paper::calculation::{apply, from_truth, hears_all, is_true, parse, Operator, Tree};
+use paper::calculation::{apply, bad_letter, from_truth, is_true, parse, Operator, Tree};
 use paper::table::{View, ACCESS_GROUPS, RULES};
 use paper::Readings;
 
@@ -78,7 +78,7 @@ fn choice(c: Part, x: Part, y: Part) -> Part {
 /// With fault 118 the letters of the branch not chosen are not looked at.
 fn holds(tree: &Tree, readings: &Readings, by_result: bool) -> bool {
     let Part { value, bad } = part(tree, readings);
-    let bad = bad && !by_result || !fault(118) && !hears_all(tree, readings);
+    let bad = bad && !by_result || !fault(118) && bad_letter(tree, readings).is_some();
     !bad && 0.99 < value && value < 1.01
 }
 

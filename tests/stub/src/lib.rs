@@ -6,6 +6,7 @@
 pub mod arithmetic;
 mod exports;
 pub mod groups;
+mod letters;
 mod register;
 mod roles;
 
@@ -20,7 +21,8 @@ use std::sync::OnceLock;
 /// 84 to 104 of the library's roles, 105 of the asker's, 106 to 122 of the
 /// library's calculation, 123 of its register's, 124 of the asker's, 125 to 150
 /// of the library's groups (146 of its register's), 151 of the checker's, 152 of
-/// the asker's.
+/// the asker's, 153 to 185 of the library's letters, 186 to 194 of its register's,
+/// 195 to 199 of the asker's.
 pub fn fault(number: u32) -> bool {
     static CHOSEN: OnceLock<u32> = OnceLock::new();
     let chosen = CHOSEN.get_or_init(|| {
@@ -182,23 +184,28 @@ unsafe fn decision(table: &[u8], question: Question, given: &Given, checked: boo
     } else if given.refused_early(&question) {
         Err(26)
     } else if checked || is_table(table) {
-        let table = groups::without_lists(table);
-        paper::decide_checked(&judged(&table, fault(113), |_| question.readings), &question)
+        answered(&groups::without_lists(table), &question, checked)
     } else {
         Err(20)
     };
     match answer {
-        Ok(Answer { access, trap }) => {
-            let trap = trap || fault(19) && access == Access::Read;
-            let access = match access {
-                Access::None => 0,
-                Access::Read => 1,
-                Access::Write => 2,
-            };
-            access | u64::from(trap) << 2
+        Ok(answer) => {
+            let trap = answer.trap || fault(19) && answer.access == Access::Read;
+            letters::number(&Answer { trap, ..answer }).into()
         }
-        Err(number) => u64::from(number) << 48,
+        Err(number) => u64::from(number) << 48 | u64::from(fault(183)) << 3, // one with a refusal
     }
+}
+
+/// The answer by judged rules, and the letter by the rules as they are.
+fn answered(table: &[u8], question: &Question, checked: bool) -> Result<Answer, u8> {
+    let judged = judged(table, fault(113), |_| question.readings);
+    let mut answer = paper::decide_checked(&judged, question)?;
+    answer.letter = letters::stop(table, question, answer.access);
+    if checked && fault(184) {
+        answer.letter = None; // not passed on
+    }
+    Ok(answer)
 }
 
 macro_rules! decision {
@@ -237,8 +244,8 @@ macro_rules! decision {
     };
 }
 
-decision!(hrazvanut_abi_decide_roles, false);
-decision!(hrazvanut_abi_decide_roles_checked, true);
+decision!(hrazvanut_abi_decide_letter, false);
+decision!(hrazvanut_abi_decide_letter_checked, true);
 
 #[no_mangle]
 pub unsafe extern "C" fn hrazvanut_abi_find_input(

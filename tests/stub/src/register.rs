@@ -1,10 +1,11 @@
-//! The register over `paper` in lent bytes, with the faults 45 to 83, 103, 123 and
-//! 146. A place's record is laid out as this stub likes: taken, right, level, the
+//! The register over `paper` in lent bytes, with the faults 45 to 83, 103, 123, 146
+//! and 186 to 194. A place's record is laid out as this stub likes: taken, right, level, the
 //! three lengths, the three names.
 
 use crate::arithmetic::judged;
 use crate::fault;
 use crate::groups::taken;
+use crate::letters::{number, right, stop};
 use paper::question::NOTHING;
 use paper::register::{changed, Rights};
 use paper::table::{View, ACCESS_GROUPS};
@@ -93,6 +94,7 @@ impl Lent<'_> {
             () if fault(54) => 0,
             () if fault(83) => changed(&before.map(known), after), // a damaged right not told
             () if fault(55) => changed(&plain(&before), &plain(after)), // the trap flag not looked at
+            () if fault(186) => changed(&silent(&before), &silent(after)), // the letter not looked at
             () => changed(&before, after),
         };
         if let Some(word) = self.changed.first_mut() {
@@ -125,22 +127,9 @@ fn client(record: &[u8]) -> Option<Client> {
     (record[0] == 1 && whole).then(|| Client { group: name(0), user: name(1), host: name(2), level })
 }
 
-fn right(number: u8) -> Answer {
-    let access = [Access::None, Access::Read, Access::Write, Access::None][usize::from(number & 3)];
-    Answer { access, trap: number & 4 != 0 }
-}
-
 /// No call gives NONE with trap.
 fn known(answer: Answer) -> Answer {
-    if answer.access == Access::None {
-        NOTHING
-    } else {
-        answer
-    }
-}
-
-fn number(answer: &Answer) -> u8 {
-    answer.access as u8 | u8::from(answer.trap) << 2
+    Answer { trap: answer.trap && answer.access > Access::None, ..answer }
 }
 
 /// The rights by `paper`; with fault 63 a client of an undefined group does not
@@ -151,6 +140,10 @@ fn rights(register: &Register, table: &[u8]) -> Rights {
     }
     let by_result = fault(113) || fault(123);
     let mut rights = register.rights(&judged(table, by_result, |group| register.readings[group]));
+    for (client, right) in register.clients.iter().zip(&mut rights).filter(|_| !fault(192)) {
+        let asked = client.as_ref().map(|client| question(register, table, client));
+        right.letter = asked.and_then(|question| stop(table, &question, right.access));
+    }
     if fault(63) {
         let mut deaf = register.clone();
         deaf.readings.fill([Reading::NeverHeard; LETTERS]);
@@ -177,16 +170,34 @@ fn give_roles(register: &Register, table: &[u8], rights: &mut Rights) {
 }
 
 fn with_role(register: &Register, table: &[u8], client: &Client) -> Answer {
-    let group = defined(table, &client.group).or_else(|| defined(table, b"DEFAULT"));
-    let question = Question {
+    let roles = [client.user[5..].to_vec()];
+    let question = Question { roles: &roles, ..question(register, table, client) };
+    paper::decide_checked(table, &question).unwrap_or(NOTHING)
+}
+
+/// The question of a client, with the readings of the group that answers.
+fn question<'a>(register: &Register, table: &[u8], client: &'a Client) -> Question<'a> {
+    let own = defined(table, &client.group).filter(|_| !client.group.is_empty());
+    let group = own.or_else(|| defined(table, b"DEFAULT")).map(|number| if fault(194) { 0 } else { number });
+    Question {
         group: &client.group,
         user: &client.user,
         host: &client.host,
-        roles: &[client.user[5..].to_vec()],
+        roles: &[],
         level: client.level,
         readings: group.map_or([Reading::NeverHeard; LETTERS], |number| register.readings[number]),
-    };
-    paper::decide_checked(table, &question).unwrap_or(NOTHING)
+    }
+}
+
+/// Without letters.
+fn silent(rights: &Rights) -> Rights {
+    rights.map(|right| Answer { letter: None, ..right })
+}
+
+/// Rights with the letters of others.
+fn stale(mut rights: Rights, before: &Rights) -> Rights {
+    rights.iter_mut().zip(before).for_each(|(right, old)| right.letter = old.letter);
+    rights
 }
 
 /// The number of the first group of that name.
@@ -231,6 +242,9 @@ pub fn add(lent: &mut Lent, table: &[u8], client: &Client) -> u64 {
     if fault(76) {
         after = lent.rights(); // the new client's right not made
     }
+    if fault(191) {
+        after = stale(after, &lent.rights());
+    }
     lent.put_clients(&register);
     lent.put_rights(&after);
     place as u64
@@ -265,7 +279,10 @@ pub fn change(lent: &mut Lent, table: &[u8], place: usize, client: &Client) -> u
     if let (true, Some(Some(client)), Some(host)) = (fault(73), register.clients.get_mut(place), host) {
         client.host = host; // the host stays as it was
     }
-    let after = if fault(46) { lent.rights() } else { rights(&register, table) };
+    let mut after = if fault(46) { lent.rights() } else { rights(&register, table) };
+    if fault(190) {
+        after = stale(after, &lent.rights());
+    }
     lent.put_clients(&register);
     lent.put_rights(&after);
     0
@@ -281,7 +298,7 @@ pub fn remove(lent: &mut Lent, place: usize) -> u64 {
     }
     let mut after = lent.rights();
     if !fault(49) {
-        after[place] = NOTHING;
+        after[place] = if fault(189) { stale([NOTHING; PLACES], &after)[place] } else { NOTHING };
     }
     lent.put_clients(&register);
     lent.put_rights(&after);
@@ -333,8 +350,11 @@ pub fn set(lent: &mut Lent, table: &[u8], group: &[u8], letter: u32, reading: Re
     if let Err(number) = set_reading(&mut register, table, group, letter, reading) {
         return lent.refused(number);
     }
-    let stale = fault(45) || fault(70) && checked;
-    let after = if stale { lent.rights() } else { rights(&register, table) };
+    let old = fault(45) || fault(70) && checked;
+    let mut after = if old { lent.rights() } else { rights(&register, table) };
+    if fault(187) {
+        after = stale(after, &lent.rights());
+    }
     lent.put_readings(&register);
     lent.put_rights(&after);
     0
@@ -351,7 +371,10 @@ pub fn reload(lent: &mut Lent, text: &[u8], table: &mut [u8]) -> u64 {
     };
     match loaded {
         Ok(loaded) => {
-            let after = if fault(47) { lent.rights() } else { rights(&register, table) };
+            let mut after = if fault(47) { lent.rights() } else { rights(&register, table) };
+            if fault(188) {
+                after = stale(after, &lent.rights());
+            }
             if !fault(50) {
                 lent.put_readings(&register);
             }
@@ -379,5 +402,6 @@ pub fn right_at(places: &[u8], place: usize) -> u8 {
     if fault(82) {
         return stored; // of damaged bytes no right at all
     }
-    number(&right(stored))
+    let letter = if fault(193) { stored & 0xf8 } else { 0 }; // nor a letter
+    number(&right(stored)) | letter
 }

@@ -1,5 +1,5 @@
 //! The asker by `paper`, with a fault of its own: HRAZVANUT_FAULT, 23 to 38, 105,
-//! 124 and 152.
+//! 124, 152 and 195 to 199.
 
 use paper::programs::{self, answer_line, question};
 use paper::{Reading, LETTERS, TABLE_BYTES};
@@ -70,9 +70,27 @@ fn printed(rules: &[u8], input: &[u8]) -> String {
     table.truncate(loaded.length);
     let answer = |line: &[u8]| {
         let heard = question(line).map_or([Reading::NeverHeard; LETTERS], |asked| asked.readings);
-        answer_line(&judged(&table, true, |_| heard), line)
+        let (judged, right) =
+            (answer_line(&judged(&table, true, |_| heard), line), answer_line(&table, line));
+        match (judged.strip_suffix("-\n"), right.rsplit_once(' ')) {
+            (Some(answer), Some((_, letter))) => format!("{answer}{letter}"), // judged rules tell none
+            _ => judged,
+        }
     };
     programs::lines(input).into_iter().map(answer).collect()
+}
+
+/// A line of the output with another third word.
+fn reworded(line: &str) -> String {
+    let answered = line.rsplit_once(' ').filter(|(answer, _)| answer.ends_with("TRAPWRITE"));
+    match answered {
+        Some((answer, _)) if fault(195) => answer.to_string(), // missing
+        Some((answer, letter)) if fault(197) => format!("{answer} {}", letter.to_lowercase()),
+        Some((answer, "-")) if fault(198) => answer.to_string(), // only a letter printed
+        None if fault(196) && line == "refused 21" => format!("{line} -"),
+        None if fault(199) && line == "refused line" => format!("{line} -"),
+        _ => line.to_string(),
+    }
 }
 
 fn main() -> io::Result<()> {
@@ -101,5 +119,7 @@ fn main() -> io::Result<()> {
     if ended {
         misread.push(b'\n');
     }
-    io::stdout().write_all(printed(&rules.unwrap_or_default(), &misread).as_bytes())
+    let lines = printed(&rules.unwrap_or_default(), &misread);
+    let lines: Vec<String> = lines.split('\n').map(reworded).collect();
+    io::stdout().write_all(lines.join("\n").as_bytes())
 }
