@@ -4,18 +4,19 @@ use crate::compare::{Comparison, Go};
 use crate::{register, stray};
 use inputs::question::{all_good, Names, Owned};
 use inputs::random::Random;
-use inputs::{calculation, file, question, table};
+use inputs::{calculation, file, letters, question, table};
 use paper::calculation::{parse, value};
 use paper::{LETTERS, TABLE_BYTES};
 
 /// One case, of a kind chosen at random.
 pub fn run(random: &mut Random, comparison: &mut Comparison) -> Go {
-    match random.below(24) {
+    match random.below(26) {
         0..=11 => of_file(random, comparison),
         12..=15 => of_table(random, comparison),
         16 | 17 => of_calculation(random, comparison),
         18..=21 => of_values(random, comparison),
         22 => of_roles(random, comparison),
+        23 | 24 => of_letters(random, comparison),
         _ => of_register(random, comparison),
     }
 }
@@ -129,6 +130,11 @@ fn of_slice(random: &mut Random, comparison: &mut Comparison, slice: &[u8], ques
     for _ in 0..questions.div_ceil(2) {
         let (group, letter) = names.input(random);
         comparison.find_input(slice, &group, letter)?;
+        if random.percent(30) {
+            let byte = b'A'.wrapping_add(letter as u8);
+            let other = *random.pick(&[0, 0, b'@', b'V', b'a', b'u', 1, 20, 255]);
+            comparison.stopping_input(slice, &group, if random.percent(70) { byte } else { other })?;
+        }
     }
     Ok(())
 }
@@ -137,6 +143,21 @@ fn of_slice(random: &mut Random, comparison: &mut Comparison, slice: &[u8], ques
 fn of_roles(random: &mut Random, comparison: &mut Comparison) -> Go {
     let table = table_of(&inputs::roles::text(random)).expect("it is a right file");
     of_slice(random, comparison, &table, 6)
+}
+
+/// A file whose rules are stopped by letters. A table that a load made has the input
+/// that an answer blames.
+fn of_letters(random: &mut Random, comparison: &mut Comparison) -> Go {
+    let table = table_of(&letters::text(random)).expect("it is a right file");
+    for _ in 0..6 {
+        let question = letters::question(random);
+        comparison.decide(&table, &question)?;
+        let blamed = paper::decide(&table, &question.question()).ok().and_then(|answer| answer.letter);
+        if let Some(letter) = blamed {
+            comparison.stopping_input(&table, &question.group, b'A' + letter)?;
+        }
+    }
+    Ok(())
 }
 
 /// A file with one rule of this calculation, and all inputs.

@@ -1,11 +1,12 @@
-//! Inputs made from a seed: files, tables, questions, roles, calculations, lines,
-//! calls on a register.
+//! Inputs made from a seed: files, tables, questions, roles, letters, calculations,
+//! lines, calls on a register.
 #![forbid(unsafe_code)]
 
 mod arithmetic;
 pub mod calculation;
 pub mod every;
 pub mod file;
+pub mod letters;
 pub mod lines;
 pub mod question;
 pub mod random;

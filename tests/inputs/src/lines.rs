@@ -2,7 +2,7 @@
 
 use crate::question::{self, Names};
 use crate::random::Random;
-use crate::{calculation, damage_bytes, file};
+use crate::{calculation, damage_bytes, file, letters};
 
 /// Lines up to this length are answered.
 const LINE_BYTES: usize = 255;
@@ -264,7 +264,8 @@ pub fn rules(random: &mut Random) -> Option<Vec<u8>> {
         2 => Some(huge_file(random)),
         3..=4 => Some(file::any(random)),
         5 => Some(file::misspelt::any(random)),
-        6..=20 => Some(by_values(random)),
+        6..=9 => Some(letters::text(random)),
+        10..=20 => Some(by_values(random)),
         _ => Some(file::right(random)),
     }
 }

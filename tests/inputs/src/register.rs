@@ -2,7 +2,7 @@
 
 use crate::question::{self, good, value, Names};
 use crate::random::Random;
-use crate::{calculation, file};
+use crate::{calculation, file, letters};
 use paper::register::Client;
 use paper::script::Call;
 use paper::{Reading, NAME_BYTES, PLACES};
@@ -72,7 +72,8 @@ pub fn reading(random: &mut Random) -> Reading {
 /// A file to load: most are accepted.
 pub fn text(random: &mut Random) -> Vec<u8> {
     match random.below(10) {
-        0..=6 => site(random),
+        0..=4 => site(random),
+        5..=6 => letters::text(random),
         7..=8 => file::right(random),
         _ => file::any(random),
     }
