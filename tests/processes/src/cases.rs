@@ -14,7 +14,7 @@ const RULES: &[u8] =
 const QUESTION: &[u8] = b"- ann pc1 1 A:0.25\n";
 
 /// How many cases are the same for each seed.
-pub const FIXED: u64 = 6;
+pub const FIXED: u64 = 7;
 
 /// The first cases are the same for each seed; the others are made.
 pub fn run(case: u64, random: &mut Random, bench: &mut Bench) -> Go {
@@ -25,6 +25,7 @@ pub fn run(case: u64, random: &mut Random, bench: &mut Bench) -> Go {
         3 => checked(&every::long_file(), &How::Pipe, bench),
         4 => checked(&every::warned_file(), &How::Pipe, bench),
         5 => spelt(bench),
+        6 => asked(Some(RULES), b"", bench),
         _ => made(random, bench),
     }
 }
