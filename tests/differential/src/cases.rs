@@ -10,13 +10,13 @@ use paper::{LETTERS, TABLE_BYTES};
 
 /// One case, of a kind chosen at random.
 pub fn run(random: &mut Random, comparison: &mut Comparison) -> Go {
-    match random.below(27) {
+    match random.below(29) {
         0..=11 => of_file(random, comparison),
         12..=15 => of_table(random, comparison),
         16 | 17 => of_calculation(random, comparison),
         18..=21 => of_values(random, comparison),
         22 | 23 => of_roles(random, comparison),
-        24 | 25 => of_letters(random, comparison),
+        24..=27 => of_letters(random, comparison),
         _ => of_register(random, comparison),
     }
 }

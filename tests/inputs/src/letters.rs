@@ -104,7 +104,8 @@ fn calculation(random: &mut Random, letters: &[u8]) -> String {
     text
 }
 
-/// Two fifths of the readings are bad, in each way that there is.
+/// Two fifths of the readings are bad, in each way that there is; now and then the
+/// arrays end before the last letter.
 pub fn question(random: &mut Random) -> Owned {
     let bad =
         [(0, 1.0), (1, 1.0), (3, 1.0), (255, 1.0), (2, f64::NAN), (2, f64::INFINITY), (2, f64::NEG_INFINITY)];
@@ -113,7 +114,11 @@ pub fn question(random: &mut Random) -> Owned {
         4..=7 => (2, 1.0),
         _ => (2, good(random)),
     };
-    let (states, values) = (0..LETTERS).map(|_| reading()).unzip();
+    let (mut states, mut values): (Vec<u8>, Vec<f64>) = (0..LETTERS).map(|_| reading()).unzip();
+    if random.percent(15) {
+        states.truncate(random.below(LETTERS));
+        values.truncate(random.below(LETTERS));
+    }
     let (users, hosts): ([&[u8]; 4], [&[u8]; 4]) =
         ([b"ann", b"ann", b"ann", b"eve"], [b"pc1", b"pc1", b"PC1", b"pc2"]);
     Owned {
