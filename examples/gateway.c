@@ -1,4 +1,5 @@
-/* A gateway in small: keeps its clients in a register, hears a sensor, loads its file again, and tells each client whose right changes. */
+/* A gateway in small: keeps its clients in a register, hears a sensor, loads its file again, and tells each client whose right changes, and
+ * which process variable to look at if a reading stands in its way. */
 #include <math.h>
 #include <stdio.h>
 
@@ -19,6 +20,14 @@ static const char *words(struct hrazvanut_right right)
     return word[right.trap][right.access];
 }
 
+/* The process variable whose reading stands in the way of more, if one does. All clients are of the group DEFAULT. */
+static void blame(struct hrazvanut_right right)
+{
+    struct hrazvanut_found input = hrazvanut_stopping_input(table, hrazvanut_string("DEFAULT"), right.letter);
+    if (!input.refusal)
+        printf(", look at %.*s", (int)input.name.length, input.name.start);
+}
+
 /* Tells those clients whose rights changed. */
 static void tell(uint64_t changed)
 {
@@ -26,7 +35,9 @@ static void tell(uint64_t changed)
         if (!(changed >> place & 1))
             continue;
         struct hrazvanut_right now = hrazvanut_right_of(&clients, place);
-        printf("  %s: %s -> %s\n", name[place], words(told[place]), words(now));
+        printf("  %s: %s -> %s", name[place], words(told[place]), words(now));
+        blame(now);
+        printf("\n");
         told[place] = now;
     }
 }
