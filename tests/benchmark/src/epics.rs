@@ -4,16 +4,9 @@
 
 pub mod clients;
 
+use crate::shared::Shared;
 use std::ffi::{c_char, c_int, c_long, c_ulong, c_void, CStr, CString};
 use std::ptr::null_mut;
-
-#[link(name = "dl")]
-extern "C" {
-    fn dlopen(name: *const c_char, flags: c_int) -> *mut c_void;
-    fn dlsym(library: *mut c_void, name: *const c_char) -> *mut c_void;
-}
-
-const RTLD_NOW: c_int = 2;
 
 /// A-L have values in this edition.
 const VALUES: usize = 12;
@@ -114,33 +107,23 @@ impl Asked {
     }
 }
 
-unsafe fn function<F: Copy>(library: *mut c_void, name: &CStr) -> Option<F> {
-    let found = dlsym(library, name.as_ptr());
-    // A function's address is a pointer's size here.
-    (!found.is_null()).then(|| std::mem::transmute_copy(&found))
-}
-
 impl Epics {
     /// The library by HRAZVANUT_EPICS, or by its name; none if not installed.
     pub fn open() -> Option<Epics> {
         let given = std::env::var("HRAZVANUT_EPICS").unwrap_or("libCom.so.3.17.6".to_string());
-        let name = CString::new(given).ok()?;
+        let library = Shared::open(&given)?;
         // SAFETY: the types of the functions are those of libCom 3.17.6.
         unsafe {
-            let library = dlopen(name.as_ptr(), RTLD_NOW);
-            if library.is_null() {
-                return None;
-            }
-            let quiet: unsafe extern "C" fn(c_int) -> c_int = function(library, c"eltc")?;
+            let quiet: unsafe extern "C" fn(c_int) -> c_int = library.function(c"eltc")?;
             quiet(0);
             Some(Epics {
-                init: function(library, c"asInitMem")?,
-                add_member: function(library, c"asAddMember")?,
-                remove_member: function(library, c"asRemoveMember")?,
-                add_client: function(library, c"asAddClient")?,
-                remove_client: function(library, c"asRemoveClient")?,
-                compute: function(library, c"asCompute")?,
-                compute_group: function(library, c"asComputeAsg")?,
+                init: library.function(c"asInitMem")?,
+                add_member: library.function(c"asAddMember")?,
+                remove_member: library.function(c"asRemoveMember")?,
+                add_client: library.function(c"asAddClient")?,
+                remove_client: library.function(c"asRemoveClient")?,
+                compute: library.function(c"asCompute")?,
+                compute_group: library.function(c"asComputeAsg")?,
             })
         }
     }

@@ -35,6 +35,16 @@ pub fn samples() -> [Sample; 4] {
     ]
 }
 
+/// As many rules as a file has room for, each with a calculation of all letters that
+/// is as long as it may be; the last one decides.
+pub fn long() -> Sample {
+    let sum = |last: char| ('A'..=last).map(String::from).collect::<Vec<String>>().join("+");
+    let inputs: String = ('A'..='U').map(|letter| format!("INP{letter}(x)")).collect();
+    let rule = format!("RULE(1,WRITE){{CALC(\"({})*({})<9\")}}", sum('U'), sum('P'));
+    let text = format!("ASG(DEFAULT){{{inputs}{}RULE(1,WRITE){{CALC(\"A<0.3\")}}}}\n", rule.repeat(150));
+    written("long", &text, "DEFAULT", "ann", "pc1")
+}
+
 fn written(name: &'static str, text: &str, group: &str, user: &str, host: &str) -> Sample {
     let [text, group, user, host] = [text, group, user, host].map(str::to_string);
     Sample { name, text, group, user, host }

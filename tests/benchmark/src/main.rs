@@ -1,19 +1,22 @@
 //! Times of the static library beside `paper`'s and, where it is installed,
 //! EPICS's, in one run: `benchmark [ROUNDS]` (default 501). Each figure is the
 //! median or the best of that many short batches, the contenders taking turns.
-//! The last line has the greatest ratios to EPICS.
+//! The last line has the greatest ratios to EPICS. `benchmark before OLD NEW [ROUNDS]`
+//! has the questions of two libraries in turns.
 
+mod before;
 mod epics;
 mod files;
 mod measure;
 mod ratios;
 mod register;
+mod shared;
 
 use epics::clients::Clients;
 use epics::{Asked, Epics};
 use files::Sample;
 use measure::{times, Time, Timed};
-use paper::{Access, Question, Reading, LETTERS, TABLE_BYTES};
+use paper::{Access, Answer, Question, Reading, LETTERS, TABLE_BYTES};
 use ratios::{Kind, Ratios};
 use std::ffi::CString;
 use std::hint::black_box;
@@ -60,6 +63,15 @@ impl Prepared<'_> {
         }
     }
 
+    /// No reading heard: a calculation that is come to is bad by a letter.
+    fn deaf(&self) -> library::Asked<'_> {
+        library::Asked { states: &[], ..self.asked() }
+    }
+
+    fn deaf_question(&self) -> Question<'_> {
+        Question { readings: [Reading::NeverHeard; LETTERS], ..self.question() }
+    }
+
     fn epics_asked(&self) -> Asked {
         Asked::new(&self.sample.group, &self.sample.user, &self.sample.host, LEVEL, VALUES)
     }
@@ -91,6 +103,10 @@ impl Prepared<'_> {
         assert!(library::is_table(&lent));
         let decision = library::decide(&lent, &self.asked());
         assert_eq!((decision.access, decision.trap, decision.refusal), (2, answer.trap, 0));
+        let answer = paper::decide(&self.table, &self.deaf_question()).expect("it is answered");
+        let decision = library::decide(&lent, &self.deaf());
+        assert_eq!((decision.access, decision.letter), (answer.access as u64, letter_of(&answer)));
+        assert_eq!(answer.letter, Some(0), "the sample's calculation names A");
         if let Some(epics) = self.epics {
             assert!(epics.load(&self.epics_text()), "EPICS loads the sample");
             assert_eq!(epics.question(&mut self.epics_asked()), Some(2));
@@ -157,6 +173,7 @@ impl Prepared<'_> {
         timed.extend(self.epics_question());
         let row = self.row("question, table known as checked", "a whole question", timed);
         ratios.note(Kind::Question, self.sample.name, row);
+        self.row("the same, no reading heard", "", self.deaf_questions());
         let question = library::Question::new(&self.asked());
         let mut timed = vec![
             Timed::new(move || {
@@ -177,6 +194,19 @@ impl Prepared<'_> {
             }));
             self.row("question, table known as checked", "asCompute alone: no group, no calculation", timed);
         }
+    }
+
+    fn deaf_questions(&self) -> Vec<Timed<'_>> {
+        let question = library::Question::new(&self.deaf());
+        vec![
+            Timed::new(move || {
+                // SAFETY: `agree` has asked `is_table` of these bytes.
+                black_box(unsafe { question.decide_checked(black_box(&self.table)) });
+            }),
+            Timed::new(|| {
+                let _ = black_box(paper::decide_checked(black_box(&self.table), &self.deaf_question()));
+            }),
+        ]
     }
 
     fn epics_question(&self) -> Option<Timed<'_>> {
@@ -201,6 +231,11 @@ impl Prepared<'_> {
     }
 }
 
+/// As C has it.
+fn letter_of(answer: &Answer) -> u8 {
+    answer.letter.map_or(0, |l| b'A' + l)
+}
+
 /// Prints a line, and answers the ratios to EPICS.
 fn line(
     name: &str,
@@ -209,8 +244,6 @@ fn line(
     paper: Option<&Time>,
     epics: Option<&Time>,
 ) -> Option<[f64; 2]> {
-    let number = |t: f64| if t < 100.0 { format!("{t:.1}") } else { format!("{t:.0}") };
-    let column = |t: &Time| format!("{:>11}{:>9}", number(t.median), number(t.best));
     let paper = paper.map_or(" ".repeat(20), column);
     let Some(epics) = epics else {
         println!("  {name:42}{}{paper}", column(&library));
@@ -222,12 +255,24 @@ fn line(
     Some(ratio)
 }
 
+/// Median and best.
+fn column(time: &Time) -> String {
+    let number = |t: f64| if t < 100.0 { format!("{t:.1}") } else { format!("{t:.0}") };
+    format!("{:>11}{:>9}", number(time.median), number(time.best))
+}
+
 fn main() {
+    let words: Vec<String> = std::env::args().skip(1).collect();
+    if let [word, rest @ ..] = &words[..] {
+        if word == "before" {
+            return before::run(rest);
+        }
+    }
     if !library::LINKED {
         eprintln!("benchmark: the static library was not there when this was built");
         std::process::exit(2);
     }
-    let rounds = std::env::args().nth(1).map_or(501, |n| n.parse().expect("a number of rounds"));
+    let rounds = words.first().map_or(501, |n| n.parse().expect("a number of rounds"));
     let epics = Epics::open();
     let stub = if library::STUB { "the stub, not the library; " } else { "" };
     let beside = if epics.is_some() { "EPICS beside" } else { "EPICS's library not installed" };

@@ -4,10 +4,10 @@
 use crate::epics::clients::Clients;
 use crate::measure::Timed;
 use crate::ratios::{Kind, Ratios};
-use crate::{Prepared, LEVEL, VALUES};
-use library::register::{How, Outcome, Ready, Register};
+use crate::{letter_of, Prepared, LEVEL, VALUES};
+use library::register::{How, Outcome, Ready, Register, Right};
 use paper::script::Call;
-use paper::{Access, Answer, Client, Reading, PLACES, TABLE_BYTES};
+use paper::{Access, Client, Reading, PLACES, TABLE_BYTES};
 use std::hint::black_box;
 
 /// A reads these in turns: every client gains and loses WRITE, or none does.
@@ -50,9 +50,14 @@ impl Held {
         outcome
     }
 
-    fn rights(&self, clients: usize) -> Vec<(u64, bool)> {
+    fn rights(&self, clients: usize) -> Vec<Right> {
         (0..clients).map(|place| self.register.right(place)).collect()
     }
+}
+
+/// EPICS has no letter.
+fn by_epics(right: Right) -> (u64, bool) {
+    (right.access, right.trap)
 }
 
 impl Prepared<'_> {
@@ -86,11 +91,11 @@ impl Prepared<'_> {
     }
 
     /// What `paper` answers to the sample's client if A reads the value.
-    fn wanted(&self, value: f64) -> (u64, bool) {
+    fn wanted(&self, value: f64) -> Right {
         let mut question = self.question();
         question.readings[A as usize] = Reading::Value(value);
-        let Answer { access, trap } = paper::decide(&self.table, &question).expect("it is answered");
-        (access as u64, trap)
+        let answer = paper::decide(&self.table, &question).expect("it is answered");
+        Right { access: answer.access as u64, trap: answer.trap, letter: letter_of(&answer) }
     }
 
     fn rights(&self) {
@@ -116,7 +121,7 @@ impl Prepared<'_> {
             assert_eq!(held.rights(clients), rights);
             if let Some(known) = epics {
                 known.hear(A as usize, value);
-                assert_eq!(known.rights(), rights);
+                assert_eq!(known.rights(), vec![by_epics(self.wanted(value)); clients]);
             }
         }
     }
@@ -147,12 +152,12 @@ impl Prepared<'_> {
         let mut known = self.epics_clients(others);
         let calls = [self.add(), Call::Remove(others)];
         let wanted = self.wanted(VALUES[0]);
-        assert_eq!((wanted.0, held.accepted(&calls[0]).place), (Access::Write as u64, others as u64));
+        assert_eq!((wanted.access, held.accepted(&calls[0]).place), (Access::Write as u64, others as u64));
         assert_eq!(held.register.right(others), wanted);
         held.accepted(&calls[1]);
         if let Some(known) = &mut known {
             assert!(known.add());
-            assert_eq!(known.rights().last(), Some(&wanted));
+            assert_eq!(known.rights().last(), Some(&by_epics(wanted)));
             known.remove();
         }
         let mut ready = [Ready::new(&calls[0], held.how), Ready::new(&calls[1], held.how)];
