@@ -206,7 +206,7 @@ struct hrazvanut_answer {
     enum hrazvanut_refusal refusal;
     enum hrazvanut_access access; /* HRAZVANUT_NONE if refused */
     bool trap;                    /* whether writes are to be trapped; not if refused */
-    char letter;                  /* 'A' to 'U': the one whose reading stopped the asker; 0 if there is none, as when refused */
+    char letter;                  /* 'A' to 'U': the one whose reading stopped who asks; 0 if there is none, as when refused */
 };
 
 /* Of a look-up. */
@@ -253,9 +253,9 @@ extern "C" {
  * second in bits 32 to 47, and the refusal above them: of a load the length and the number of warnings, or the place; of a list of warnings
  * their number, or the place; of a question the right; of a look-up the place and the length. A right has the access in bits 0 and 1, the
  * trap flag in bit 2 and the letter in bits 3 to 7: 0 for none, 1 for A up to 21 for U.
- * An answer of 8 bits is 1 or 0. The letter i has states[i] and values[i]: past the end of states it was never heard, past the end of
- * values it is not a number. The role i is the next lengths[i] bytes of roles, in which all stand one behind the other; what is left
- * behind the last is not looked at, and lengths that go past the end are refused as too many roles are.
+ * Any other answer of 8 bits than a right is 1 or 0. The letter i has states[i] and values[i]: past the end of states it was never heard,
+ * past the end of values it is not a number. The role i is the next lengths[i] bytes of roles, in which all stand one behind the other;
+ * what is left behind the last is not looked at, and lengths that go past the end are refused as too many roles are.
  *
  * A register is lent as three slices, those of its struct: of a slice that is longer the start is used, a slice that is shorter makes the
  * call refused with 34, before every other refusal, and each right NONE. The answer's first number is for a client that is added its place;
@@ -555,7 +555,7 @@ static inline bool hrazvanut_is_table(struct hrazvanut_table table)
  * The answer's letter says which reading to look at. It is the lowest in the calculation, in either branch, whose reading is bad: of the
  * first rule of the group whose permission is above the access answered, whose calculation names a bad reading, and which fails by nothing
  * else: it is not switched off, and level, user or role, and host are as it wants them. Without such a rule there is none: where a
- * calculation is false, or bad by arithmetic, no reading is to blame.
+ * calculation is false, or bad by arithmetic, the readings that it names are good.
  *
  * Refused: 20 not a table, then 21 a level neither 0 nor 1, then 26 more than HRAZVANUT_ROLES roles or one of more than
  * HRAZVANUT_ROLE_LENGTH bytes. */
