@@ -34,7 +34,7 @@ fn files() {
 fn lines() {
     let (mut rules, mut count) = ("", 0);
     for line in USING.lines() {
-        if line.starts_with("    ASG(DEFAULT) {INPA") {
+        if line.starts_with("    ") && line.contains("ASG(") && line.contains("{INPA") {
             rules = line.trim();
         }
         let cells = cells(line);
@@ -44,7 +44,7 @@ fn lines() {
             count += 1;
         }
     }
-    assert_eq!(count, 30);
+    assert_eq!(count, 38);
 }
 
 #[test]
