@@ -55,7 +55,7 @@ fn first_of(
 }
 
 // The first cause that applies to n tokens, at its earliest place.
-// The caller, load_judge, has the tokens from load_syntax.
+// The caller, load_judge, has the tokens from load_syntax, and lends seen, an entry for each byte of the text, to work in.
 pub fn by_causes(
     s: &[u8],
     places: &[u16],

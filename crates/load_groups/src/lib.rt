@@ -44,7 +44,7 @@ fn undefined(
 }
 
 // The first name of a group in a rule that the file does not define, or n.
-// The caller, load_causes, has the tokens from load_syntax.
+// The caller, load_causes, has the tokens from load_syntax, and lends an array with an entry for each byte of the text to work in.
 pub fn undefined_group(
     s: &[u8],
     starts: &[u16],
