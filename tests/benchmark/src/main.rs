@@ -169,11 +169,11 @@ impl Prepared<'_> {
     }
 
     fn questions(&self, ratios: &mut Ratios) {
-        let mut timed = self.checked_questions();
+        let mut timed = self.checked_questions(&self.asked(), Self::question);
         timed.extend(self.epics_question());
         let row = self.row("question, table known as checked", "a whole question", timed);
         ratios.note(Kind::Question, self.sample.name, row);
-        self.row("the same, no reading heard", "", self.deaf_questions());
+        self.row("the same, no reading heard", "", self.checked_questions(&self.deaf(), Self::deaf_question));
         let question = library::Question::new(&self.asked());
         let mut timed = vec![
             Timed::new(move || {
@@ -188,25 +188,12 @@ impl Prepared<'_> {
         ratios.note(Kind::QuestionAndCheck, self.sample.name, row);
         if let Some(known) = self.epics.and_then(|e| Clients::new(e, self.epics_asked(), 1)) {
             assert_eq!(known.compute(), 2);
-            let mut timed = self.checked_questions();
+            let mut timed = self.checked_questions(&self.asked(), Self::question);
             timed.push(Timed::new(move || {
                 black_box(known.compute());
             }));
             self.row("question, table known as checked", "asCompute alone: no group, no calculation", timed);
         }
-    }
-
-    fn deaf_questions(&self) -> Vec<Timed<'_>> {
-        let question = library::Question::new(&self.deaf());
-        vec![
-            Timed::new(move || {
-                // SAFETY: `agree` has asked `is_table` of these bytes.
-                black_box(unsafe { question.decide_checked(black_box(&self.table)) });
-            }),
-            Timed::new(|| {
-                let _ = black_box(paper::decide_checked(black_box(&self.table), &self.deaf_question()));
-            }),
-        ]
     }
 
     fn epics_question(&self) -> Option<Timed<'_>> {
@@ -217,15 +204,20 @@ impl Prepared<'_> {
         }))
     }
 
-    fn checked_questions(&self) -> Vec<Timed<'_>> {
-        let question = library::Question::new(&self.asked());
+    /// The question on a table known as checked, by the library and by `paper`.
+    fn checked_questions<'a>(
+        &'a self,
+        asked: &library::Asked<'a>,
+        question: fn(&Self) -> Question<'_>,
+    ) -> Vec<Timed<'a>> {
+        let lent = library::Question::new(asked);
         vec![
             Timed::new(move || {
                 // SAFETY: `agree` has asked `is_table` of these bytes.
-                black_box(unsafe { question.decide_checked(black_box(&self.table)) });
+                black_box(unsafe { lent.decide_checked(black_box(&self.table)) });
             }),
-            Timed::new(|| {
-                let _ = black_box(paper::decide_checked(black_box(&self.table), &self.question()));
+            Timed::new(move || {
+                let _ = black_box(paper::decide_checked(black_box(&self.table), &question(self)));
             }),
         ]
     }

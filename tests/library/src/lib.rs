@@ -316,39 +316,27 @@ unsafe fn decide_number(checked: bool, table: &[u8], asked: &Asked, pool: &Pool)
     )
 }
 
-pub fn find_input(table: &[u8], group: &[u8], letter: u32) -> Found {
+/// What a look-up writes into four numbers.
+fn found(look_up: impl FnOnce(*mut u64)) -> Found {
     let mut out = [0; 4];
-    // SAFETY: as above.
-    unsafe {
-        calls::library_find_input(
-            table.as_ptr(),
-            table.len(),
-            group.as_ptr(),
-            group.len(),
-            letter,
-            out.as_mut_ptr(),
-        );
-    }
+    look_up(out.as_mut_ptr());
     let [refusal, place, length, agrees] = out;
     Found { refusal, place, length, agrees: agrees != 0 }
 }
 
+pub fn find_input(table: &[u8], group: &[u8], letter: u32) -> Found {
+    // SAFETY: as above.
+    found(|out| unsafe {
+        calls::library_find_input(table.as_ptr(), table.len(), group.as_ptr(), group.len(), letter, out);
+    })
+}
+
 /// By the letter of an answer, as C has it.
 pub fn stopping_input(table: &[u8], group: &[u8], letter: u8) -> Found {
-    let mut out = [0; 4];
     // SAFETY: as above.
-    unsafe {
-        calls::library_stopping_input(
-            table.as_ptr(),
-            table.len(),
-            group.as_ptr(),
-            group.len(),
-            letter,
-            out.as_mut_ptr(),
-        );
-    }
-    let [refusal, place, length, agrees] = out;
-    Found { refusal, place, length, agrees: agrees != 0 }
+    found(|out| unsafe {
+        calls::library_stopping_input(table.as_ptr(), table.len(), group.as_ptr(), group.len(), letter, out);
+    })
 }
 
 pub fn allowed(text: &[u8]) -> bool {
