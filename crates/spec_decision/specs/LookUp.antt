@@ -10,7 +10,7 @@ use Rattle.spec_lists.specs.Runs.{part}
 use Rattle.spec_rule.specs.Answering.{answering}
 use Rattle.spec_rule.specs.Privilege.{First-such, Answers}
 use Rattle.spec_file.specs.Contents.{File}
-use Rattle.spec_file.specs.Limit.{access-groups, inputs}
+use Rattle.spec_file.specs.Limit.{Section, access-groups, inputs}
 use Rattle.spec_table.specs.Layout.{Content}
 use Rattle.spec_table.specs.View.{view, strings-extent}
 use Rattle.spec_table.specs.Table.{name-run, inputs-run, letter-field}
@@ -49,15 +49,17 @@ module _ {G I A : Type 0} (name : G → List ℕ) (links : G → List I) (letter
 abbrev pub Names-input : File → List ℕ → ℕ → List ℕ → Type 0
 Names-input f = First-input (λ a. a .name) (λ a. a .inputs) (λ l. l .letter) (λ l. l .name) (f .asgs)
 
--- by a table, "the part of the table that holds the process variable's name"
-abbrev pub name-part : List ℕ → List ℕ → Found
-name-part b row = Part (strings-extent b .first + name-run inputs row .first) (name-run inputs row .count)
+-- "the part of the table that holds" the name of a record of a section
+abbrev pub name-part : Section → List ℕ → List ℕ → Found
+name-part s b row = Part (strings-extent b .first + name-run s row .first) (name-run s row .count)
 
+-- the inputs of an access group
 abbrev pub links-in : Content → List ℕ → List (List ℕ)
 links-in c row = part (inputs-run row) (c .records inputs)
 
+-- by a table, "the part of the table that holds the process variable's name"
 abbrev pub Finds-input : List ℕ → List ℕ → ℕ → Found → Type 0
-Finds-input b = First-input (name (view b) access-groups) (links-in (view b)) letter-field (name-part b) (view b .records access-groups)
+Finds-input b = First-input (name (view b) access-groups) (links-in (view b)) letter-field (name-part inputs b) (view b .records access-groups)
 
 -- ---- A machine that looks up. That it agrees with Finds-input is proved (laws/LookUp.antt), so nobody has to believe it.
 
@@ -65,12 +67,12 @@ abbrev pub input-of : Content → ℕ → Option (List ℕ) → Option (List ℕ
 input-of c letter none = none
 input-of c letter (some row) = first (λ i. eqb (letter-field i) letter) (links-in c row)
 
-abbrev pub named-part : List ℕ → Option (List ℕ) → Found
-named-part b none = NoInput
-named-part b (some row) = name-part b row
+abbrev pub named-part : Section → List ℕ → Option (List ℕ) → Found
+named-part s b none = NoInput
+named-part s b (some row) = name-part s b row
 
 unfoldable pub look-up : List ℕ → List ℕ → ℕ → Found
 look-up b g letter =
     cond (is-table b)
-    (named-part b (input-of (view b) letter (answering (name (view b) access-groups) g (view b .records access-groups))))
+    (named-part inputs b (input-of (view b) letter (answering (name (view b) access-groups) g (view b .records access-groups))))
     NotTable

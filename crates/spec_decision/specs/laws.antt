@@ -1,4 +1,6 @@
 pub mod Groups
+pub mod Found
+pub mod Walk
 pub mod LookUp
 pub mod Answer
 pub mod Refused

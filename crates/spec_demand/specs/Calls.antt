@@ -17,6 +17,7 @@ pub use Rattle.spec_load.specs.Load.{is-accepted}
 use Rattle.spec_load.specs.Listing.{listing}
 use Rattle.spec_decision.specs.Decision as question
 use Rattle.spec_decision.specs.LookUp as look-up
+use Rattle.spec_decision.specs.Walk.{group-at}
 
 -- Every call of the library but a register's, which Register.antt adds; those of include/hrazvanut.h but a register's are among them. What the crate sequence
 -- offers are sequences of these.
@@ -32,6 +33,8 @@ pub data Call : Type 0 where
   find-input : List ℕ → ℕ → Call
   find-input-checked : List ℕ → ℕ → Call
   look-up-name : List ℕ → ℕ → Call
+  -- of a number: where the name of that access group stands
+  find-group : ℕ → Call
   -- of a calculation's text: whether it is allowed; on readings, its value, and whether it is true
   allow : List ℕ → Call
   calculate : List ℕ → List Reading → Call
@@ -47,6 +50,7 @@ text-loaded (ask-checked q) = none
 text-loaded (find-input g letter) = none
 text-loaded (find-input-checked g letter) = none
 text-loaded (look-up-name g letter) = none
+text-loaded (find-group n) = none
 text-loaded (allow s) = none
 text-loaded (calculate s rs) = none
 text-loaded (hold s rs) = none
@@ -105,6 +109,7 @@ refusal-of b (ask-checked q) = Option·map no-place (question.number (question.d
 refusal-of b (find-input g letter) = Option·map no-place (look-up.number (look-up.look-up b g letter))
 refusal-of b (find-input-checked g letter) = Option·map no-place (look-up.number (look-up.look-up b g letter))
 refusal-of b (look-up-name g letter) = Option·map no-place (look-up.number (look-up.look-up b g letter))
+refusal-of b (find-group n) = Option·map no-place (look-up.number (group-at b n))
 refusal-of b (allow s) = none
 refusal-of b (calculate s rs) = none
 refusal-of b (hold s rs) = none

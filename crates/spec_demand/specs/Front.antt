@@ -39,6 +39,7 @@ use Rattle.spec_demand.specs.Vocabulary.{Lent, lent, places-bytes, all-r
 use Rattle.spec_demand.specs.Vocabulary.{Never-more-to-clients}
 use Rattle.spec_demand.specs.Vocabulary.{calculation-holds, Some, Yields-true, Finite-values, Gives-on-finite-values, access-groups, name, rules-of}
 use Rattle.spec_demand.specs.Vocabulary.{Names-undefined, Groups-defined, references, number-field, Group-cases}
+use Rattle.spec_demand.specs.Vocabulary.{Names-group, group-at}
 use Rattle.spec_demand.specs.Vocabulary.{letter-in, worth, Comes-to, Bad-by, Bad-by-arithmetic, Tells, rule-in, Letter-cases}
 use Rattle.spec_demand.specs.laws.Cited as proved
 
@@ -333,6 +334,20 @@ pub register-behind :
     × (left one c .values ≡ left other c .values)
 register-behind = proved.register-behind
 
+-- A table may be loaded again into another room than the one in which it stands, so that questions go on with the old one meanwhile. Where both have the
+-- bytes that it needs, an accepted load tells the same and leaves the same of the register; the next calls are lent the new room, and by register-behind go by
+-- the table in it. A refused load leaves both rooms, by register-refused.
+pub reload-elsewhere :
+    (s : List ℕ) (xs : List Tagged) → Acceptable s xs → (room room′ places states : List ℕ) (values : List Float)
+    → length (table-of (file-of xs)) ≤ length room → length (table-of (file-of xs)) ≤ length room′
+    → let one = lent room places states values in
+    let other = lent room′ places states values in
+    (told one (load-again s) ≡ told other (load-again s))
+    × (left one (load-again s) .places ≡ left other (load-again s) .places)
+    × (left one (load-again s) .states ≡ left other (load-again s) .states)
+    × (left one (load-again s) .values ≡ left other (load-again s) .values)
+reload-elsewhere = proved.reload-elsewhere
+
 -- A register's calls may come between in demand 3: each leaves of the table what a call of the library does, its load what a load does.
 pub register-on-table : (s : Lent) (c : Register-call) → left s c .table ≡ after-call (s .table) (on-table s c)
 register-on-table = proved.register-on-table
@@ -340,6 +355,37 @@ register-on-table = proved.register-on-table
 -- "Demand 3 is read for each standing client": from the text to the right that is read from the storage.
 pub demand-3-of-clients : Never-more-to-clients
 demand-3-of-clients = proved.never-more-to-clients
+
+-- THE WALK. A gateway has to know which process variables to hear: it goes through the access groups of a table by their numbers, and looks up the inputs of
+-- each by its name.
+pub record Walked : Type 0 where
+  -- 20, then the part that holds the name of the group of that number, or 22 behind the last
+  pub no-table : (b : List ℕ) (n : ℕ) → (group-at b n ≡ found.NotTable) ↔ (Table b → ⊥)
+  pub group : (b : List ℕ) (n at l : ℕ) → (group-at b n ≡ found.Part at l) ↔ (Table b × Names-group b n (found.Part at l))
+  pub no-group : (b : List ℕ) (n : ℕ) → (group-at b n ≡ found.NoInput) ↔ (Table b × (length (groups-of b) ≤ n))
+  pub name : (b : List ℕ) (g : Numbered) → Table b → List·Memᴰ g (groups-of b) → part-in (group-at b (g .number)) b ≡ group-name b g
+  -- of a loaded table they are the groups of the file, in its order
+  pub by-file :
+      (s : List ℕ) (xs : List Tagged) → Acceptable s xs → (rest : List ℕ)
+      → let b = table-of (file-of xs) ++ rest in map (group-name b) (groups-of b) ≡ map (λ a. a .name) (file-of xs .asgs)
+  -- No answer depends on a group that is missed: whichever group answers for a name n is among them; by the name that the walk tells, the look-up finds the
+  -- inputs that it finds by n, and a register sets the readings of this group.
+  pub reaches :
+      (b n : List ℕ) (g : Numbered) → Answers (group-name b) n (groups-of b) (some g)
+      → List·Memᴰ g (groups-of b)
+      × ((letter : ℕ) → look-up b n letter ≡ look-up b (group-name b g) letter)
+      × Named b (group-name b g) g
+
+pub walk : Walked
+walk =
+    record {
+      no-table = proved.no-table-walked-is;
+      group = proved.group-walked-is;
+      no-group = proved.no-group-walked-is;
+      name = proved.walked-name;
+      by-file = proved.groups-by-file;
+      reaches = λ b n g a. (proved.answering-member b n g a, proved.answering-inputs b n g a, proved.answering-named b n g a);
+    }
 
 -- REQUEST 2. Roles: "a UAG member beginning `role/` matches a client one of whose roles equals the rest of it. [..] Demands 2 and 3 take the roles as part
 -- of the question." So they do above: which members match a client is Matches-client, in By-table and By-file.

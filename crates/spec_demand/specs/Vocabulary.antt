@@ -42,6 +42,7 @@ pub use Rattle.spec_rule.specs.Privilege.{Some, Answers, Yields-true}
 pub use Rattle.spec_rule.specs.Letter.{Tells}
 pub use Rattle.spec_rule.specs.Finite.{Finite-values, Gives-on-finite-values}
 pub use Rattle.spec_decision.specs.Groups.{Numbered, groups-of, group-name}
+pub use Rattle.spec_decision.specs.Walk.{Names-group, group-at}
 pub use Rattle.spec_register.specs.Register.{Client, most-clients, client-at, readings-at}
 pub use Rattle.spec_register.specs.Right.{question-now}
 pub use Rattle.spec_register.specs.Calls.{Gateway, Call as Register-call, add, change, remove, set-reading, load-again, after, after-calls, right-at}

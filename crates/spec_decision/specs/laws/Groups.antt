@@ -57,7 +57,7 @@ pub record Of-table (t : List ℕ) (g : Numbered) : Type 0 where
   pub inside : g .number < length (view t .records access-groups)
   pub row : g .row ≡ row (view t) access-groups (g .number)
 
-groups-stand : (t : List ℕ) → Every (Of-table t) (groups-of t)
+pub groups-stand : (t : List ℕ) → Every (Of-table t) (groups-of t)
 groups-stand t = every-implies of-table (numbered-among 0 (view t .records access-groups))
   where
     of-table : (g : Numbered) → Among 0 (view t .records access-groups) g → Of-table t g

@@ -117,8 +117,8 @@ letter-over b t g letter l = rw (table-is b .1 t) (go (answering (name (view b) 
     none-of : Every (λ row. eqb (letter-field row) letter ≡ false) (view b .records inputs)
     none-of = every-implies other (all-every (λ row. leb (letter-field row) greatest-letter) (view b .records inputs) (t .letters))
 
-    go : (o : Option (List ℕ)) → named-part b (input-of (view b) letter o) ≡ found.NoInput
+    go : (o : Option (List ℕ)) → named-part inputs b (input-of (view b) letter o) ≡ found.NoInput
     go none = refl
     go (some row) =
         let r = inputs-run row in
-        ap (named-part b) (none-first (λ i. eqb (letter-field i) letter) (every-take (r .count) (every-drop (r .first) none-of)))
+        ap (named-part inputs b) (none-first (λ i. eqb (letter-field i) letter) (every-take (r .count) (every-drop (r .first) none-of)))

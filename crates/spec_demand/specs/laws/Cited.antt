@@ -16,13 +16,14 @@ pub use Rattle.spec_decision.specs.laws.Refused.{refused-question-numbered, ref
 pub use Rattle.spec_decision.specs.laws.Roles.{role-removed}
 pub use Rattle.spec_decision.specs.laws.Privilege.{by-table-is, granted-on-finite-values, tells-by-table}
 pub use Rattle.spec_decision.specs.laws.LookUp.{no-table-found-is, part-found-is, no-input-found-is}
+pub use Rattle.spec_decision.specs.laws.Walk.{no-table-walked-is, group-walked-is, no-group-walked-is, walked-name, answering-member, answering-named, answering-inputs}
 pub use Rattle.spec_edition.specs.laws.Agreement.{edition-gives}
 pub use Rattle.spec_demand.specs.laws.Answered.{refused-load, refused-listing, accepted-listing}
 pub use Rattle.spec_demand.specs.laws.Refusals.{refused-load-numbered, refused-listing-numbered}
 pub use Rattle.spec_demand.specs.laws.Loaded.{refused-call-leaves}
 pub use Rattle.spec_demand.specs.laws.Privilege.{by-file-is, tells-by-file, input-is}
 pub use Rattle.spec_demand.specs.laws.Letter.{letter-named}
-pub use Rattle.spec_demand.specs.laws.Exact.{zeros-grant-nothing, laid-down, not-laid-down, stands}
+pub use Rattle.spec_demand.specs.laws.Exact.{zeros-grant-nothing, laid-down, not-laid-down, stands, groups-by-file}
 pub use Rattle.spec_demand.specs.laws.Memory.{never-more}
 pub use Rattle.spec_demand.specs.laws.Cases.{proved-cases, arithmetic-cases, role-cases, group-cases, letter-cases}
 pub use Rattle.spec_register.specs.laws.Sized.{sized}
@@ -33,4 +34,4 @@ pub use Rattle.spec_register.specs.laws.Refused.{add-refused, change-refused, r
 pub use Rattle.spec_register.specs.laws.Changed.{answered-is, load-answers}
 pub use Rattle.spec_places.specs.laws.Follows.{follows, refused-leaves}
 pub use Rattle.spec_places.specs.laws.Short.{short-right, too-short}
-pub use Rattle.spec_demand.specs.laws.Register.{register-on-table, register-behind, never-more-to-clients}
+pub use Rattle.spec_demand.specs.laws.Register.{register-on-table, register-behind, reload-elsewhere, never-more-to-clients}

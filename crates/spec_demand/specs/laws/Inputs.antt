@@ -56,11 +56,11 @@ part-of r xs d x a =
 module _ (b : List ℕ) (h : is-table b ≡ true) where
   found-is :
       (letter : ℕ) (g : Option (List ℕ))
-      → name-found (named-part b (input-of (view b) letter g)) b ≡ Option·map (name (view b) inputs) (input-of (view b) letter g)
+      → name-found (named-part inputs b (input-of (view b) letter g)) b ≡ Option·map (name (view b) inputs) (input-of (view b) letter g)
   found-is letter none = refl
   found-is letter (some group) = go (input-of (view b) letter (some group)) refl
     where
-      go : (o : Option (List ℕ)) → input-of (view b) letter (some group) ≡ o → name-found (named-part b o) b ≡ Option·map (name (view b) inputs) o
+      go : (o : Option (List ℕ)) → input-of (view b) letter (some group) ≡ o → name-found (named-part inputs b o) b ≡ Option·map (name (view b) inputs) o
       go none e = refl
       go (some x) e =
           let s = stands b h in

@@ -1,10 +1,11 @@
--- What a register's calls leave of the table, and demand 3 for each of its standing clients.
+-- What a register's calls leave of the table, in which room it is loaded again, and demand 3 for each of its standing clients.
 use mathlib.Core.Path.{_≡_, refl, sym, ap, subst, _∙_, fun-ext}
 use mathlib.Core.Bool.{Bool, true, false, cond}
 use mathlib.Core.List.{List, [], _∷_, _++_}
 use mathlib.Core.Option.{Option, none, some}
 use Prim.Native.Nat.{ℕ, _≤_}
 use lib.Ieee.{Float}
+use lib.ListN.{length, drop}
 use Rattle.spec_grammar.specs.Sentence.{Tagged}
 use Rattle.spec_calc.specs.declared.Reading.{Reading}
 use Rattle.spec_calc.specs.Readings.{Gone-bad}
@@ -14,6 +15,7 @@ use Rattle.spec_rule.specs.Question.{Question, reading-instead}
 use Rattle.spec_rule.specs.Rule.{rank}
 use Rattle.spec_file.specs.Contents.{file-of}
 use Rattle.spec_file.specs.Acceptance.{Text-reads, Acceptable}
+use Rattle.spec_file.specs.Warning.{warnings}
 use Rattle.spec_file.specs.laws.Theorem.{acceptable-is}
 use Rattle.spec_table.specs.View.{view}
 use Rattle.spec_table.specs.Check.{is-table}
@@ -27,20 +29,23 @@ use Rattle.spec_load.specs.Load.{is-accepted, load}
 use Rattle.spec_load.specs.laws.Load.{refused-leaves}
 use Rattle.spec_decision.specs.Groups.{Numbered, group-named}
 use Rattle.spec_decision.specs.Decision.{access-in, decide}
-use Rattle.spec_register.specs.Register.{Client, Register, client-at}
+use Rattle.spec_register.specs.Register.{Client, Register, most-clients, client-at}
 use Rattle.spec_register.specs.Right.{question-now, right-of}
 use Rattle.spec_register.specs.declared.Refused.{Refused}
+use Rattle.spec_register.specs.declared.Reloaded.the-variants as reloaded
 use Rattle.spec_register.specs.Refusal.{set-refusal}
-use Rattle.spec_register.specs.Calls.{Gateway, Call, add, change, remove, set-reading, load-again, after, after-calls, right-at, unless}
+use Rattle.spec_register.specs.Calls.{Gateway, Call, add, change, remove, set-reading, load-again, after, after-calls, right-at, unless, table-loaded, reloaded-as}
 use Rattle.spec_register.specs.Sentences.{begun, Not-refused, Each-done, No-load}
 use Rattle.spec_register.specs.laws.Refused.{load-done}
 use Rattle.spec_register.specs.laws.Readings.{table-stays}
 use Rattle.spec_places.specs.Storage.{Lent, lent, zeroed, register-in, right-in}
-use Rattle.spec_places.specs.Calls.{is-register, has-room, with-reading-in, reloaded-by, left, left-by-calls, told, Agrees}
-use Rattle.spec_places.specs.laws.Behind.{same-left, same-told}
+use Rattle.spec_places.specs.Writing.{each, settled}
+use Rattle.spec_places.specs.Calls.{is-register, differing-in, has-room, with-reading-in, reloaded-by, left, left-by-calls, told, Agrees}
+use Rattle.spec_places.specs.laws.Behind.{settled-same, same-left, same-told}
 use Rattle.spec_places.specs.laws.Follows.{follows}
 use Rattle.spec_demand.specs.Calls.{load-text, check-table, after-call}
 use Rattle.spec_demand.specs.Register.{on-table, Never-more-to-clients}
+use Rattle.spec_demand.specs.laws.Exact.{laid-down}
 use Rattle.spec_demand.specs.laws.Later.{asked-never-more}
 
 -- ---- the table
@@ -87,6 +92,55 @@ register-behind s xs a rest rest′ places states values c n =
       ap (λ (l : Lent). l .states) same,
       ap (λ (l : Lent). l .values) same,
     )
+
+-- ---- a load again in another room
+
+module _ (places states : List ℕ) (values : List Float) where
+  -- what a load of an accepted file tells and leaves, whether or not the register is long enough
+  alike :
+      (x : Bool) (n w : ℕ) (room room′ t u : List ℕ) → each (settled t) most-clients places ≡ each (settled u) most-clients places
+      → let one = cond x (reloaded-by (lent room places states values) t (loaded.Accepted n w)) (lent room places states values) in
+      let other = cond x (reloaded-by (lent room′ places states values) u (loaded.Accepted n w)) (lent room′ places states values) in
+      (cond x (reloaded-as (loaded.Accepted n w) (differing-in places (one .places))) reloaded.NotRegister
+      ≡ cond x (reloaded-as (loaded.Accepted n w) (differing-in places (other .places))) reloaded.NotRegister)
+      × (one .places ≡ other .places)
+      × (one .states ≡ other .states)
+      × (one .values ≡ other .values)
+  alike true n w room room′ t u e =
+      (ap (λ (b : List ℕ). reloaded-as (loaded.Accepted n w) (differing-in places b)) e, e, refl, refl)
+  alike false n w room room′ t u e = (refl, refl, refl, refl)
+
+pub reload-elsewhere :
+    (s : List ℕ) (xs : List Tagged) → Acceptable s xs → (room room′ places states : List ℕ) (values : List Float)
+    → length (table-of (file-of xs)) ≤ length room → length (table-of (file-of xs)) ≤ length room′
+    → let one = lent room places states values in
+    let other = lent room′ places states values in
+    (told one (load-again s) ≡ told other (load-again s))
+    × (left one (load-again s) .places ≡ left other (load-again s) .places)
+    × (left one (load-again s) .states ≡ left other (load-again s) .states)
+    × (left one (load-again s) .values ≡ left other (load-again s) .values)
+reload-elsewhere s xs a room room′ places states values l l′ =
+    let f = file-of xs in
+    let ok = fits s xs (acceptable-is s xs a) in
+    let n = length (table-of f) in
+    let t = table-of f ++ drop n room in
+    let u = table-of f ++ drop n room′ in
+    let test : is-table t ≡ is-table u = is-a-table f ok (drop n room) ∙ sym (is-a-table f ok (drop n room′)) in
+    let content : view t ≡ view u = viewed f ok (drop n room) ∙ sym (viewed f ok (drop n room′)) in
+    let same =
+    alike
+    places
+    states
+    values
+    (has-room (lent room places states values))
+    n
+    (length (warnings xs))
+    room
+    room′
+    t
+    u
+    (settled-same t u test content places) in
+    rw (laid-down room s xs a l, laid-down room′ s xs a l′) (ap table-loaded (same .0), same .1, same .2, same .3)
 
 -- ---- demand 3
 

@@ -1,5 +1,5 @@
 -- A call that is no load goes by the table and not by what stands behind it: it looks at the bytes through is-table and view only.
-use mathlib.Core.Path.{_≡_, refl, ap, ap₂, _∙_}
+use mathlib.Core.Path.{_≡_, refl, ap, ap₂, _∙_, fun-ext}
 use mathlib.Core.Bool.{Bool, true, false, cond, not}
 use mathlib.Core.List.{List, [], _∷_, map}
 use mathlib.Core.Option.{Option, none, some, Option·map}
@@ -28,11 +28,11 @@ use Rattle.spec_register.specs.declared.Refused.{Refused}
 use Rattle.spec_register.specs.declared.Refused.the-variants.{NotTable, NoInput, NotRegister}
 use Rattle.spec_register.specs.declared.Added.the-variants as added
 use Rattle.spec_register.specs.declared.Changed.the-variants as changed
-use Rattle.spec_register.specs.Register.{Client, most-clients, letters}
+use Rattle.spec_register.specs.Register.{Client, never-heard, most-clients, letters}
 use Rattle.spec_register.specs.Refusal.{no-input, add-refusal, change-refusal, set-refusal}
 use Rattle.spec_register.specs.Calls.{Call, add, change, remove, set-reading, load-again, unless, client-added, rights-changed, added-at, changed-or}
-use Rattle.spec_places.specs.Storage.{Lent, lent, at-place, client-bytes, kept-at, nothing-kept, standing-in, readings-in}
-use Rattle.spec_places.specs.Writing.{asked, rules-at, kept-by, kept, entered, each, kept-right, renewed, state-of}
+use Rattle.spec_places.specs.Storage.{Lent, lent, at-place, client-bytes, kept-at, nothing-kept, client-in, standing-in, readings-in}
+use Rattle.spec_places.specs.Writing.{asked, rules-at, kept-by, kept, entered, each, kept-right, renewed, settled-client, settled, state-of}
 use Rattle.spec_places.specs.Calls.{is-register, free-in, differing-in, with-reading-in, told-added, places-added, told-changed, places-changed, left, told}
 
 -- lent storage but for the table
@@ -82,6 +82,16 @@ module _ (t u : List ℕ) (same-test : is-table t ≡ is-table u) (same-view : v
       (λ (rules : List Rule).
       each (λ c p. cond (eqb (getD c (kept-at p) 0) (suc i)) (set c (kept-at p + 1) (kept-right rules rs c p)) c) most-clients b)
       (rules-same i)
+
+  settled-client-same : (b : List ℕ) (p : ℕ) (o : Option Client) → settled-client t b p o ≡ settled-client u b p o
+  settled-client-same b p none = refl
+  settled-client-same b p (some c) = ap (sets b (kept-at p)) (kept-same (λ i. never-heard) c)
+
+  pub settled-same : (b : List ℕ) → each (settled t) most-clients b ≡ each (settled u) most-clients b
+  settled-same b =
+      ap
+      (λ (f : List ℕ → ℕ → List ℕ). each f most-clients b)
+      (fun-ext (λ c. fun-ext (λ p. settled-client-same c p (client-in c p))))
 
   -- ---- what is refused
 
