@@ -55,7 +55,7 @@ fn call_on_table(
     rs: [Reading; 21],
     lent: &[u8],
 ) -> Reply
-    requires { ⌜ (1 < what) × (what < 8) ⌝ }
+    requires { ⌜ (1 < what) × (what < 9) ⌝ }
     ensures { λ r. ⌜ r ≡ answer-to (now (lent .entry)) (call-of what (now (a .entry)) (now (b .entry)) (now (c .entry)) (now (roles .entry)) (now (lengths .entry)) skip n rs) ⌝ }
 {
     if what == 2 {
@@ -73,8 +73,11 @@ fn call_on_table(
     if what == 6 {
         return Reply::Found(find_checked(lent, a, n));
     }
-    let name = ask::look_up(lent, a, n);
-    Reply::Named(name.len())
+    if what == 7 {
+        let name = ask::look_up(lent, a, n);
+        return Reply::Named(name.len());
+    }
+    Reply::Found(ask::group_at(lent, skip))
 }
 
 // A call on a calculation's text.
@@ -90,13 +93,13 @@ fn call_on_text(
     rs: [Reading; 21],
     lent: &[u8],
 ) -> Reply
-    requires { ⌜ 7 < what ⌝ }
+    requires { ⌜ 8 < what ⌝ }
     ensures { λ r. ⌜ r ≡ answer-to (now (lent .entry)) (call-of what (now (a .entry)) (now (b .entry)) (now (c .entry)) (now (roles .entry)) (now (lengths .entry)) skip n rs) ⌝ }
 {
-    if what == 8 {
+    if what == 9 {
         return Reply::Allowed(calc::allowed(a));
     }
-    if what == 9 {
+    if what == 10 {
         return Reply::Valued(calc::value(a, rs));
     }
     Reply::Holds(calc::holds(a, rs))
@@ -118,7 +121,7 @@ pub fn call_reading(
     requires { ⌜ 1 < what ⌝ }
     ensures { λ r. ⌜ r ≡ answer-to (now (lent .entry)) (call-of what (now (a .entry)) (now (b .entry)) (now (c .entry)) (now (roles .entry)) (now (lengths .entry)) skip n rs) ⌝ }
 {
-    if what < 8 {
+    if what < 9 {
         call_on_table(what, a, b, c, roles, lengths, skip, n, rs, lent)
     } else {
         call_on_text(what, a, b, c, roles, lengths, skip, n, rs, lent)

@@ -13,7 +13,8 @@ use Rattle.spec_load.specs.Load.{load}
 use Rattle.spec_load.specs.Listing.{Listing, listing}
 use Rattle.spec_decision.specs.Decision.{decide}
 use Rattle.spec_decision.specs.LookUp.{look-up, part-in}
-use Rattle.spec_demand.specs.Calls.{Call, load-text, list-warnings, check-table, ask, ask-checked, find-input, find-input-checked, look-up-name}
+use Rattle.spec_decision.specs.Walk.{group-at}
+use Rattle.spec_demand.specs.Calls.{Call, load-text, list-warnings, check-table, ask, ask-checked, find-input, find-input-checked, look-up-name, find-group}
 use Rattle.spec_demand.specs.Calls.{allow, calculate, hold}
 use Rattle.api_script.specs.declared.Reply.{Reply}
 use Rattle.api_script.specs.declared.Reply.the-variants as reply
@@ -29,6 +30,7 @@ answer-to b (ask-checked q) = reply.Answered (decide b q)
 answer-to b (find-input g letter) = reply.Found (look-up b g letter)
 answer-to b (find-input-checked g letter) = reply.Found (look-up b g letter)
 answer-to b (look-up-name g letter) = reply.Named (length (part-in (look-up b g letter) b))
+answer-to b (find-group n) = reply.Found (group-at b n)
 answer-to b (allow s) = reply.Allowed (not (missing (tree-of s)))
 answer-to b (calculate s rs) = reply.Valued (worth rs (tree-of s))
 answer-to b (hold s rs) = reply.Holds (true-tree rs (tree-of s))
@@ -57,6 +59,7 @@ left-by l (ask-checked q) = l
 left-by l (find-input g letter) = l
 left-by l (find-input-checked g letter) = l
 left-by l (look-up-name g letter) = l
+left-by l (find-group n) = l
 left-by l (allow s) = l
 left-by l (calculate s rs) = l
 left-by l (hold s rs) = l

@@ -7,13 +7,13 @@ use Rattle.spec_rule.specs.Question.{lent-question}
 use Rattle.spec_calc.specs.declared.Reading.{Reading}
 use Rattle.spec_calc.specs.States.{readings}
 use Rattle.load_tokens.specs.Arrays.{between}
-use Rattle.spec_demand.specs.Calls.{Call, load-text, list-warnings, check-table, ask, ask-checked, find-input, find-input-checked, look-up-name}
+use Rattle.spec_demand.specs.Calls.{Call, load-text, list-warnings, check-table, ask, ask-checked, find-input, find-input-checked, look-up-name, find-group}
 use Rattle.spec_demand.specs.Calls.{allow, calculate, hold}
 
 -- The words are 16 for each call:
 --   0        what is called: see call-of
 --   1 to 6   three texts, each from where to where it stands in the pool
---   7        how many warnings are skipped
+--   7        how many warnings are skipped; the number of a group
 --   8        where the 21 readings begin in states and values
 --   9 to 12  two more texts: a question's roles, one behind the other, and the length of each
 -- The others say nothing. Each call has a level or letter of its own. What stands beyond an end is no byte, the number 0; of readings see calc_readings/specs.
@@ -27,22 +27,23 @@ pub record Script : Type 0 where
 abbrev pub script-of : List ℕ → List ℕ → List ℕ → List ℕ → List Float → Script
 script-of ws p ls ss vs = record { words = ws; pool = p; levels = ls; states = ss; values = vs }
 
--- the calls from number 2 on, of three texts, roles and their lengths, a level or letter, and readings: none of them writes
-abbrev pub reading-calls : List ℕ → List ℕ → List ℕ → List ℕ → List ℕ → ℕ → List Reading → List Call
-reading-calls a b c roles lengths n rs =
+-- the calls from number 2 on, of three texts, roles and their lengths, a group's number, a level or letter, and readings: none of them writes
+abbrev pub reading-calls : List ℕ → List ℕ → List ℕ → List ℕ → List ℕ → ℕ → ℕ → List Reading → List Call
+reading-calls a b c roles lengths number n rs =
     check-table
     ∷ ask (lent-question a b c roles lengths n rs)
     ∷ ask-checked (lent-question a b c roles lengths n rs)
     ∷ find-input a n
     ∷ find-input-checked a n
     ∷ look-up-name a n
+    ∷ find-group number
     ∷ allow a
     ∷ calculate a rs
     ∷ []
 
--- what a number calls: 0 a load, 1 a list of warnings behind so many, and so on; 10 and more a calculation's truth
+-- what a number calls: 0 a load, 1 a list of warnings behind so many, and so on; 11 and more a calculation's truth
 abbrev pub call-of : ℕ → List ℕ → List ℕ → List ℕ → List ℕ → List ℕ → ℕ → ℕ → List Reading → Call
-call-of what a b c roles lengths skip n rs = getD (load-text a ∷ list-warnings a skip ∷ reading-calls a b c roles lengths n rs) what (hold a rs)
+call-of what a b c roles lengths skip n rs = getD (load-text a ∷ list-warnings a skip ∷ reading-calls a b c roles lengths skip n rs) what (hold a rs)
 
 -- the j-th word of the i-th call
 abbrev pub word : List ℕ → ℕ → ℕ → ℕ

@@ -1,4 +1,4 @@
-// The answer to a question on any bytes, and the look-up of an input. ask_checked and ask_input have them for a table that was
+// The answer to a question on any bytes, the look-up of an input, and of a group by its number. ask_checked and ask_input have them for a table that was
 // checked before.
 use spec_calc::Reading;
 use spec_decision::Answer;
@@ -9,6 +9,7 @@ ghost use mathlib.Core.Path.{_≡_};
 ghost use Rattle.spec_rule.specs.Question.{lent-question};
 ghost use Rattle.spec_decision.specs.Decision.{decide};
 ghost use Rattle.spec_decision.specs.LookUp.{look-up, part-in};
+ghost use Rattle.spec_decision.specs.Walk.{group-at};
 
 // The answer to a question on any bytes.
 pub fn decide(
@@ -39,6 +40,16 @@ pub fn find_input(table: &[u8], group: &[u8], letter: u32) -> Found
     } else {
         Found::NotTable
     }
+}
+
+// Where the name of the access group of a number, the first being 0, stands in any bytes.
+pub fn group_at(table: &[u8], number: usize) -> Found
+    ensures { λ r. ⌜ r ≡ group-at (now (table .entry)) number ⌝ }
+{
+    if !table::is_table(table) {
+        return Found::NotTable;
+    }
+    ask_input::group_at_checked(table, number)
 }
 
 // The part of a table that is the name of a letter's input; empty if there is none.

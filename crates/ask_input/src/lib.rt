@@ -1,12 +1,12 @@
-// The look-up of an input on a table that was checked before.
+// The look-up of an input, and of a group by its number, on a table that was checked before.
 use spec_decision::Found;
-use table_fields::STRINGS;
 use table_read::Index;
 use table_read::Section;
 ghost use mathlib.Core.Path.{_≡_};
 ghost use mathlib.Core.Bool.{true};
 ghost use Rattle.spec_table.specs.Check.{is-table};
 ghost use Rattle.spec_decision.specs.LookUp.{look-up};
+ghost use Rattle.spec_decision.specs.Walk.{group-at};
 ghost use Rattle.ask_input.specs.Input.{Finds-letter};
 
 // The input of a letter. ask::look_up has asked is_table.
@@ -27,14 +27,18 @@ pub fn find_input_checked(table: &[u8], group: &[u8], letter: u32) -> Found
 {
     match input_of(table, group, letter) {
         Index::Missing => Found::NoInput,
-        Index::At(i) => {
-            let strings = table_fields::offset(table, STRINGS);
-            let at = table_read::field(table, Section::Inputs, i, 1);
-            let length = table_read::field(table, Section::Inputs, i, 2);
-            Found::Part {
-                at: strings + at,
-                length,
-            }
-        }
+        Index::At(i) => table_read::name_part(table, Section::Inputs, i),
+    }
+}
+
+// Where the name of the access group of a number stands, in a table that was checked before. ask::group_at has asked is_table.
+pub fn group_at_checked(table: &[u8], number: usize) -> Found
+    requires { ⌜ is-table (now table) ≡ true ⌝ }
+    ensures { λ r. ⌜ r ≡ group-at (now (table .entry)) number ⌝ }
+{
+    if number < table_read::count(table, Section::AccessGroups) {
+        table_read::name_part(table, Section::AccessGroups, number)
+    } else {
+        Found::NoInput
     }
 }

@@ -1,4 +1,5 @@
 // The records of a checked table: counts, fields, names, the answering group, an input.
+use spec_decision::Found;
 use table_fields::ACCESS_GROUPS;
 use table_fields::HOST_GROUPS;
 use table_fields::INPUTS;
@@ -16,6 +17,7 @@ ghost use Rattle.spec_table.specs.Layout.{width};
 ghost use Rattle.spec_table.specs.View.{view};
 ghost use Rattle.spec_table.specs.Check.{is-table};
 ghost use Rattle.spec_table.specs.Policy.{name, row};
+ghost use Rattle.spec_decision.specs.LookUp.{name-part};
 ghost use Rattle.spec_decision.specs.Groups.{answering-number};
 ghost use Rattle.table_fields.specs.Field.{Word};
 ghost use Rattle.table_read.specs.Stored.{section, Ordered, name-word, Stored, word-of};
@@ -70,8 +72,8 @@ fn name_word(s: Section) -> usize
     }
 }
 
-// How many records a section has.
-fn count(table: &[u8], s: Section) -> usize
+// How many records a section has. Inner: ask_input goes through the groups by it.
+pub fn count(table: &[u8], s: Section) -> usize
     requires { ⌜ is-table (now table) ≡ true ⌝ }
     ensures { λ r. ⌜ r ≡ length (view (now (table .entry)) .records (section s)) ⌝ }
 {
@@ -96,6 +98,18 @@ pub fn name_of(table: &[u8], s: Section, i: usize) -> &[u8]
     let a = strings + field(table, s, i, j);
     let e = a + field(table, s, i, j + 1);
     &table[a..e]
+}
+
+// Where a record's name stands in the table. Inner: its callers have the record from a search or a count.
+pub fn name_part(table: &[u8], s: Section, i: usize) -> Found
+    requires { ⌜ Stored (now table) (section s) i ⌝ }
+    ensures { λ r. ⌜ r ≡ name-part (section s) (now (table .entry)) (row (view (now (table .entry))) (section s) i) ⌝ }
+{
+    let j = name_word(s);
+    let strings = table_fields::offset(table, STRINGS);
+    let at = strings + field(table, s, i, j);
+    let length = field(table, s, i, j + 1);
+    Found::Part { at, length }
 }
 
 // The first access group of a name; DEFAULT does not stand in for one that is missing. Inner: callers have a checked table.

@@ -40,11 +40,17 @@ look-up-requires : tie.Need-look-up-requires
 look-up-requires c κs = search needs
 
 returns-6 : tie.Need-returns-6
-returns-6 c =
-    let at-start = c .before .before .before .before .before .before .before .before .before .before .before .before in
+returns-6 c = rw (c .before .if6 .taken) (ap reply.Named (ap length (c .look-up .ensures)))
+
+group-at-requires : tie.Need-group-at-requires
+group-at-requires c κs = search needs
+
+returns-7 : tie.Need-returns-7
+returns-7 c =
+    let at-start = c .before .before .before .before .before .before .before .before .before .before .before .before .before in
     let among = at-start .pre in
-    let last : at-start .args .what ≡ 7 = omega arith in
-    rw last (ap reply.Named (ap length (c .look-up .ensures)))
+    let last : at-start .args .what ≡ 8 = omega arith in
+    rw last (ap reply.Found (c .group-at .ensures))
 
 pub call-on-table-spec : {M : Type 1} → statement M
 call-on-table-spec =
@@ -61,4 +67,6 @@ call-on-table-spec =
     find-checked-requires
     returns-5
     look-up-requires
-    returns-6)
+    returns-6
+    group-at-requires
+    returns-7)

@@ -7,7 +7,7 @@ use Rattle.spec_load.specs.declared.Loaded.{Loaded}
 use Rattle.spec_load.specs.Load.{Result, load}
 use Rattle.spec_decision.specs.declared.Answer.{Answer}
 use Rattle.spec_decision.specs.Decision.{access-in, decide}
-use Rattle.spec_demand.specs.Calls.{Call, load-text, list-warnings, check-table, ask, ask-checked, find-input, find-input-checked, look-up-name}
+use Rattle.spec_demand.specs.Calls.{Call, load-text, list-warnings, check-table, ask, ask-checked, find-input, find-input-checked, look-up-name, find-group}
 use Rattle.spec_demand.specs.Calls.{allow, calculate, hold, after-call, after-calls, is-accepted}
 use Rattle.spec_demand.specs.laws.Later.{never-above, exactly-equal}
 use Rattle.api_script.specs.Replies.{Lent, lent-of, left-by, left-by-calls}
@@ -23,6 +23,7 @@ table-left l (ask-checked q) = refl
 table-left l (find-input g letter) = refl
 table-left l (find-input-checked g letter) = refl
 table-left l (look-up-name g letter) = refl
+table-left l (find-group n) = refl
 table-left l (allow s) = refl
 table-left l (calculate s rs) = refl
 table-left l (hold s rs) = refl

@@ -6,7 +6,7 @@ use mathlib.Core.Option.{some}
 use Prim.Native.Nat.{ℕ}
 use Rattle.spec_file.specs.Load.{Verdict, refuse, accept, verdict}
 use Rattle.spec_load.specs.Listing.{listed-by, listing}
-use Rattle.spec_demand.specs.Calls.{Call, load-text, list-warnings, check-table, ask, ask-checked, find-input, find-input-checked, look-up-name}
+use Rattle.spec_demand.specs.Calls.{Call, load-text, list-warnings, check-table, ask, ask-checked, find-input, find-input-checked, look-up-name, find-group}
 use Rattle.spec_demand.specs.Calls.{allow, calculate, hold, Told, listing-told, refusal-of}
 use Rattle.spec_demand.specs.laws.Loaded.{refused-call-leaves}
 use Rattle.api_script.specs.Replies.{Lent, lent-of, with-list, left-by}
@@ -28,6 +28,7 @@ refused-leaves-all l (ask-checked q) r e = refl
 refused-leaves-all l (find-input g letter) r e = refl
 refused-leaves-all l (find-input-checked g letter) r e = refl
 refused-leaves-all l (look-up-name g letter) r e = refl
+refused-leaves-all l (find-group n) r e = refl
 refused-leaves-all l (allow s) r e = refl
 refused-leaves-all l (calculate s rs) r e = refl
 refused-leaves-all l (hold s rs) r e = refl

@@ -52,13 +52,13 @@ pub others-leave :
 others-leave zero a b c roles lengths k n rs lent h = absurd (omega arith)
 others-leave (suc zero) a b c roles lengths k n rs lent h = absurd (omega arith)
 others-leave (suc (suc m)) a b c roles lengths k n rs lent h =
-    let leave : Every (λ x. lent ≡ left-by lent x) (reading-calls a b c roles lengths n rs) =
-    cons refl (cons refl (cons refl (cons refl (cons refl (cons refl (cons refl (cons refl nil))))))) in
+    let leave : Every (λ x. lent ≡ left-by lent x) (reading-calls a b c roles lengths k n rs) =
+    cons refl (cons refl (cons refl (cons refl (cons refl (cons refl (cons refl (cons refl (cons refl nil)))))))) in
     every-at m (hold a rs) refl leave
 
--- a number over 9 asks whether a calculation is true
-pub truth-called : (m : ℕ) (a b c roles lengths : List ℕ) (k n : ℕ) (rs : List Reading) → 9 < m → hold a rs ≡ call-of m a b c roles lengths k n rs
-truth-called m a b c roles lengths k n rs h = sym (List·getD-eq-default (load-text a ∷ list-warnings a k ∷ reading-calls a b c roles lengths n rs) (hold a rs) h)
+-- a number over 10 asks whether a calculation is true
+pub truth-called : (m : ℕ) (a b c roles lengths : List ℕ) (k n : ℕ) (rs : List Reading) → 10 < m → hold a rs ≡ call-of m a b c roles lengths k n rs
+truth-called m a b c roles lengths k n rs h = sym (List·getD-eq-default (load-text a ∷ list-warnings a k ∷ reading-calls a b c roles lengths k n rs) (hold a rs) h)
 
 module _ (s : Script) (i : ℕ) (lent : Lent) {w : ℕ} (what : w ≡ word (s .words) i 0) {t : List ℕ} (text : t ≡ text-at (s .words) (s .pool) i 1) where
   pub load-made :

@@ -1,23 +1,21 @@
 -- The look-up, from the input that a search finds.
-use mathlib.Core.Path.{_≡_, sym, ap, ap₂, subst, _∙_}
+use mathlib.Core.Path.{_≡_, sym, ap, subst, _∙_}
 use mathlib.Core.Bool.{true, false}
 use mathlib.Core.List.{List}
 use mathlib.Core.Option.{Option, none, some}
-use Prim.Native.Nat.{ℕ, _+_}
+use Prim.Native.Nat.{ℕ}
 use Rattle.spec_file.specs.Limit.{access-groups, inputs}
-use Rattle.spec_table.specs.View.{view, strings-extent, strings-order, offset-of}
+use Rattle.spec_table.specs.View.{view}
 use Rattle.spec_table.specs.Check.{is-table, name-run}
 use Rattle.spec_table.specs.Policy.{name, row}
 use Rattle.spec_table.specs.laws.Fields.{string-at, strings-count}
 use Rattle.spec_table.specs.laws.Standing.{stands, name-within}
 use Rattle.spec_decision.specs.declared.Found.{Found}
 use Rattle.spec_decision.specs.declared.Found.the-variants as found
-use Rattle.spec_decision.specs.LookUp.{part-in, input-of, named-part, look-up}
+use Rattle.spec_decision.specs.LookUp.{part-in, name-part, input-of, named-part, look-up}
 use Rattle.spec_decision.specs.Groups.{answering-number}
-use Rattle.table_fields.specs.Field.{Word}
 use Rattle.table_read.specs.declared.Index.{Index}
 use Rattle.table_read.specs.declared.Index.the-variants.{At, Missing}
-use Rattle.table_read.specs.Stored.{word-of}
 use Rattle.table_read.specs.Search.{Finds, not-found, index-of, group-for}
 use Rattle.table_read.specs.laws.Search.{finds-at, finds-none, finds-answering}
 use Rattle.ask_input.specs.Input.{Finds-letter}
@@ -46,21 +44,15 @@ module _ (b g : List ℕ) (l : ℕ) where
     unfolding look-up
     look-none f e =
         let z : input-of (view b) l (group-for b g) ≡ none = finds-none f e in
-        rw h (ap (named-part b) z)
+        rw h (ap (named-part inputs b) z)
 
     pub look-found :
         {r : Index} (i : ℕ) → Finds-letter b g l r → r ≡ At i
-        → look-up b g l ≡ found.Part (strings-extent b .first + name-run inputs (row (view b) inputs i) .first) (name-run inputs (row (view b) inputs i) .count)
+        → look-up b g l ≡ name-part inputs b (row (view b) inputs i)
     unfolding look-up
     look-found i f e =
         let z : input-of (view b) l (group-for b g) ≡ some (row (view b) inputs i) = finds-at i f e .0 in
-        rw h (ap (named-part b) z)
-
-    pub look-part :
-        {r : Index} {o f n : ℕ} (i : ℕ) → Finds-letter b g l r → r ≡ At i
-        → Word (offset-of b strings-order) o → Word (word-of b inputs i 1) f → Word (word-of b inputs i 2) n
-        → found.Part (o + f) n ≡ look-up b g l
-    look-part i d e o f n = ap₂ (λ (x y : ℕ). found.Part x y) (ap₂ (λ (x y : ℕ). x + y) (o .is) (f .is)) (n .is) ∙ sym (look-found i d e)
+        rw h (ap (named-part inputs b) z)
 
     -- the part of the table is the name
     pub part-found : {r : Index} (i : ℕ) → Finds-letter b g l r → r ≡ At i → name (view b) inputs (row (view b) inputs i) ≡ part-in (look-up b g l) b

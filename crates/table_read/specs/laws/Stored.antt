@@ -14,6 +14,8 @@ use Rattle.spec_table.specs.Policy.{name, row}
 use Rattle.spec_table.specs.laws.Bytes.{each}
 use Rattle.spec_table.specs.laws.Fields.{has-header, view-count, strings-inside, strings-count, string-at}
 use Rattle.spec_table.specs.laws.Standing.{stands, name-within}
+use Rattle.spec_decision.specs.declared.Found.the-variants.{Part}
+use Rattle.spec_decision.specs.LookUp.{name-part}
 use Rattle.table_fields.specs.Field.{Word, section-at, record-at, Has-field}
 use Rattle.table_read.specs.declared.Section as coded
 use Rattle.table_read.specs.declared.Section.the-variants.{UserGroups, HostGroups, Members, AccessGroups, Inputs, Rules, References}
@@ -96,3 +98,9 @@ pub name-count :
     (b : List ℕ) (k : coded.Section) (i : ℕ) {j r : ℕ} → j ≡ name-word k → Word (word-of b (section k) i (j + 1)) r
     → r ≡ name-run (section k) (row (view b) (section k) i) .count
 name-count b k i e r = r .is ∙ ap (λ (x : ℕ). word-of b (section k) i (x + 1)) e ∙ ap (λ (q : Run). q .count) (sym (name-is k (row (view b) (section k) i)))
+
+pub part-read :
+    (b : List ℕ) (s : Section) (i : ℕ) {o f n : ℕ} → Word (offset-of b strings-order) o → f ≡ name-run s (row (view b) s i) .first
+    → n ≡ name-run s (row (view b) s i) .count
+    → Part (o + f) n ≡ name-part s b (row (view b) s i)
+part-read b s i o f n = ap₂ (λ (x y : ℕ). Part x y) (ap₂ (λ (x y : ℕ). x + y) (o .is) f) n
