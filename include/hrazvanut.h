@@ -1,13 +1,14 @@
 /* Verified access security for EPICS gateways: the proved library, for C (C99 or later) and C++ (C++11 or later).
  *
  * A gateway calls hrazvanut_load, hrazvanut_list_warnings, hrazvanut_is_table, hrazvanut_decide, hrazvanut_find_input,
- * hrazvanut_stopping_input and hrazvanut_allowed; or it lends a register that holds its clients, and calls hrazvanut_reload,
- * hrazvanut_add_client, hrazvanut_change_client, hrazvanut_remove_client, hrazvanut_set_reading and hrazvanut_right_of. Those that take a
- * table that was checked before have names that end in _checked. All stand at the end of this file, each with its contract in words, and
- * are inline: they pass the parts of their structs on to the proved functions, hrazvanut_abi_*, and take the answers apart.
+ * hrazvanut_stopping_input, hrazvanut_group_at, hrazvanut_next_input and hrazvanut_allowed; or it lends a register that holds its clients,
+ * and calls hrazvanut_reload, hrazvanut_add_client, hrazvanut_change_client, hrazvanut_remove_client, hrazvanut_set_reading and
+ * hrazvanut_right_of. Those that take a table that was checked before have names that end in _checked. All stand at the end of this file,
+ * each with its contract in words, and are inline: they pass the parts of their structs on to the proved functions, hrazvanut_abi_*, and
+ * take the answers apart.
  *
  * Of every call whose name does not end in _checked: any bytes, any lengths, any numbers get an answer, in bounds and in bounded time. A
- * question, a register and a client are not NULL.
+ * question, a register, a client and a walk's input are not NULL.
  *
  * - A pointer is good for the length beside it. With a length of 0 it may be any pointer, NULL too.
  * - What is lent to be written (the room of a load, the array of warnings, a register) overlaps nothing else that is lent to the same call.
@@ -42,7 +43,7 @@
  * rules change and the form does not, as in 5.0 and 6.0, MAJOR grows and the names stay. In 7.0 a right has a letter, so `changed` tells
  * of more, and three names are new. */
 #define HRAZVANUT_VERSION_MAJOR 7
-#define HRAZVANUT_VERSION_MINOR 0
+#define HRAZVANUT_VERSION_MINOR 1
 #define HRAZVANUT_VERSION (HRAZVANUT_VERSION_MAJOR * 1000 + HRAZVANUT_VERSION_MINOR)
 
 /* No file is longer, no table is longer, so many readings has a question: those of the letters A to U. */
@@ -209,11 +210,19 @@ struct hrazvanut_answer {
     char letter;                  /* 'A' to 'U': the one whose reading stopped who asks; 0 if there is none, as when refused */
 };
 
-/* Of a look-up. */
+/* Of a look-up, and of a group's number. */
 struct hrazvanut_found {
     enum hrazvanut_refusal refusal;
     struct hrazvanut_text name; /* a part of the table; no bytes if refused, and a name may have none too */
     size_t at;                  /* where it starts in the table, in bytes */
+};
+
+/* Of a walk over the inputs of a table. It begins with zeros. */
+struct hrazvanut_input {
+    struct hrazvanut_text group; /* the access group, by the name for hrazvanut_set_reading; a part of the table */
+    uint32_t letter;             /* A is 0 */
+    struct hrazvanut_text name;  /* the process variable; a part of the table, and it may have no bytes */
+    size_t next;                 /* where the walk goes on: leave it as it is */
 };
 
 /* Of a client that is added, changed or removed. In each `changed` below, bit p is set exactly if the right of the place p, its access, its
@@ -251,7 +260,7 @@ extern "C" {
 
 /* No pointer may be NULL. `values` is aligned as double, `places` as uint16_t. An answer of 64 bits holds a first number in bits 0 to 31, a
  * second in bits 32 to 47, and the refusal above them: of a load the length and the number of warnings, or the place; of a list of warnings
- * their number, or the place; of a question the right; of a look-up the place and the length. A right has the access in bits 0 and 1, the
+ * their number, or the place; of a question the right; of a look-up and of a group the place and the length. A right has the access in bits 0 and 1, the
  * trap flag in bit 2 and the letter in bits 3 to 7: 0 for none, 1 for A up to 21 for U.
  * Any other answer of 8 bits than a right is 1 or 0. The letter i has states[i] and values[i]: past the end of states it was never heard,
  * past the end of values it is not a number. The role i is the next lengths[i] bytes of roles, in which all stand one behind the other;
@@ -273,6 +282,8 @@ typedef uint64_t hrazvanut_abi_question(const uint8_t *table, size_t table_lengt
 hrazvanut_abi_question hrazvanut_abi_decide_letter;
 hrazvanut_abi_question hrazvanut_abi_decide_letter_checked;
 uint64_t hrazvanut_abi_find_input(const uint8_t *table, size_t table_length, const uint8_t *group, size_t group_length, uint32_t letter);
+uint64_t hrazvanut_abi_group_at(const uint8_t *table, size_t table_length, size_t number);
+uint32_t hrazvanut_abi_version(void);
 uint8_t hrazvanut_abi_allowed(const uint8_t *text, size_t text_length);
 typedef uint64_t hrazvanut_abi_adding(uint8_t *places, size_t places_length, const uint8_t *states, size_t states_length,
                                       const double *values, size_t values_length, const uint8_t *table, size_t table_length,
@@ -408,6 +419,17 @@ static inline struct hrazvanut_loaded hrazvanut_abi_loaded(uint64_t answer, stru
     return loaded;
 }
 
+/* What a look-up in the table answers. */
+static inline struct hrazvanut_found hrazvanut_abi_found(uint64_t answer, struct hrazvanut_table table)
+{
+    struct hrazvanut_found found;
+    found.refusal = hrazvanut_abi_refusal(answer);
+    found.at = hrazvanut_abi_first(answer);
+    found.name.length = hrazvanut_abi_second(answer);
+    found.name.start = found.refusal == HRAZVANUT_NOT_REFUSED ? (const char *)table.start + found.at : NULL;
+    return found;
+}
+
 /* What a call on the client at a place answers. */
 static inline struct hrazvanut_entered hrazvanut_abi_entered(uint64_t answer, size_t place, uint64_t changed)
 {
@@ -455,7 +477,10 @@ static inline struct hrazvanut_reading_set hrazvanut_abi_hear(hrazvanut_abi_sett
     return done;
 }
 
-/* ---- texts and words */
+/* ---- the version, texts and words */
+
+/* The version of the library that is linked: HRAZVANUT_VERSION of the header that it came with. */
+static inline uint32_t hrazvanut_version(void) { return hrazvanut_abi_version(); }
 
 /* A text that a NUL ends; NULL is the empty one. */
 static inline struct hrazvanut_text hrazvanut_string(const char *s)
@@ -577,14 +602,9 @@ static inline struct hrazvanut_answer hrazvanut_decide_checked(struct hrazvanut_
 /* The name of the process variable that feeds a letter (A is 0) of a group. Refused: 20 not a table, then 22 no such input. */
 static inline struct hrazvanut_found hrazvanut_find_input(struct hrazvanut_table table, struct hrazvanut_text group, uint32_t letter)
 {
-    uint64_t answer = hrazvanut_abi_find_input(hrazvanut_abi_bytes(table.start, table.length), table.length,
-                                               hrazvanut_abi_bytes(group.start, group.length), group.length, letter);
-    struct hrazvanut_found found;
-    found.refusal = hrazvanut_abi_refusal(answer);
-    found.at = hrazvanut_abi_first(answer);
-    found.name.length = hrazvanut_abi_second(answer);
-    found.name.start = found.refusal == HRAZVANUT_NOT_REFUSED ? (const char *)table.start + found.at : NULL;
-    return found;
+    return hrazvanut_abi_found(hrazvanut_abi_find_input(hrazvanut_abi_bytes(table.start, table.length), table.length,
+                                                        hrazvanut_abi_bytes(group.start, group.length), group.length, letter),
+                               table);
 }
 
 /* The name of the process variable that stopped an asker: the one that feeds the letter of an answer, or of a right, for a question of that
@@ -593,6 +613,42 @@ static inline struct hrazvanut_found hrazvanut_find_input(struct hrazvanut_table
 static inline struct hrazvanut_found hrazvanut_stopping_input(struct hrazvanut_table table, struct hrazvanut_text group, char letter)
 {
     return hrazvanut_find_input(table, group, (uint32_t)(letter - 'A')); /* what is below 'A' is far above 'U' */
+}
+
+/* ---- a walk: which process variables a gateway has to hear */
+
+/* The name of the access group of a number: 0 is the first of the table, and a table has at most HRAZVANUT_GROUPS. The group that answers
+ * for any name is among them, its readings are set by this name, and its inputs are found by it. A name may have no bytes: no question
+ * comes to that group, since an empty name goes to DEFAULT. Refused: 20 not a table, then 22 no group of that number. */
+static inline struct hrazvanut_found hrazvanut_group_at(struct hrazvanut_table table, size_t number)
+{
+    return hrazvanut_abi_found(hrazvanut_abi_group_at(hrazvanut_abi_bytes(table.start, table.length), table.length, number), table);
+}
+
+/* The next input of a table, group by group and by letter, with the name that each group's readings are set by:
+ *
+ *     struct hrazvanut_input input = {0};
+ *     while (hrazvanut_next_input(table, &input))
+ *         subscribe(input.group, input.letter, input.name);
+ *
+ * False behind the last, and for what is no table; then the input is as it was, but for where the walk goes on. Each input that a question
+ * can depend on is told, and if a load wrote the table each once. It takes some time: the table is checked at each step. */
+static inline bool hrazvanut_next_input(struct hrazvanut_table table, struct hrazvanut_input *input)
+{
+    for (;;) {
+        uint32_t letter = (uint32_t)(input->next % HRAZVANUT_READINGS);
+        struct hrazvanut_found group = hrazvanut_group_at(table, input->next / HRAZVANUT_READINGS), name;
+        if (group.refusal)
+            return false;
+        input->next++;
+        name = hrazvanut_find_input(table, group.name, letter);
+        if (name.refusal || group.name.length == 0)
+            continue;
+        input->group = group.name;
+        input->letter = letter;
+        input->name = name.name;
+        return true;
+    }
 }
 
 /* ---- a calculation */
@@ -606,8 +662,9 @@ static inline bool hrazvanut_allowed(struct hrazvanut_text text)
 /* ---- a register: the clients of a gateway over one table
  *
  * Begin with a zeroed register, and with a table or with bytes that are none. Lend each call that register and that table: after a reload,
- * the table that it answers, or the whole room, of which the bytes behind the table do not count. Load again into that same room. Then,
- * whatever calls were made, as long as nobody else writes the register or the table:
+ * the table that it answers, or the whole room, of which the bytes behind the table do not count. Load again into that same room, or into
+ * another, so that questions can go on with the old table meanwhile: behind an accepted reload the calls are lent the new table, behind a
+ * refused one still the old. Then, whatever calls were made, as long as nobody else writes the register or the table:
  *
  * - each client's right is what hrazvanut_decide would answer now to a question with its names and level, no roles, and the readings of the
  *   group that answers (for a group that is not defined those of DEFAULT), its letter too; while the bytes are no table it is NONE without

@@ -1,7 +1,8 @@
-// The library's functions for C that look at a table: whether bytes are one, which input it has. include/hrazvanut.h calls them.
+// The library's functions for C that look at a table: whether bytes are one, which input it has, which groups. include/hrazvanut.h calls them.
 ghost use mathlib.Core.Path.{_≡_};
 ghost use Rattle.spec_table.specs.Check.{is-table};
 ghost use Rattle.spec_decision.specs.LookUp.{look-up};
+ghost use Rattle.spec_decision.specs.Walk.{group-at};
 ghost use Rattle.api_numbers.specs.Numbers.{found-number, yes};
 
 #[no_mangle]
@@ -16,4 +17,11 @@ pub extern "C" fn hrazvanut_abi_find_input(table: &[u8], group: &[u8], letter: u
     ensures { λ r. ⌜ r ≡ found-number (look-up (now (table .entry)) (now (group .entry)) letter) ⌝ }
 {
     api_numbers::found_number(ask::find_input(table, group, letter))
+}
+
+#[no_mangle]
+pub extern "C" fn hrazvanut_abi_group_at(table: &[u8], number: usize) -> u64
+    ensures { λ r. ⌜ r ≡ found-number (group-at (now (table .entry)) number) ⌝ }
+{
+    api_numbers::found_number(ask::group_at(table, number))
 }
