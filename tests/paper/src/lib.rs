@@ -7,7 +7,7 @@
 //! document 02's first request, `script` its calls as lines; its second, roles,
 //! is part of `question`, its third, bad arithmetic, of `calculation`, its fourth,
 //! undefined groups, of `file`, its fifth, the stopping letter, of `calculation`
-//! and `question`.
+//! and `question`. `walk` tells which groups and inputs a table has.
 #![forbid(unsafe_code)]
 
 pub mod calculation;
@@ -19,11 +19,13 @@ pub mod register;
 pub mod script;
 pub mod table;
 pub mod text;
+pub mod walk;
 
 pub use calculation::{allowed, Reading, Readings};
 pub use question::{decide, decide_checked, find_input, Access, Answer, Question};
 pub use register::{Client, Register};
 pub use table::is_table;
+pub use walk::{group_at, inputs, Input};
 
 /// Limits of refusals 1, 3 and 5.
 pub const FILE_BYTES: usize = 16_384;
