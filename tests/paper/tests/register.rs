@@ -132,6 +132,34 @@ fn only_a_good_load_forgets_readings() {
     assert_eq!(changed(&before, &desk.register.rights(&desk.table)), 1);
 }
 
+/// A load may be lent another room than that of the table in force: accepted, all is
+/// as in the same room; refused, the table in force goes on.
+#[test]
+fn a_load_into_another_room() {
+    let (good, bad) = (format!("load {}", hex(SITE)), format!("load {}", hex("UAG(a")));
+    let mut desk = Desk::of_site();
+    desk.says("add - 1 - -");
+    desk.says(&set("", 0, ONE));
+    let before = desk.register.rights(&desk.table);
+    let other_room = [vec![7; 10], vec![7; TABLE_BYTES], desk.table.clone()];
+    for (room, line, answer) in
+        [(1, &bad, "refused 4 5"), (0, &good, "refused 11 "), (2, &bad, "refused 4 5")]
+    {
+        let kept = std::mem::replace(&mut desk.table, other_room[room].clone());
+        assert!(desk.says(line).starts_with(answer));
+        assert_eq!(desk.table, other_room[room]);
+        desk.table = kept;
+        assert_eq!(desk.register.rights(&desk.table), before);
+    }
+    let mut same_room = Desk { register: desk.register.clone(), table: desk.table.clone() };
+    let said = same_room.says(&good);
+    desk.table.clone_from(&other_room[1]);
+    assert_eq!(desk.says(&good), said);
+    let after = desk.register.rights(&desk.table);
+    assert_eq!(after, same_room.register.rights(&same_room.table));
+    assert_eq!((desk.rights(1), changed(&before, &after)), ("R-".to_string(), 1));
+}
+
 #[test]
 fn no_table_gives_no_right() {
     let mut desk = Desk::of_site();
