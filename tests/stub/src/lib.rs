@@ -9,6 +9,7 @@ pub mod groups;
 mod letters;
 mod register;
 mod roles;
+mod walk;
 
 use arithmetic::judged;
 use paper::table::View;
