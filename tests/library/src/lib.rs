@@ -5,6 +5,7 @@
 #[cfg(feature = "stub")]
 extern crate stub as _;
 
+use paper::Input;
 use std::ffi::c_int;
 use std::marker::PhantomData;
 
@@ -51,7 +52,7 @@ pub struct Decision {
     pub agrees: bool,
 }
 
-/// Where an input's name stands in the table.
+/// Where the name of an input or of an access group stands in the table.
 #[derive(Clone, Copy, Debug, PartialEq, Eq)]
 pub struct Found {
     /// 20, 22, or 0 if found.
@@ -153,6 +154,12 @@ calls! {
     fn library_stopping_input(
         table: In, table_length: usize, group: In, group_length: usize, letter: u8, out: *mut u64,
     );
+    fn library_group_at(table: In, table_length: usize, number: usize, out: *mut u64);
+    fn library_group_at_number(table: In, table_length: usize, number: usize) -> u64;
+    fn library_walk(
+        table: In, table_length: usize, out: *mut [u64; 5], most: usize, ends: *mut c_int,
+    ) -> usize;
+    fn library_version(out: *mut u32);
     fn library_allowed(text: In, text_length: usize) -> c_int;
 }
 
@@ -337,6 +344,52 @@ pub fn stopping_input(table: &[u8], group: &[u8], letter: u8) -> Found {
     found(|out| unsafe {
         calls::library_stopping_input(table.as_ptr(), table.len(), group.as_ptr(), group.len(), letter, out);
     })
+}
+
+/// By the header and by the number of the proved function. A table is lent here as
+/// something that can be written, so that it is seen if one is.
+pub fn group_at(table: &mut [u8], number: usize) -> Found {
+    let start = table.as_mut_ptr().cast_const();
+    // SAFETY: as above.
+    let by_header = found(|out| unsafe { calls::library_group_at(start, table.len(), number, out) });
+    let packed = unsafe { calls::library_group_at_number(start, table.len(), number) };
+    Found { agrees: by_header.agrees && packed == by_header.number(), ..by_header }
+}
+
+impl Found {
+    /// As the proved function answers it.
+    fn number(&self) -> u64 {
+        self.place | self.length << 32 | self.refusal << 48
+    }
+}
+
+/// No walk tells more inputs.
+const MOST_TOLD: usize = paper::MOST[paper::table::ACCESS_GROUPS] * paper::LETTERS;
+
+/// What a walk over a table tells, up to one more than there can be; and whether it
+/// then stays at its end, with the input as it was.
+pub fn walk(table: &mut [u8]) -> (Vec<Input>, bool) {
+    let mut out = vec![[0; 5]; MOST_TOLD + 1];
+    let mut ends = 0;
+    // SAFETY: as above; `out` has as many inputs as it says.
+    let told = unsafe {
+        let start = table.as_mut_ptr().cast_const();
+        calls::library_walk(start, table.len(), out.as_mut_ptr(), out.len(), &mut ends)
+    };
+    let input = |numbers: &[u64; 5]| {
+        let [group, group_length, letter, name, name_length] = numbers.map(|n| n as usize);
+        Input { group: (group, group_length), letter: letter as u32, name: (name, name_length) }
+    };
+    (out[..told].iter().map(input).collect(), ends != 0)
+}
+
+/// The header's version; the library's by the header; the number of the proved
+/// function.
+pub fn version() -> [u32; 3] {
+    let mut out = [0; 3];
+    // SAFETY: three numbers are written.
+    unsafe { calls::library_version(out.as_mut_ptr()) };
+    out
 }
 
 pub fn allowed(text: &[u8]) -> bool {

@@ -128,4 +128,50 @@ void library_stopping_input(const uint8_t *table, size_t table_length, const uin
     tell(hrazvanut_stopping_input(table_of(table, table_length), text_of(group, group_length), (char)letter), table, out);
 }
 
+void library_group_at(const uint8_t *table, size_t table_length, size_t number, uint64_t out[4])
+{
+    tell(hrazvanut_group_at(table_of(table, table_length), number), table, out);
+}
+
+/* The proved function's number. */
+uint64_t library_group_at_number(const uint8_t *table, size_t table_length, size_t number)
+{
+    return hrazvanut_abi_group_at(table, table_length, number);
+}
+
+/* Where a text starts in the table, and its length. */
+static void tell_part(struct hrazvanut_text text, const uint8_t *table, uint64_t out[2])
+{
+    out[0] = (uint64_t)((uintptr_t)text.start - (uintptr_t)table);
+    out[1] = text.length;
+}
+
+static int same_text(struct hrazvanut_text a, struct hrazvanut_text b) { return a.start == b.start && a.length == b.length; }
+
+/* How many inputs a walk tells, up to `most`; of each its group, its letter and its name. Whether it then stays at its end, with the input as
+ * it was. */
+size_t library_walk(const uint8_t *table, size_t table_length, uint64_t (*out)[5], size_t most, int *ends)
+{
+    struct hrazvanut_input input = {0};
+    size_t told = 0;
+    while (told < most && hrazvanut_next_input(table_of(table, table_length), &input)) {
+        tell_part(input.group, table, out[told]);
+        out[told][2] = input.letter;
+        tell_part(input.name, table, out[told] + 3);
+        told++;
+    }
+    struct hrazvanut_input last = input;
+    *ends = !hrazvanut_next_input(table_of(table, table_length), &input) && same_text(input.group, last.group) &&
+            input.letter == last.letter && same_text(input.name, last.name);
+    return told;
+}
+
+/* the header's, the library's by the header, the proved function's number */
+void library_version(uint32_t out[3])
+{
+    out[0] = HRAZVANUT_VERSION;
+    out[1] = hrazvanut_version();
+    out[2] = hrazvanut_abi_version();
+}
+
 int library_allowed(const uint8_t *text, size_t text_length) { return hrazvanut_allowed(text_of(text, text_length)); }
