@@ -2,7 +2,7 @@
 
 use super::calculation;
 use crate::random::Random;
-use paper::table::{View, HEADER_BYTES, REFERENCES, UNDEFINED, WIDTHS};
+use paper::table::{View, ACCESS_GROUPS, HEADER_BYTES, REFERENCES, UNDEFINED, WIDTHS};
 use paper::MOST;
 
 /// Of some references, or of all, the group is not defined: no file has that.
@@ -14,6 +14,22 @@ pub fn undefine(random: &mut Random, table: &mut [u8]) {
         if random.percent(chance) {
             let at = section + 2 * WIDTHS[REFERENCES] * reference;
             table[at..at + 2].copy_from_slice(&UNDEFINED.to_le_bytes());
+        }
+    }
+}
+
+/// Some access groups get the name of another, or a name of no bytes: no file has the
+/// first, nor the second twice.
+pub fn rename(random: &mut Random, table: &mut [u8]) {
+    let Some(count) = View::open(table).map(|view| view.count(ACCESS_GROUPS)) else { return };
+    let section = usize::from(u16::from_le_bytes([table[18], table[19]]));
+    let record = |number: usize| section + 2 * WIDTHS[ACCESS_GROUPS] * number;
+    for _ in 0..random.between(1, 3).min(count) {
+        let (to, from) = (record(random.below(count)), record(random.below(count)));
+        if random.percent(70) {
+            table.copy_within(from..from + 4, to);
+        } else {
+            table[to + 2..to + 4].fill(0);
         }
     }
 }
