@@ -10,13 +10,14 @@ use paper::{LETTERS, TABLE_BYTES};
 
 /// One case, of a kind chosen at random.
 pub fn run(random: &mut Random, comparison: &mut Comparison) -> Go {
-    match random.below(29) {
+    match random.below(31) {
         0..=11 => of_file(random, comparison),
         12..=15 => of_table(random, comparison),
         16 | 17 => of_calculation(random, comparison),
         18..=21 => of_values(random, comparison),
         22 | 23 => of_roles(random, comparison),
         24..=27 => of_letters(random, comparison),
+        28 | 29 => of_walk(random, comparison),
         _ => of_register(random, comparison),
     }
 }
@@ -116,9 +117,13 @@ fn of_table(random: &mut Random, comparison: &mut Comparison) -> Go {
     of_slice(random, comparison, &slice, 3)
 }
 
-/// The check, and questions and look-ups.
+/// The check, questions, look-ups, groups by number, and a walk.
 fn of_slice(random: &mut Random, comparison: &mut Comparison, slice: &[u8], questions: usize) -> Go {
     comparison.is_table(slice)?;
+    comparison.groups(random, slice)?;
+    if random.percent(25) {
+        comparison.walk(random, slice)?;
+    }
     let names = Names::of(slice);
     for _ in 0..questions {
         let question = question::any(random, &names);
@@ -158,6 +163,17 @@ fn of_letters(random: &mut Random, comparison: &mut Comparison) -> Go {
         }
     }
     Ok(())
+}
+
+/// A table of several groups, of which some get the name of another, or none.
+fn of_walk(random: &mut Random, comparison: &mut Comparison) -> Go {
+    let Some(mut table) = table_of(&inputs::register::text(random)) else { return Ok(()) };
+    if random.percent(50) {
+        table::rename(random, &mut table);
+    }
+    comparison.is_table(&table)?;
+    comparison.groups(random, &table)?;
+    comparison.walk(random, &table)
 }
 
 /// A file with one rule of this calculation, and all inputs.

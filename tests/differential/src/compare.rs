@@ -4,7 +4,7 @@
 use inputs::question::Owned;
 use inputs::random::Random;
 use library::{Asked, Decision, Found, List, Load, Pool};
-use paper::table::View;
+use paper::table::{View, ACCESS_GROUPS};
 use paper::{Access, Answer};
 use std::collections::BTreeMap;
 use std::fmt::Debug;
@@ -47,6 +47,13 @@ impl Lent {
         let (start, step) = (random.byte(), random.byte() | 1);
         let whole = (0..length + 2 * GUARD).map(|i| start.wrapping_add(step.wrapping_mul(i as u8)));
         Lent { whole: whole.collect() }
+    }
+
+    /// With these bytes in it.
+    fn of(random: &mut Random, bytes: &[u8]) -> Lent {
+        let mut lent = Lent::new(random, bytes.len());
+        lent.part().copy_from_slice(bytes);
+        lent
     }
 
     fn part(&mut self) -> &mut [u8] {
@@ -174,6 +181,41 @@ impl Comparison {
         })
     }
 
+    /// Each access group by its number, and numbers of which there is none; the bytes
+    /// of the table stay.
+    pub fn groups(&mut self, random: &mut Random, table: &[u8]) -> Go {
+        let lent = Lent::of(random, table);
+        let mut theirs = Lent { whole: lent.whole.clone() };
+        for number in group_numbers(random, table) {
+            let paper = found(paper::group_at(table, number));
+            self.count(format!("group_at {:2}", paper.refusal));
+            let library = library::group_at(theirs.part(), number);
+            if paper != library {
+                return self.same(paper, library, || format!("group_at {number}\ntable {}", hex(table)));
+            }
+        }
+        self.same(None, first_difference(&lent.whole, &theirs.whole), || {
+            format!("group_at writes\ntable {}", hex(table))
+        })
+    }
+
+    /// The inputs that a walk tells; the bytes of the table stay.
+    pub fn walk(&mut self, random: &mut Random, table: &[u8]) -> Go {
+        let lent = Lent::of(random, table);
+        let mut theirs = Lent { whole: lent.whole.clone() };
+        let paper = paper::inputs(table);
+        self.count(format!("walk over {} inputs", if paper.is_empty() { "no" } else { "some" }));
+        let (library, ends) = library::walk(theirs.part());
+        let written = first_difference(&lent.whole, &theirs.whole);
+        self.same((paper, true, None), (library, ends, written), || format!("walk\ntable {}", hex(table)))
+    }
+
+    /// The header's, which is the library's, by the header and by number.
+    pub fn version(&mut self) -> Go {
+        let version = library::version();
+        self.same([version[0]; 3], version, || "version".to_string())
+    }
+
     pub fn allowed(&mut self, text: &[u8]) -> Go {
         let paper = paper::allowed(text);
         self.count(format!("allowed {paper}"));
@@ -188,10 +230,27 @@ pub fn first_difference(ours: &[u8], theirs: &[u8]) -> Option<(isize, u8, u8)> {
 }
 
 fn found_by_paper(table: &[u8], group: &[u8], letter: u32) -> Found {
-    match paper::find_input(table, group, letter) {
+    found(paper::find_input(table, group, letter))
+}
+
+fn found(answer: Result<(usize, usize), u8>) -> Found {
+    match answer {
         Ok((place, length)) => Found { refusal: 0, place: place as u64, length: length as u64, agrees: true },
         Err(refusal) => Found { refusal: refusal.into(), place: 0, length: 0, agrees: true },
     }
+}
+
+/// All that the table has, if it has any, some behind, and such as look like one of
+/// them to who takes fewer bits, or multiplies in them.
+fn group_numbers(random: &mut Random, table: &[u8]) -> Vec<usize> {
+    let count = View::open(table).map_or(1, |view| view.count(ACCESS_GROUPS));
+    let mut numbers: Vec<usize> = (0..count + 3).collect();
+    for bits in [8, 14, 16, 30, 32, 62, 63] {
+        let high = 1usize << bits;
+        numbers.extend([high - 1, high, high + random.below(count + 2)]);
+    }
+    numbers.extend([usize::MAX, usize::MAX - 1, usize::MAX - random.below(count + 2)]);
+    numbers
 }
 
 /// The numbers and places from the skip-th on, as many as have room.
