@@ -5,7 +5,7 @@ use crate::random::Random;
 use crate::{calculation, file, letters};
 use paper::register::Client;
 use paper::script::Call;
-use paper::{Reading, NAME_BYTES, PLACES};
+use paper::{Reading, NAME_BYTES, PLACES, TABLE_BYTES};
 
 /// What a sequence does most.
 pub enum Mood {
@@ -77,6 +77,31 @@ pub fn text(random: &mut Random) -> Vec<u8> {
         7..=8 => file::right(random),
         _ => file::any(random),
     }
+}
+
+/// Another room for a load than that of the table in force: its bytes, zeros, any, or
+/// another table; room enough for the text's, or too little.
+pub fn room(random: &mut Random, in_force: &[u8], text: &[u8]) -> Vec<u8> {
+    let mut room = vec![0; TABLE_BYTES];
+    let needed = paper::load(text, &mut room).map_or(100, |loaded| loaded.length);
+    let (start, step) = (random.byte(), random.byte() | 1);
+    match random.below(5) {
+        0 => room.fill(0),
+        1 => room = in_force.to_vec(),
+        2 | 3 => drop(paper::load(&self::text(random), &mut room)),
+        _ => {
+            room.iter_mut().enumerate().for_each(|(i, b)| *b = start.wrapping_add(step.wrapping_mul(i as u8)))
+        }
+    }
+    let length = match random.below(10) {
+        0..=3 => TABLE_BYTES,
+        4 => needed,
+        5 => needed - 1,
+        6 => random.below(needed),
+        _ => needed + random.below(300),
+    };
+    room.resize(length, step);
+    room
 }
 
 /// A file of a few access groups that hear letters and go by them.
