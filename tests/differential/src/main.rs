@@ -10,6 +10,7 @@
 mod cases;
 mod compare;
 mod register;
+mod rooms;
 mod slices;
 mod stray;
 

@@ -2,6 +2,7 @@
 //! `slices` asks the proved functions the same.
 
 use crate::compare::{first_difference, hex, letter_of, Comparison, Go};
+use crate::rooms::{Lending, Rooms};
 use crate::slices::{Parts, Slices};
 use inputs::question::Names;
 use inputs::random::Random;
@@ -18,8 +19,8 @@ const NOTHING: Outcome =
 struct Pair {
     paper: paper::Register,
     library: Register,
-    ours: Vec<u8>,
-    theirs: Vec<u8>,
+    ours: Rooms,
+    theirs: Rooms,
     rights: Rights,
     said: String,
 }
@@ -33,18 +34,18 @@ pub fn run(random: &mut Random, comparison: &mut Comparison, table: Vec<u8>) -> 
         let first = Call::Load(inputs::register::text(random));
         pair.step(random, comparison, &first)?;
     }
-    let mut names = Names::of(&pair.ours);
+    let mut names = Names::of(&pair.ours.lent);
     for _ in 0..calls {
         if random.percent(2) {
-            let mut table = pair.ours;
+            let mut table = pair.ours.lent;
             inputs::table::damage(random, &mut table);
             pair = Pair::new(random, table);
-            names = Names::of(&pair.ours);
+            names = Names::of(&pair.ours.lent);
         }
         let call = call(random, &names, &mood);
         pair.step(random, comparison, &call)?;
         if matches!(call, Call::Load(_)) {
-            names = Names::of(&pair.ours);
+            names = Names::of(&pair.ours.lent);
         }
     }
     Ok(())
@@ -58,8 +59,8 @@ impl Pair {
             library: Register::empty(),
             said: format!("table {}", hex(&table)),
             rights: paper::Register::empty().rights(&table),
-            ours: table.clone(),
-            theirs: table,
+            ours: Rooms::new(table.clone()),
+            theirs: Rooms::new(table),
         };
         if random.percent(25) {
             pair.hear(random);
@@ -86,39 +87,62 @@ impl Pair {
         Parts { places: places.to_vec(), states: states.to_vec(), values: values.to_vec() }
     }
 
-    /// One call, and what both say of it.
+    /// One call, and what both say of it. A load may be lent another room: if it is
+    /// accepted, the table there is the one in force.
     fn step(&mut self, random: &mut Random, comparison: &mut Comparison, call: &Call) -> Go {
-        let checked = random.percent(50) && paper::is_table(&self.ours) && library::is_table(&self.theirs);
+        let lent = &self.ours.lent;
+        let checked = random.percent(50) && paper::is_table(lent) && library::is_table(&self.theirs.lent);
+        let elsewhere = self.move_elsewhere(random, call);
         let length = self.lent_length(random, call);
         self.said += &format!("\n{}", script::written(call));
         let before = self.parts();
-        let table = self.theirs[..length].to_vec();
-        let answer = self.paper.call(&mut self.ours[..length], call);
-        let rights = self.paper.rights(&self.ours[..length]);
+        let mut room = Lending { before: self.theirs.lent[..length].to_vec(), after: Vec::new() };
+        let answer = self.paper.call(&mut self.ours.lent[..length], call);
+        let stays = elsewhere && answer.is_err();
+        let rights = self.paper.rights(if stays { &self.ours.aside } else { &self.ours.lent[..length] });
         let wanted = wanted(call, answer, changed(&self.rights, &rights));
         self.rights = rights;
         let how = How { checked, invalid: *random.pick(&[1, 1, 3, 254, 255]) };
         // SAFETY: if it is checked, the library has just said so of these bytes.
-        let said = unsafe { self.library.call(&mut self.theirs[..length], call, how) };
-        let told = if wanted.changed > 0 { " changes rights" } else { "" };
-        comparison.count(format!("{} {:2}{told}", name(call), wanted.refusal));
+        let said = unsafe { self.library.call(&mut self.theirs.lent[..length], call, how) };
+        comparison.count(counted(call, elsewhere, &wanted));
         let state = self.state(wanted.refusal > 0, &before);
         let text = || format!("{}\n{how:?}, lent {length} bytes of the table", self.said);
         comparison.same((wanted, shown(&self.rights), String::new()), (said, self.shown(), state), text)?;
         let after = self.parts();
-        let slices = Slices { random, call, how, table: &table };
-        let found = slices.differences(&before, &after, &wanted, &self.theirs[..length]);
-        comparison.same(String::new(), found, || format!("{}\nby slices", self.said))
+        room.after = self.theirs.lent[..length].to_vec();
+        if elsewhere {
+            room = self.ours.as_in_aside(call, answer).unwrap_or(room);
+        }
+        let found = Slices { random, call, how, room }.differences(&before, &after, &wanted);
+        comparison.same(String::new(), found, || format!("{}\nby slices", self.said))?;
+        if stays {
+            self.ours.swap();
+            self.theirs.swap();
+        }
+        Ok(())
+    }
+
+    /// Now and then a load is lent another room, the same by both.
+    fn move_elsewhere(&mut self, random: &mut Random, call: &Call) -> bool {
+        let moves = self.ours.move_elsewhere(random, call);
+        if moves {
+            self.said += &format!("\nanother room {}", hex(&self.ours.lent));
+            self.theirs.aside.clone_from(&self.ours.lent);
+            self.theirs.swap();
+        }
+        moves
     }
 
     /// A load is lent all of the table's room; another call that, or the table.
     fn lent_length(&self, random: &mut Random, call: &Call) -> usize {
-        let whole = self.ours.len();
+        let lent = &self.ours.lent;
+        let whole = lent.len();
         if matches!(call, Call::Load(_)) || random.percent(50) {
             return whole;
         }
-        let stored = self.ours.get(2..4).map_or(0, |w| usize::from(u16::from_le_bytes([w[0], w[1]])));
-        if paper::is_table(&self.ours) {
+        let stored = lent.get(2..4).map_or(0, |w| usize::from(u16::from_le_bytes([w[0], w[1]])));
+        if paper::is_table(lent) {
             stored
         } else {
             random.below(whole + 1)
@@ -137,8 +161,11 @@ impl Pair {
 
     /// What is wrong with the bytes after a call, or nothing.
     fn state(&mut self, refused: bool, before: &Parts) -> String {
-        if let Some(found) = first_difference(&self.ours, &self.theirs) {
+        if let Some(found) = first_difference(&self.ours.lent, &self.theirs.lent) {
             return format!("table at {found:?}");
+        }
+        if let Some(found) = first_difference(&self.ours.aside, &self.theirs.aside) {
+            return format!("the room that is not lent at {found:?}");
         }
         let after = self.parts();
         if refused {
@@ -177,6 +204,13 @@ fn same_reading(reading: Reading, state: u8, value: f64) -> bool {
         Reading::Invalid => state != 0 && state != 2,
         Reading::Value(v) => state == 2 && (v.to_bits() == value.to_bits() || v.is_nan() && value.is_nan()),
     }
+}
+
+/// For the count of answers.
+fn counted(call: &Call, elsewhere: bool, wanted: &Outcome) -> String {
+    let room = if elsewhere { " into another room" } else { "" };
+    let told = if wanted.changed > 0 { " changes rights" } else { "" };
+    format!("{}{room} {:2}{told}", name(call), wanted.refusal)
 }
 
 fn name(call: &Call) -> &'static str {

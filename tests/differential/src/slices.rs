@@ -1,6 +1,7 @@
 //! One call on a register by the proved function, on slices that are longer or
 //! shorter than the header's.
 
+use crate::rooms::Lending;
 use inputs::random::Random;
 use library::register::{number, right_number, How, Lent, Outcome};
 use paper::script::Call;
@@ -30,18 +31,19 @@ impl Parts {
     }
 }
 
-/// The same call by the proved function, on slices that are longer or shorter.
+/// The same call by the proved function, on slices that are longer or shorter, and
+/// what is to become of the table's room.
 pub struct Slices<'a> {
     pub random: &'a mut Random,
     pub call: &'a Call,
     pub how: How,
-    pub table: &'a [u8],
+    pub room: Lending,
 }
 
 impl Slices<'_> {
     /// What is wrong, or nothing: on longer slices all is as by the header; if
     /// one is too short, the call is refused with 34.
-    pub fn differences(mut self, before: &Parts, after: &Parts, wanted: &Outcome, table: &[u8]) -> String {
+    pub fn differences(mut self, before: &Parts, after: &Parts, wanted: &Outcome) -> String {
         let mut lent = before.clone();
         lent.places.resize(before.places.len() + self.random.below(9), 0xa5);
         lent.states.resize(before.states.len() + self.random.below(9), 0xa5);
@@ -61,8 +63,10 @@ impl Slices<'_> {
         let written = words == 1 && !short && wanted.refusal == 0;
         let packed = if short { 34 << 48 } else { packed(self.call, wanted) };
         let bits = [if written { wanted.changed } else { UNTOUCHED }, UNTOUCHED];
-        let table = if short { self.table } else { table };
-        let found = self.compare(lent, &expected, (packed, bits, table), words);
+        if short {
+            self.room.after.clone_from(&self.room.before);
+        }
+        let found = self.compare(lent, &expected, (packed, bits), words);
         if found.is_empty() {
             rights_of_short(&after.places)
         } else {
@@ -85,14 +89,8 @@ impl Slices<'_> {
         }
     }
 
-    fn compare(
-        self,
-        mut lent: Parts,
-        expected: &Parts,
-        wanted: (u64, [u64; 2], &[u8]),
-        words: usize,
-    ) -> String {
-        let mut table = self.table.to_vec();
+    fn compare(self, mut lent: Parts, expected: &Parts, wanted: (u64, [u64; 2]), words: usize) -> String {
+        let Lending { before: mut table, after } = self.room;
         let mut bits = [UNTOUCHED; 2];
         let mut slices = Lent {
             places: &mut lent.places,
@@ -102,8 +100,8 @@ impl Slices<'_> {
         };
         // SAFETY: if it is checked, the library has said so of these bytes.
         let answer = unsafe { number(&mut slices, &mut table, self.call, self.how) };
-        if (answer, bits, &table[..]) != wanted {
-            let same = table == wanted.2;
+        if (answer, bits) != wanted || table != after {
+            let same = table == after;
             return format!("{answer:x} {bits:x?}, not {:x} {:x?}; table {same}", wanted.0, wanted.1);
         }
         lent.differs_from(expected).map_or(String::new(), |part| format!("{part} differ"))

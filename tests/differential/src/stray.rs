@@ -2,21 +2,23 @@
 //! there; what holds of each call all the same is held.
 
 use crate::compare::{hex, Comparison, Go};
+use crate::rooms::{Lending, Rooms};
 use crate::slices::{Parts, Slices};
 use inputs::question::Names;
 use inputs::random::Random;
 use inputs::register::{call, Mood};
 use library::register::{How, Outcome, Register, Right};
-use paper::script::{written, Call};
+use paper::script::{written, Call, Done};
 use paper::{Refusal, PLACES};
 
-pub fn run(random: &mut Random, comparison: &mut Comparison, mut table: Vec<u8>) -> Go {
+pub fn run(random: &mut Random, comparison: &mut Comparison, table: Vec<u8>) -> Go {
     let names = Names::of(&table);
     let mut register = Register::empty();
-    fill(random, &names, &mut register, &mut table);
+    let mut rooms = Rooms::new(table);
+    fill(random, &names, &mut register, &mut rooms.lent);
     for _ in 0..random.between(1, 12) {
         let call = call(random, &names, &Mood::Mixed);
-        step(random, comparison, &mut register, &mut table, &call)?;
+        step(random, comparison, &mut register, &mut rooms, &call)?;
     }
     Ok(())
 }
@@ -49,34 +51,46 @@ fn parts(register: &mut Register) -> Parts {
     Parts { places: places.to_vec(), states: states.to_vec(), values: values.to_vec() }
 }
 
+/// A load may be lent another room: if it is accepted, the table there is the one in
+/// force.
 fn step(
     r: &mut Random,
     comparison: &mut Comparison,
     register: &mut Register,
-    table: &mut [u8],
+    rooms: &mut Rooms,
     call: &Call,
 ) -> Go {
-    let (before, stood, lent) = (parts(register), rights(register), table.to_vec());
-    let how = How { checked: r.percent(50) && library::is_table(table), invalid: 1 };
+    let elsewhere = rooms.move_elsewhere(r, call);
+    let (before, stood, lent) = (parts(register), rights(register), rooms.lent.clone());
+    let how = How { checked: r.percent(50) && library::is_table(&rooms.lent), invalid: 1 };
     // SAFETY: if it is checked, the library has just said so of these bytes.
-    let outcome = unsafe { register.call(table, call, how) };
+    let outcome = unsafe { register.call(&mut rooms.lent, call, how) };
     let (after, stand) = (parts(register), rights(register));
-    comparison.count(format!("register of any bytes {:2}", outcome.refusal));
+    let table = rooms.lent.clone();
+    let room = if elsewhere { " into another room" } else { "" };
+    comparison.count(format!("register of any bytes {:2}{room}", outcome.refusal));
+    let by_paper = paper::Register::empty().call(&mut lent.clone(), call);
+    let mut room = Lending { before: lent.clone(), after: table.clone() };
+    if elsewhere {
+        room = rooms.as_in_aside(call, by_paper).unwrap_or(room);
+    }
     let wrong = [
-        refusal(call, &lent, &outcome),
+        refusal(call, by_paper, &outcome),
         told(&stood, &stand, &outcome),
-        bytes(call, (&before, &after), (&lent, table), &outcome),
-        Slices { random: r, call, how, table: &lent }.differences(&before, &after, &outcome, table),
+        bytes(call, (&before, &after), (&lent, &table), &outcome),
+        Slices { random: r, call, how, room }.differences(&before, &after, &outcome),
     ];
     let text = || format!("{} on places\n{}\ntable {}", written(call), hex(&before.places), hex(&lent));
-    comparison.same([const { String::new() }; 4], wrong, text)
+    comparison.same([const { String::new() }; 4], wrong, text)?;
+    if elsewhere && outcome.refusal > 0 {
+        rooms.swap();
+    }
+    Ok(())
 }
 
 /// The refusals that hang on what is given alone, and those that are left.
-fn refusal(call: &Call, table: &[u8], outcome: &Outcome) -> String {
-    let mut room = table.to_vec();
-    let by_paper =
-        paper::Register::empty().call(&mut room, call).map_or_else(|Refusal { number, .. }| number, |_| 0);
+fn refusal(call: &Call, by_paper: Result<Done, Refusal>, outcome: &Outcome) -> String {
+    let by_paper = by_paper.map_or_else(|Refusal { number, .. }| number, |_| 0);
     let possible: &[u64] = match (call, by_paper) {
         (Call::Add(_), 0) => &[0, 24],
         (Call::Change(place, _) | Call::Remove(place), _) if *place >= PLACES => &[25],
