@@ -23,7 +23,8 @@ use std::sync::OnceLock;
 /// library's calculation, 123 of its register's, 124 of the asker's, 125 to 150
 /// of the library's groups (146 of its register's), 151 of the checker's, 152 of
 /// the asker's, 153 to 185 of the library's letters, 186 to 194 of its register's,
-/// 195 to 199 of the asker's.
+/// 195 to 199 of the asker's, 200 to 219 of the library's groups by number and its
+/// version, 220 to 226 of its register's loads into another room.
 pub fn fault(number: u32) -> bool {
     static CHOSEN: OnceLock<u32> = OnceLock::new();
     let chosen = CHOSEN.get_or_init(|| {
@@ -171,7 +172,7 @@ fn asked(mut question: Question) -> Question {
     if fault(16) && question.group.len() == 60 {
         question.group = b""; // the longest name not found
     }
-    if fault(17) && question.level % 256 == 0 {
+    if fault(17) && question.level.is_multiple_of(256) {
         question.level = 0; // cut to a byte
     }
     question

@@ -1,6 +1,7 @@
-//! The register over `paper` in lent bytes, with the faults 45 to 83, 103, 123, 146
-//! and 186 to 194. A place's record is laid out as this stub likes: taken, right, level, the
-//! three lengths, the three names.
+//! The register over `paper` in lent bytes, with the faults 45 to 83, 103, 123, 146,
+//! 186 to 194 and 220 to 226. A place's record is laid out as this stub likes: taken, right, level,
+//! the three lengths, the three names; with the last of these faults the first record has a
+//! sum of the table in force too.
 
 use crate::arithmetic::judged;
 use crate::fault;
@@ -12,6 +13,7 @@ use paper::table::{View, ACCESS_GROUPS};
 use paper::{Access, Answer, Client, Question, Reading, Refusal, Register, LETTERS, NAME_BYTES, PLACES};
 
 const RECORD: usize = 448;
+const SUM: usize = 400;
 const READINGS: usize = 64 * LETTERS;
 
 /// What is lent of a register to one call.
@@ -51,7 +53,7 @@ impl Lent<'_> {
     fn put_clients(&mut self, register: &Register) {
         for (record, client) in self.places.chunks_exact_mut(RECORD).zip(&register.clients) {
             let right = record[1];
-            record.fill(0);
+            record[..SUM].fill(0);
             record[1] = right;
             if let Some(c) = client {
                 let names = [&c.group, &c.user, &c.host];
@@ -108,6 +110,19 @@ impl Lent<'_> {
         }
     }
 
+    /// With the faults of a second room, the table in force.
+    fn remember(&mut self, table: &[u8]) {
+        if (220..=226).any(fault) {
+            self.places[SUM..SUM + 8].copy_from_slice(&sum(table).to_le_bytes());
+        }
+    }
+
+    /// Whether a room holds another table than the one in force, where that is known.
+    fn is_another(&self, room: &[u8]) -> bool {
+        let known = &self.places[SUM..SUM + 8];
+        known != [0; 8] && known != sum(room).to_le_bytes()
+    }
+
     fn refused(&mut self, number: u8) -> u64 {
         if fault(64) && self.places.len() > 5 {
             self.places[5] ^= 1; // a refused call writes
@@ -117,6 +132,13 @@ impl Lent<'_> {
         }
         u64::from(number) << 48
     }
+}
+
+/// Of a table's own bytes; of no table it is 1.
+fn sum(table: &[u8]) -> u64 {
+    let stored = table.get(2..4).map_or(0, |w| usize::from(u16::from_le_bytes([w[0], w[1]])));
+    let bytes = if paper::is_table(table) { &table[..stored] } else { &[] };
+    bytes.iter().fold(1, |sum: u64, byte| sum.wrapping_mul(257).wrapping_add(u64::from(*byte) + 1))
 }
 
 /// Bytes that no call has written are no client.
@@ -247,6 +269,7 @@ pub fn add(lent: &mut Lent, table: &[u8], client: &Client) -> u64 {
     }
     lent.put_clients(&register);
     lent.put_rights(&after);
+    lent.remember(table);
     place as u64
 }
 
@@ -285,6 +308,7 @@ pub fn change(lent: &mut Lent, table: &[u8], place: usize, client: &Client) -> u
     }
     lent.put_clients(&register);
     lent.put_rights(&after);
+    lent.remember(table);
     0
 }
 
@@ -357,7 +381,15 @@ pub fn set(lent: &mut Lent, table: &[u8], group: &[u8], letter: u32, reading: Re
     }
     lent.put_readings(&register);
     lent.put_rights(&after);
+    lent.remember(table);
     0
+}
+
+/// What stood in the room before a load: whether another table than the one in
+/// force, and the rights by it.
+struct Stood {
+    another: bool,
+    rights: Rights,
 }
 
 pub fn reload(lent: &mut Lent, text: &[u8], table: &mut [u8]) -> u64 {
@@ -365,32 +397,54 @@ pub fn reload(lent: &mut Lent, text: &[u8], table: &mut [u8]) -> u64 {
         return lent.refused(34);
     }
     let mut register = lent.register();
+    let stood = Stood { another: lent.is_another(table), rights: rights(&register, table) };
+    if stood.another && fault(220) {
+        return lent.refused(11); // no other room
+    }
     let loaded = match register.load(text, table) {
         Err(Refusal { number: 12, .. }) if fault(146) => taken(text, table), // groups not asked for
         other => other,
     };
     match loaded {
         Ok(loaded) => {
-            let mut after = if fault(47) { lent.rights() } else { rights(&register, table) };
-            if fault(188) {
-                after = stale(after, &lent.rights());
-            }
-            if !fault(50) {
-                lent.put_readings(&register);
-            }
-            lent.put_rights(&after);
+            reloaded(lent, &register, table, &stood);
             loaded.length as u64 | (loaded.warnings as u64) << 32
         }
         Err(Refusal { number, place }) => {
-            if fault(51) {
+            if fault(51) || stood.another && fault(225) {
                 lent.put_readings(&Register::empty()); // lost by a refused load
             }
             if fault(68) && number == 11 {
                 lent.put_rights(&[NOTHING; PLACES]);
             }
+            if stood.another && fault(226) {
+                lent.put_rights(&stood.rights); // by what stands in this room
+            }
             lent.refused(number) | place as u64
         }
     }
+}
+
+fn reloaded(lent: &mut Lent, register: &Register, table: &[u8], stood: &Stood) {
+    let elsewhere = |number: u32| stood.another && fault(number);
+    let old = fault(47) || elsewhere(221); // by the table before
+    let mut after = if old { lent.rights() } else { rights(register, table) };
+    if fault(188) {
+        after = stale(after, &lent.rights());
+    }
+    let kept = fault(50) || elsewhere(222);
+    if !kept {
+        lent.put_readings(register);
+    }
+    if elsewhere(223) {
+        lent.put_clients(&Register::empty()); // all are gone
+        after = [NOTHING; PLACES];
+    }
+    lent.put_rights(&after);
+    if let Some(word) = lent.changed.first_mut().filter(|_| elsewhere(224)) {
+        *word = changed(&stood.rights, &after); // beside what stood in this room
+    }
+    lent.remember(table);
 }
 
 pub fn right_at(places: &[u8], place: usize) -> u8 {
