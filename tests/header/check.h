@@ -13,7 +13,9 @@
 void check(bool good, const char *what, int line);
 #define CHECK(what) check((what), #what, __LINE__)
 
-/* The register's part: register.c. */
+/* The parts: walk.c, passed.c and register.c. */
+void walks(void);
+void passed(void);
 void registers(void);
 
 #endif

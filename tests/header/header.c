@@ -1,5 +1,5 @@
-/* Every function of include/hrazvanut.h, as a caller has it; those of a register stand in register.c. Compiled as C99, C11, C++11 and
- * C++17. */
+/* Every function of include/hrazvanut.h, as a caller has it; those of a walk stand in walk.c, what they pass on in passed.c, those of a
+ * register in register.c. Compiled as C99, C11, C++11 and C++17. */
 #include <math.h>
 #include <stdio.h>
 #include <stdlib.h>
@@ -50,7 +50,8 @@ static void words(void)
     static const int known[] = {0, 1, 2, 3, 4, 5, 6, 7, 8, 9, 10, 11, 12, 20, 21, 22, 23, 24, 25, 26, 34};
     size_t k = 0;
     int n;
-    CHECK(HRAZVANUT_VERSION == 7000 && HRAZVANUT_VERSION / 1000 == HRAZVANUT_VERSION_MAJOR);
+    CHECK(HRAZVANUT_VERSION == 7001 && HRAZVANUT_VERSION / 1000 == HRAZVANUT_VERSION_MAJOR);
+    CHECK(hrazvanut_version() == HRAZVANUT_VERSION && hrazvanut_abi_version() == HRAZVANUT_VERSION);
     CHECK(HRAZVANUT_ROLES == 16 && HRAZVANUT_ROLE_LENGTH == 60);
     CHECK(hrazvanut_abi_bytes(NULL, 0) != NULL);
     CHECK(hrazvanut_string(NULL).length == 0);
@@ -698,6 +699,8 @@ int main(void)
     look_ups();
     stopping();
     calculations();
+    walks();
+    passed();
     registers();
     printf("%lu checks, %lu wrong\n", checks, wrong);
     return wrong != 0;

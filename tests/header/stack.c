@@ -80,6 +80,26 @@ static void call_find_input(const struct input *in) { hrazvanut_find_input(in->t
 
 static void call_stopping_input(const struct input *in) { hrazvanut_stopping_input(in->table, in->text, 'U'); }
 
+static void call_group_at(const struct input *in)
+{
+    hrazvanut_group_at(in->table, 0);
+    hrazvanut_group_at(in->table, HRAZVANUT_GROUPS - 1);
+    hrazvanut_group_at(in->table, SIZE_MAX);
+}
+
+static void call_next_input(const struct input *in)
+{
+    struct hrazvanut_input input = {.next = 0};
+    while (hrazvanut_next_input(in->table, &input)) {
+    }
+}
+
+static void call_version(const struct input *in)
+{
+    (void)in;
+    hrazvanut_version();
+}
+
 static void call_allowed(const struct input *in) { hrazvanut_allowed(in->text); }
 
 /* All places but the last are taken; each process has it anew. */
@@ -146,6 +166,9 @@ static const struct call {
     {"hrazvanut_decide_checked", call_decide_checked},
     {"hrazvanut_find_input", call_find_input},
     {"hrazvanut_stopping_input", call_stopping_input},
+    {"hrazvanut_group_at", call_group_at},
+    {"hrazvanut_next_input", call_next_input},
+    {"hrazvanut_version", call_version},
     {"hrazvanut_allowed", call_allowed},
     {"hrazvanut_add_client", call_add_client},
     {"hrazvanut_change_client", call_change_client},

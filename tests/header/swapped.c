@@ -9,6 +9,7 @@ static struct hrazvanut_warnings warnings;
 static struct hrazvanut_register reg;
 static struct hrazvanut_client client;
 static struct hrazvanut_reading reading;
+static struct hrazvanut_input input;
 
 int main(void)
 {
@@ -18,7 +19,9 @@ int main(void)
            (int)hrazvanut_list_warnings(text, 0, warnings).refusal + (int)hrazvanut_add_client(&reg, table, &client).refusal +
            (int)hrazvanut_change_client(&reg, table, 0, &client).refusal + (int)hrazvanut_remove_client(&reg, 0).refusal +
            (int)hrazvanut_set_reading(&reg, table, text, 0, reading).refusal + (int)hrazvanut_reload(&reg, text, room).loaded.refusal +
-           (int)hrazvanut_right_of(&reg, 0).access + (int)hrazvanut_stopping_input(table, text, 0).refusal;
+           (int)hrazvanut_right_of(&reg, 0).access + (int)hrazvanut_stopping_input(table, text, 0).refusal +
+           (int)hrazvanut_group_at(table, 0).refusal + hrazvanut_next_input(table, &input) + (int)hrazvanut_version() +
+           (int)hrazvanut_find_input(table, input.group, input.letter).refusal;
 #elif WRONG == 1
     return (int)hrazvanut_load(room, text).refusal;
 #elif WRONG == 2
@@ -60,5 +63,23 @@ int main(void)
     return (int)hrazvanut_stopping_input(text, table, 'A').refusal;
 #elif WRONG == 19
     return (int)hrazvanut_stopping_input(table, text, hrazvanut_decide(table, &question)).refusal;
+#elif WRONG == 20
+    return (int)hrazvanut_group_at(0, table).refusal;
+#elif WRONG == 21
+    return (int)hrazvanut_group_at(text, 0).refusal;
+#elif WRONG == 22
+    return (int)hrazvanut_group_at(table, text).refusal;
+#elif WRONG == 23
+    return hrazvanut_next_input(&input, table);
+#elif WRONG == 24
+    return hrazvanut_next_input(table, input);
+#elif WRONG == 25
+    return hrazvanut_next_input(text, &input);
+#elif WRONG == 26
+    return hrazvanut_next_input(table, &client);
+#elif WRONG == 27
+    return (int)hrazvanut_find_input(table, input, 0).refusal;
+#elif WRONG == 28
+    return (int)hrazvanut_version(table);
 #endif
 }
