@@ -405,6 +405,90 @@ static void letters(void)
     CHECK(add(&tower).changed == 1 && blames(0, HRAZVANUT_NONE, 'C'));
 }
 
+/* ---- two rooms */
+
+static uint8_t second[HRAZVANUT_TABLE], kept[HRAZVANUT_TABLE];
+
+/* Refused in the second room, whatever stands there: nothing is another, and the table in force goes on. */
+static void refused_elsewhere(const char *text, size_t length, enum hrazvanut_refusal refusal)
+{
+    static uint8_t was[sizeof second];
+    struct hrazvanut_reloaded r;
+    memcpy(was, second, sizeof second);
+    memcpy(kept, lent, sizeof lent);
+    r = reload_into(text, second, length);
+    CHECK(r.loaded.refusal == refusal && r.changed == 0 && r.loaded.table.start == NULL && r.loaded.table.length == 0);
+    CHECK(memcmp(&reg, &before, sizeof reg) == 0);
+    CHECK(memcmp(was, second, sizeof second) == 0 && memcmp(kept, lent, sizeof lent) == 0);
+    CHECK(set("", 0, HRAZVANUT_VALUE, 0.3).changed == 1 && has(0, HRAZVANUT_READ, false));
+    CHECK(set("", 0, HRAZVANUT_VALUE, 0).changed == 1 && has(0, HRAZVANUT_WRITE, true));
+}
+
+/* Accepted in the second room, the register is as after a reload into the first, and so is the answer but for where the table is. */
+static void as_in_the_first(const char *text, uint64_t changed)
+{
+    static struct hrazvanut_register twin;
+    struct hrazvanut_room first = ZERO;
+    struct hrazvanut_reloaded here, there;
+    memcpy(&twin, &reg, sizeof reg);
+    memcpy(kept, lent, sizeof lent);
+    here = reload_into(text, second, sizeof second);
+    CHECK(here.loaded.refusal == HRAZVANUT_NOT_REFUSED && here.changed == changed && here.loaded.table.start == second);
+    CHECK(memcmp(kept, lent, sizeof lent) == 0);
+    first.start = lent;
+    first.length = sizeof lent;
+    there = hrazvanut_reload(&twin, hrazvanut_string(text), first);
+    CHECK(memcmp(&reg, &twin, sizeof reg) == 0 && there.loaded.refusal == HRAZVANUT_NOT_REFUSED && there.changed == changed);
+    CHECK(there.loaded.table.length == here.loaded.table.length && there.loaded.warnings == here.loaded.warnings);
+    CHECK(memcmp(lent, second, here.loaded.table.length) == 0);
+    table = here.loaded.table;
+}
+
+static void two_rooms(void)
+{
+    struct hrazvanut_client ann = client_of("", "ann", "pc1", 1), tower = client_of("tower", "", "", 0);
+    struct hrazvanut_room room = ZERO;
+    size_t i;
+    start();
+    CHECK(set("", 0, HRAZVANUT_VALUE, 0).changed == 0 && set("tower", 0, HRAZVANUT_VALUE, 1).changed == 0);
+    CHECK(add(&ann).changed == 1 && has(0, HRAZVANUT_WRITE, true) && add(&tower).changed == 2 && has(1, HRAZVANUT_WRITE, true));
+    room.start = second;
+    room.length = sizeof second;
+    memset(second, 0xa5, sizeof second);
+    for (i = 0; i < 3; i++) { /* over no table, over another one, over the same */
+        refused_elsewhere("ASG(a) {RULE(2,READ)}", sizeof second, HRAZVANUT_REFUSED_RULE_LEVEL);
+        refused_elsewhere(site, table.length - 1, HRAZVANUT_REFUSED_NO_ROOM);
+        refused_elsewhere(site, 0, HRAZVANUT_REFUSED_NO_ROOM);
+        CHECK(hrazvanut_load(hrazvanut_string(i == 0 ? "ASG(DEFAULT)" : site), room).refusal == HRAZVANUT_NOT_REFUSED);
+    }
+    CHECK(hrazvanut_load(hrazvanut_string("ASG(DEFAULT) {RULE(1,READ)}"), room).refusal == HRAZVANUT_NOT_REFUSED);
+    as_in_the_first("ASG(DEFAULT) {INPA(x) RULE(1,READ)} ASG(tower) {RULE(1,WRITE,TRAPWRITE)} FOO(1)", 1);
+    CHECK(has(0, HRAZVANUT_READ, false) && has(1, HRAZVANUT_WRITE, true));
+    memset(lent, 0, sizeof lent); /* the first room is free: the table in force stands in the second */
+    CHECK(set("", 0, HRAZVANUT_VALUE, 1).refusal == HRAZVANUT_NOT_REFUSED && set("tower", 0, HRAZVANUT_VALUE, 1).refusal != 0);
+    CHECK(remove_at(1).changed == 2 && add(&tower).changed == 2 && has(1, HRAZVANUT_WRITE, true));
+    CHECK(reload(site).changed == 3 && blames(0, HRAZVANUT_READ, 'A') && blames(1, HRAZVANUT_NONE, 'A'));
+}
+
+/* ---- a walk tells which readings to set */
+
+static void heard(void)
+{
+    static const struct hrazvanut_reading one = {HRAZVANUT_VALUE, 1};
+    struct hrazvanut_client c[3];
+    struct hrazvanut_input input = ZERO;
+    size_t i, told;
+    start();
+    c[0] = client_of("", "ann", "pc1", 0), c[1] = client_of("nowhere", "ann", "pc1", 1), c[2] = client_of("tower", "", "", 0);
+    for (i = 0; i < 3; i++)
+        CHECK(add(&c[i]).place == i && hrazvanut_right_of(&reg, i).letter == 'A');
+    for (told = 0; told < 9 && hrazvanut_next_input(table, &input); told++)
+        CHECK(hrazvanut_set_reading(&reg, table, input.group, input.letter, one).refusal == HRAZVANUT_NOT_REFUSED);
+    CHECK(told == 4 && has(0, HRAZVANUT_READ, false) && has(1, HRAZVANUT_READ, false) && has(2, HRAZVANUT_WRITE, true));
+    for (i = 0; i < READINGS; i++) /* but those of the group of no name */
+        CHECK(reg.states[i] == (i == 21 || i == 41 || i == 42 || i == 43 ? HRAZVANUT_VALUE : HRAZVANUT_NEVER_HEARD));
+}
+
 /* ---- the numbers of the proved functions, bit by bit */
 
 static uint64_t add_number(size_t places_length, size_t states_length, size_t values_length, uint32_t level, uint64_t *changed,
@@ -487,5 +571,7 @@ void registers(void)
     last_reading();
     reloads();
     letters();
+    two_rooms();
+    heard();
     numbers();
 }
