@@ -65,7 +65,7 @@ static void no_groups(struct hrazvanut_table table, enum hrazvanut_refusal refus
         CHECK(is_no_group(table, beyond[i], refusal));
 }
 
-/* The second group's name stands behind the first's, and that of no bytes behind it. */
+/* The names stand one behind the other: that of no bytes and the one behind it at one place. */
 static void by_number(void)
 {
     struct hrazvanut_table table = table_of(site);
@@ -83,24 +83,6 @@ static void by_number(void)
     table.start = lent + 1;
     table.length = sizeof lent - 1;
     CHECK(is_group(table, 0, "tower") && hrazvanut_group_at(table, 0).at == place);
-}
-
-/* As many as a table has. */
-static void most_groups(void)
-{
-    static char text[HRAZVANUT_FILE] = "";
-    struct hrazvanut_table table;
-    char name[16];
-    unsigned i;
-    for (i = 0; i < HRAZVANUT_GROUPS; i++)
-        sprintf(text + strlen(text), "ASG(g%u)", i);
-    table = table_of(text);
-    for (i = 0; i < HRAZVANUT_GROUPS; i++) {
-        sprintf(name, "g%u", i);
-        CHECK(is_group(table, i, name));
-    }
-    CHECK(is_no_group(table, HRAZVANUT_GROUPS, HRAZVANUT_REFUSED_NO_INPUT));
-    CHECK(is_no_group(table, SIZE_MAX, HRAZVANUT_REFUSED_NO_INPUT));
 }
 
 /* ---- walks */
@@ -230,6 +212,29 @@ static void repeated_name(void)
     tells(table, input_at(0), told + 1, 2);
 }
 
+/* As many groups as a table has, of which the last has one input. */
+static void most_groups(void)
+{
+    static const struct told told = {"g63", 'U', "x"};
+    static char text[HRAZVANUT_FILE] = "";
+    struct hrazvanut_table table;
+    char name[16];
+    unsigned i;
+    for (i = 0; i < HRAZVANUT_GROUPS; i++)
+        sprintf(text + strlen(text), "ASG(g%u)", i);
+    strcat(text, " {INPU(x)}");
+    table = table_of(text);
+    for (i = 0; i < HRAZVANUT_GROUPS; i++) {
+        sprintf(name, "g%u", i);
+        CHECK(is_group(table, i, name));
+    }
+    CHECK(is_no_group(table, HRAZVANUT_GROUPS, HRAZVANUT_REFUSED_NO_INPUT));
+    CHECK(is_no_group(table, SIZE_MAX, HRAZVANUT_REFUSED_NO_INPUT));
+    tells(table, input_at(0), &told, 1);
+    tells(table, input_at(64 * 21 - 1), &told, 1);
+    CHECK(is_over(table, input_at(64 * 21)));
+}
+
 /* As many inputs as a table has: each once, by group and letter, whichever order the file has them in. The last group has eight. */
 static void most_inputs(void)
 {
@@ -256,10 +261,10 @@ static void most_inputs(void)
 void walks(void)
 {
     by_number();
-    most_groups();
     whole_walk();
     any_next();
     nothing();
     repeated_name();
+    most_groups();
     most_inputs();
 }
