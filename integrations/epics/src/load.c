@@ -23,14 +23,14 @@
 /* A load at work. */
 static pthread_mutex_t loading = PTHREAD_MUTEX_INITIALIZER;
 static char text[HRAZVANUT_FILE + 1]; /* one byte more, so that a longer file is seen to be longer */
-static uint8_t next[HRAZVANUT_TABLE];
+static uint8_t rooms[2][HRAZVANUT_TABLE]; /* one has the table in force */
+static struct hrazvanut_table next;
 static char plan[PLAN];
 static const char *plan_rest;
 
 /* ---- what is said of a file */
 
-/* A table's first byte is not 0. */
-static const char *what_stays(void) { return in_force[0] ? "The rules in force stay." : "Nobody has access."; }
+static const char *what_stays(void) { return in_force.length ? "The rules in force stay." : "Nobody has access."; }
 
 static long refuse(const char *from, const char *why)
 {
@@ -136,7 +136,7 @@ static long give_plan(void)
 
 static void put_in_force(void)
 {
-    memcpy(in_force, next, sizeof in_force);
+    in_force = next;
     by_address = &asCheckClientIP && asCheckClientIP;
 }
 
@@ -159,7 +159,7 @@ static long first_time(void)
     long status = give_plan();
     if (!status)
         return locked(&job);
-    memset(in_force, 0, sizeof in_force);
+    in_force.length = 0;
     deaf = job.level;
     return status;
 }
@@ -229,14 +229,15 @@ static long prepare(const char *from, struct hrazvanut_text file, const char *su
 {
     if (substitutions && memchr(text, '$', file.length))
         return refuse(from, "macros are not replaced here; replace them before (msi)");
-    struct hrazvanut_room room = {.start = next, .length = sizeof next};
+    struct hrazvanut_room room = {.start = rooms[in_force.start == rooms[0]], .length = sizeof rooms[0]};
     struct hrazvanut_loaded loaded = hrazvanut_load(file, room);
     if (loaded.refusal) {
         say("%s: refusal %u at %zu, line %zu: %s. %s\n", from, (unsigned)loaded.refusal, loaded.place, line_of(loaded.place),
             hrazvanut_refusal_words(loaded.refusal), what_stays());
         return S_asLib_badConfig;
     }
-    int left_out = write_plan(loaded.table, LETTERS, plan);
+    next = loaded.table;
+    int left_out = write_plan(next, LETTERS, plan);
     if (left_out < 0)
         return refuse(from, "the name of a group has a byte that EPICS cannot hold");
     if (left_out > 0)

@@ -60,9 +60,9 @@ long locked(struct job *job);
 /* Whether EPICS's access security is on. */
 int active(void);
 
-/* The table in force, and whether its load found asCheckClientIP set. Written under the lock, or before there is one. All zero is no
+/* The table in force, and whether its load found asCheckClientIP set. Written under the lock, or before there is one. No bytes are no
  * table: every question then gets NONE. */
-extern uint8_t in_force[HRAZVANUT_TABLE];
+extern struct hrazvanut_table in_force;
 extern int by_address;
 
 /* Set while nothing that EPICS has for a sensor counts: its links are down or being set up, or a first load is not yet done. */

@@ -7,7 +7,7 @@
 
 #include <asCa.h>
 
-uint8_t in_force[HRAZVANUT_TABLE];
+struct hrazvanut_table in_force;
 int by_address;
 int foreign;
 int deaf;
@@ -59,14 +59,13 @@ static const char *believed(const char *host)
 static void judge(ASGCLIENT *client, asAccessRights before)
 {
     const ASG *group = client->pasgMember->pasg;
-    struct hrazvanut_table table = {.start = in_force, .length = sizeof in_force};
     struct hrazvanut_question question = {0};
     question.group = hrazvanut_string(group->name);
     question.user = hrazvanut_string(client->user);
     question.host = hrazvanut_string(believed(client->host));
     question.level = (uint32_t)client->level; /* no level but 0 and 1 becomes 0 or 1 */
     hear(group, question.readings);
-    struct hrazvanut_answer answer = hrazvanut_decide(table, &question);
+    struct hrazvanut_answer answer = hrazvanut_decide(in_force, &question);
     client->access = answer.access == HRAZVANUT_WRITE ? asWRITE : answer.access == HRAZVANUT_READ ? asREAD : asNOACCESS;
     client->trapMask = answer.trap ? AS_TRAP_WRITE : 0;
     if (client->pcallback && client->access != before)
