@@ -6,8 +6,8 @@
 #include <string.h>
 #include <unistd.h>
 
+#include "bank.h"
 #include "plan.h"
-#include "preload.h"
 
 #include <libComVersion.h>
 
@@ -138,6 +138,7 @@ static void put_in_force(void)
 {
     in_force = next;
     by_address = &asCheckClientIP && asCheckClientIP;
+    bank_empty();
 }
 
 /* What EPICS has for the sensors counts from here on. */

@@ -1,4 +1,4 @@
-/* What the two halves of the preload share: load.c puts rules in force, rights.c asks by them. */
+/* What the parts of the preload share: load.c puts rules in force, rights.c asks by them, bank.c keeps what was answered. */
 #ifndef PRELOAD_H
 #define PRELOAD_H
 

@@ -3,7 +3,7 @@
 #include <arpa/inet.h>
 #include <math.h>
 
-#include "preload.h"
+#include "bank.h"
 
 #include <asCa.h>
 
@@ -54,28 +54,36 @@ static const char *believed(const char *host)
                : host;
 }
 
-/* Works out a client's right, and tells its callback if the access is another than before. Asked for the group that EPICS has
- * put the record into, not by the record's ASG field: the readings are that group's, whatever is being written to the field. */
-static void judge(ASGCLIENT *client, asAccessRights before)
+/* A question about the group that EPICS has put a record into, and not what stands in the record's ASG field: the readings are that
+ * group's, whatever is being written to the field. */
+static struct hrazvanut_question known(const ASG *group)
 {
-    const ASG *group = client->pasgMember->pasg;
     struct hrazvanut_question question = {0};
     question.group = hrazvanut_string(group->name);
+    hear(group, question.readings);
+    return question;
+}
+
+static void judge(ASGCLIENT *client, asAccessRights before)
+{
+    struct hrazvanut_question question = known(client->pasgMember->pasg);
     question.user = hrazvanut_string(client->user);
     question.host = hrazvanut_string(believed(client->host));
     question.level = (uint32_t)client->level; /* no level but 0 and 1 becomes 0 or 1 */
-    hear(group, question.readings);
-    struct hrazvanut_answer answer = hrazvanut_decide(in_force, &question);
-    client->access = answer.access == HRAZVANUT_WRITE ? asWRITE : answer.access == HRAZVANUT_READ ? asREAD : asNOACCESS;
-    client->trapMask = answer.trap ? AS_TRAP_WRITE : 0;
-    if (client->pcallback && client->access != before)
-        client->pcallback(client, asClientCOAR);
+    bank_judge(client, before, &question);
 }
 
 static void judge_member(const ASGMEMBER *member)
 {
     for EACH (ASGCLIENT, client, &member->clientList)
         judge(client, client->access);
+}
+
+static void judge_without_place(const ASGMEMBER *member)
+{
+    for EACH (ASGCLIENT, client, &member->clientList)
+        if (!bank_has(client))
+            judge(client, client->access);
 }
 
 /* EPICS calls an input good before it stores the value; so what is stored for a bad one is made no number. One that is none
@@ -94,8 +102,10 @@ static void spoil_bad(ASG *group)
 static void judge_group(ASG *group)
 {
     spoil_bad(group);
-    for EACH (ASGMEMBER, member, &group->memberList)
-        judge_member(member);
+    struct hrazvanut_question question = known(group);
+    if (bank_hear(group, &question))
+        for EACH (ASGMEMBER, member, &group->memberList)
+            judge_without_place(member);
 }
 
 void judge_all(void)
@@ -213,6 +223,15 @@ static long change_client(struct job *job)
     return status;
 }
 
+static long remove_client(struct job *job)
+{
+    ASGCLIENT *client = *job->client;
+    long status = REAL(asRemoveClient)(job->client);
+    if (!status && !foreign)
+        bank_leave(client);
+    return status;
+}
+
 EXPORT long asCompute(ASCLIENTPVT client)
 {
     struct job job = {.run = compute_client, .client = &client};
@@ -229,6 +248,12 @@ EXPORT long asChangeClient(ASCLIENTPVT client, int level, const char *user, char
 {
     struct job job = {.run = change_client, .client = &client, .level = level, .name = user, .host = host};
     return active() && !(client && user && host) ? S_asLib_badClient : locked(&job);
+}
+
+EXPORT long asRemoveClient(ASCLIENTPVT *client)
+{
+    struct job job = {.run = remove_client, .client = client};
+    return active() && !*client ? S_asLib_badClient : locked(&job);
 }
 
 /* ---- members: while EPICS moves one, its clients are set aside with their rights */
