@@ -8,12 +8,13 @@
 #include <string.h>
 #include <unistd.h>
 
-#include <asLib.h>
 #include <errlog.h>
+
+#include "trial.h"
 
 static int checks, failed, told;
 
-static void check(int right, const char *what)
+void check(int right, const char *what)
 {
     checks++;
     failed += !right;
@@ -27,9 +28,10 @@ static void count(ASCLIENTPVT client, asClientStatus status)
     told++;
 }
 
-static ASMEMBERPVT member;
+ASMEMBERPVT member;
 static ASCLIENTPVT client;
-static char host[] = "PC1", address[] = "10.0.0.7", name[] = "pc1";
+char host[] = "PC1";
+static char address[] = "10.0.0.7", name[] = "pc1";
 
 /* Whether the access is this, and the callback was told so often since. */
 static int is(asAccessRights access, int times)
@@ -54,14 +56,13 @@ static asAccessRights visitor(const char *group, int level, const char *user, ch
     return access;
 }
 
-/* An event of the group's sensor A, as EPICS's link has it: good or bad first, then the value, then the rights. */
-static void half_an_event(int good)
+void half_an_event(int good)
 {
     ASG *group = member->pasg;
     group->inpBad = good ? group->inpBad & ~1ul : group->inpBad | 1ul;
 }
 
-static void event(int good, double value)
+void event(int good, double value)
 {
     half_an_event(good);
     if (good)
@@ -69,9 +70,9 @@ static void event(int good, double value)
     asComputeAsg(member->pasg);
 }
 
-static const char rules[] = "UAG(ops) {ann} HAG(desk) {PC1}\n"
-                            "ASG(DEFAULT) {INPA(s) RULE(1,READ) RULE(1,WRITE,TRAPWRITE) {UAG(ops) CALC(\"A>0.3?0:1\")}}\n"
-                            "ASG(low) {RULE(0,WRITE)} ASG(\"\") {RULE(1,WRITE)} ASG(desk) {RULE(1,WRITE) {HAG(desk)}}\n";
+const char rules[] = "UAG(ops) {ann} HAG(desk) {PC1}\n"
+                     "ASG(DEFAULT) {INPA(s) RULE(1,READ) RULE(1,WRITE,TRAPWRITE) {UAG(ops) CALC(\"A>0.3?0:1\")}}\n"
+                     "ASG(low) {RULE(0,WRITE)} ASG(\"\") {RULE(1,WRITE)} ASG(desk) {RULE(1,WRITE) {HAG(desk)}}\n";
 
 static void start(void)
 {
@@ -105,11 +106,16 @@ static void *early(void *nothing)
     return NULL;
 }
 
+void links(const char *function)
+{
+    void (*call)(void);
+    *(void **)&call = dlsym(RTLD_DEFAULT, function);
+    call();
+}
+
 static void *set_links_up(void *nothing)
 {
-    void (*start)(void);
-    *(void **)&start = dlsym(RTLD_DEFAULT, "asCaStart");
-    start();
+    links("asCaStart");
     return nothing;
 }
 
@@ -323,6 +329,8 @@ int main(int count_of_words, char **words)
         refused_first();
     } else if (!strcmp(mode, "slow")) {
         slow_first();
+    } else if (!strcmp(mode, "many") || !strcmp(mode, "scarce")) {
+        many_clients(!strcmp(mode, "scarce"));
     } else {
         start();
         sensors();
