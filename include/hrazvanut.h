@@ -151,7 +151,7 @@ enum hrazvanut_refusal HRAZVANUT_ENUM_TYPE {
     /* of a question, of a look-up, and of a register's calls */
     HRAZVANUT_REFUSED_NOT_TABLE = 20,
     HRAZVANUT_REFUSED_LEVEL = 21,
-    HRAZVANUT_REFUSED_NO_INPUT = 22,
+    HRAZVANUT_REFUSED_NO_INPUT = 22, /* or no such group */
     /* of a register's calls */
     HRAZVANUT_REFUSED_LONG_NAME = 23,
     HRAZVANUT_REFUSED_NO_PLACE = 24,
@@ -260,8 +260,8 @@ extern "C" {
 
 /* No pointer may be NULL. `values` is aligned as double, `places` as uint16_t. An answer of 64 bits holds a first number in bits 0 to 31, a
  * second in bits 32 to 47, and the refusal above them: of a load the length and the number of warnings, or the place; of a list of warnings
- * their number, or the place; of a question the right; of a look-up and of a group the place and the length. A right has the access in bits 0 and 1, the
- * trap flag in bit 2 and the letter in bits 3 to 7: 0 for none, 1 for A up to 21 for U.
+ * their number, or the place; of a question the right; of a look-up and of a group the place and the length. A right has the access in
+ * bits 0 and 1, the trap flag in bit 2 and the letter in bits 3 to 7: 0 for none, 1 for A up to 21 for U.
  * Any other answer of 8 bits than a right is 1 or 0. The letter i has states[i] and values[i]: past the end of states it was never heard,
  * past the end of values it is not a number. The role i is the next lengths[i] bytes of roles, in which all stand one behind the other;
  * what is left behind the last is not looked at, and lengths that go past the end are refused as too many roles are.
@@ -510,7 +510,7 @@ static inline const char *hrazvanut_refusal_words(enum hrazvanut_refusal refusal
     case HRAZVANUT_REFUSED_NO_ROOM: return "lent table too short";
     case HRAZVANUT_REFUSED_NOT_TABLE: return "not a table";
     case HRAZVANUT_REFUSED_LEVEL: return "level neither 0 nor 1";
-    case HRAZVANUT_REFUSED_NO_INPUT: return "no such input in the group";
+    case HRAZVANUT_REFUSED_NO_INPUT: return "no such group, or no such input in it";
     case HRAZVANUT_REFUSED_LONG_NAME: return "client's name over 60 bytes";
     case HRAZVANUT_REFUSED_NO_PLACE: return "all 64 places taken";
     case HRAZVANUT_REFUSED_NO_CLIENT: return "no client at the place";

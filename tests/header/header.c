@@ -65,7 +65,7 @@ static void words(void)
     }
     CHECK(strcmp(hrazvanut_refusal_words(HRAZVANUT_REFUSED_NO_ROOM), "lent table too short") == 0);
     CHECK(strcmp(hrazvanut_refusal_words((enum hrazvanut_refusal)12), "undefined group") == 0);
-    CHECK(strcmp(hrazvanut_refusal_words(HRAZVANUT_REFUSED_NO_INPUT), "no such input in the group") == 0);
+    CHECK(strcmp(hrazvanut_refusal_words(HRAZVANUT_REFUSED_NO_INPUT), "no such group, or no such input in it") == 0);
     CHECK(strcmp(hrazvanut_refusal_words((enum hrazvanut_refusal)23), "client's name over 60 bytes") == 0);
     CHECK(strcmp(hrazvanut_refusal_words((enum hrazvanut_refusal)24), "all 64 places taken") == 0);
     CHECK(strcmp(hrazvanut_refusal_words((enum hrazvanut_refusal)25), "no client at the place") == 0);
