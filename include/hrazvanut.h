@@ -38,10 +38,10 @@
  * So that new fields do no harm, start each struct from zeros (= {0}, in C++ = {}) and set its fields by their names: a field that you do
  * not know is zero, and zero asks for nothing and says nothing. Expect numbers of refusals and warnings that you do not know.
  *
- * Header and library are of one revision of the repository. A library knows no struct of this header; a function hrazvanut_abi_* whose
- * parameters or form of answer change gets another name, so that a header does not link with a library that it cannot talk to. Where the
- * rules change and the form does not, as in 5.0 and 6.0, MAJOR grows and the names stay. In 7.0 a right has a letter, so `changed` tells
- * of more, and three names are new. */
+ * Header and library are of one revision of the repository, or the library is of a later one with the same MAJOR; hrazvanut_version tells.
+ * A library knows no struct of this header; a function hrazvanut_abi_* whose parameters or form of answer change gets another name, so that
+ * a header does not link with a library that it cannot talk to. Where the rules change and the form does not, as in 5.0 and 6.0, MAJOR
+ * grows and the names stay. In 7.0 a right has a letter, so `changed` tells of more, and three names are new. */
 #define HRAZVANUT_VERSION_MAJOR 7
 #define HRAZVANUT_VERSION_MINOR 1
 #define HRAZVANUT_VERSION (HRAZVANUT_VERSION_MAJOR * 1000 + HRAZVANUT_VERSION_MINOR)
@@ -55,9 +55,10 @@
 #define HRAZVANUT_ROLES 16
 #define HRAZVANUT_ROLE_LENGTH 60
 
-/* So many clients has a register at most, so many access groups a table, and so many bytes are a register. */
+/* So many clients has a register at most, so many access groups and inputs a table, and so many bytes are a register. */
 #define HRAZVANUT_PLACES 64
 #define HRAZVANUT_GROUPS 64
+#define HRAZVANUT_INPUTS 512
 #define HRAZVANUT_REGISTER sizeof(struct hrazvanut_register)
 
 /* In C++ an enum can hold a number that is not among its own only if its type is given. */
@@ -281,8 +282,13 @@ typedef uint64_t hrazvanut_abi_question(const uint8_t *table, size_t table_lengt
                                         size_t values_length);
 hrazvanut_abi_question hrazvanut_abi_decide_letter;
 hrazvanut_abi_question hrazvanut_abi_decide_letter_checked;
-uint64_t hrazvanut_abi_find_input(const uint8_t *table, size_t table_length, const uint8_t *group, size_t group_length, uint32_t letter);
-uint64_t hrazvanut_abi_group_at(const uint8_t *table, size_t table_length, size_t number);
+typedef uint64_t hrazvanut_abi_finding(const uint8_t *table, size_t table_length, const uint8_t *group, size_t group_length,
+                                       uint32_t letter);
+hrazvanut_abi_finding hrazvanut_abi_find_input;
+hrazvanut_abi_finding hrazvanut_abi_find_input_checked;
+typedef uint64_t hrazvanut_abi_naming(const uint8_t *table, size_t table_length, size_t number);
+hrazvanut_abi_naming hrazvanut_abi_group_at;
+hrazvanut_abi_naming hrazvanut_abi_group_at_checked;
 uint32_t hrazvanut_abi_version(void);
 uint8_t hrazvanut_abi_allowed(const uint8_t *text, size_t text_length);
 typedef uint64_t hrazvanut_abi_adding(uint8_t *places, size_t places_length, const uint8_t *states, size_t states_length,
@@ -428,6 +434,19 @@ static inline struct hrazvanut_found hrazvanut_abi_found(uint64_t answer, struct
     found.name.length = hrazvanut_abi_second(answer);
     found.name.start = found.refusal == HRAZVANUT_NOT_REFUSED ? (const char *)table.start + found.at : NULL;
     return found;
+}
+
+/* A look-up's parts, and a group's number, put to one of two functions each. */
+static inline struct hrazvanut_found hrazvanut_abi_find(hrazvanut_abi_finding *find, struct hrazvanut_table table,
+                                                        struct hrazvanut_text group, uint32_t letter)
+{
+    return hrazvanut_abi_found(find(hrazvanut_abi_bytes(table.start, table.length), table.length,
+                                    hrazvanut_abi_bytes(group.start, group.length), group.length, letter),
+                               table);
+}
+static inline struct hrazvanut_found hrazvanut_abi_name(hrazvanut_abi_naming *name, struct hrazvanut_table table, size_t number)
+{
+    return hrazvanut_abi_found(name(hrazvanut_abi_bytes(table.start, table.length), table.length, number), table);
 }
 
 /* What a call on the client at a place answers. */
@@ -602,9 +621,14 @@ static inline struct hrazvanut_answer hrazvanut_decide_checked(struct hrazvanut_
 /* The name of the process variable that feeds a letter (A is 0) of a group. Refused: 20 not a table, then 22 no such input. */
 static inline struct hrazvanut_found hrazvanut_find_input(struct hrazvanut_table table, struct hrazvanut_text group, uint32_t letter)
 {
-    return hrazvanut_abi_found(hrazvanut_abi_find_input(hrazvanut_abi_bytes(table.start, table.length), table.length,
-                                                        hrazvanut_abi_bytes(group.start, group.length), group.length, letter),
-                               table);
+    return hrazvanut_abi_find(hrazvanut_abi_find_input, table, group, letter);
+}
+
+/* The same without the check of the table: see hrazvanut_decide_checked. */
+static inline struct hrazvanut_found hrazvanut_find_input_checked(struct hrazvanut_table table, struct hrazvanut_text group,
+                                                                  uint32_t letter)
+{
+    return hrazvanut_abi_find(hrazvanut_abi_find_input_checked, table, group, letter);
 }
 
 /* The name of the process variable that stopped an asker: the one that feeds the letter of an answer, or of a right, for a question of that
@@ -622,26 +646,33 @@ static inline struct hrazvanut_found hrazvanut_stopping_input(struct hrazvanut_t
  * comes to that group, since an empty name goes to DEFAULT. Refused: 20 not a table, then 22 no group of that number. */
 static inline struct hrazvanut_found hrazvanut_group_at(struct hrazvanut_table table, size_t number)
 {
-    return hrazvanut_abi_found(hrazvanut_abi_group_at(hrazvanut_abi_bytes(table.start, table.length), table.length, number), table);
+    return hrazvanut_abi_name(hrazvanut_abi_group_at, table, number);
 }
 
-/* The next input of a table, group by group and by letter, with the name that each group's readings are set by:
+/* The same without the check of the table: see hrazvanut_decide_checked. */
+static inline struct hrazvanut_found hrazvanut_group_at_checked(struct hrazvanut_table table, size_t number)
+{
+    return hrazvanut_abi_name(hrazvanut_abi_group_at_checked, table, number);
+}
+
+/* The next input of a table, group by group and by letter, with the name that each group's readings are set by. A walk begins with zeros,
+ * = {0} in C and = {} in C++:
  *
  *     struct hrazvanut_input input = {0};
- *     while (hrazvanut_next_input(table, &input))
+ *     while (hrazvanut_next_input_checked(table, &input))
  *         subscribe(input.group, input.letter, input.name);
  *
- * False behind the last, and for what is no table; then the input is as it was, but for where the walk goes on. Each input that a question
- * can depend on is told, and if a load wrote the table each once. It takes some time: the table is checked at each step. */
-static inline bool hrazvanut_next_input(struct hrazvanut_table table, struct hrazvanut_input *input)
+ * False behind the last; then the input is as it was, but for where the walk goes on. Each input that a question can depend on is told, and
+ * if a load wrote the table each once. The bytes are a table: see hrazvanut_decide_checked. */
+static inline bool hrazvanut_next_input_checked(struct hrazvanut_table table, struct hrazvanut_input *input)
 {
     for (;;) {
         uint32_t letter = (uint32_t)(input->next % HRAZVANUT_READINGS);
-        struct hrazvanut_found group = hrazvanut_group_at(table, input->next / HRAZVANUT_READINGS), name;
+        struct hrazvanut_found group = hrazvanut_group_at_checked(table, input->next / HRAZVANUT_READINGS), name;
         if (group.refusal)
             return false;
         input->next++;
-        name = hrazvanut_find_input(table, group.name, letter);
+        name = hrazvanut_find_input_checked(table, group.name, letter);
         if (name.refusal || group.name.length == 0)
             continue;
         input->group = group.name;
@@ -649,6 +680,12 @@ static inline bool hrazvanut_next_input(struct hrazvanut_table table, struct hra
         input->name = name.name;
         return true;
     }
+}
+
+/* The same of any bytes: false for what is no table. It checks the table for each input that it tells. */
+static inline bool hrazvanut_next_input(struct hrazvanut_table table, struct hrazvanut_input *input)
+{
+    return hrazvanut_is_table(table) && hrazvanut_next_input_checked(table, input);
 }
 
 /* ---- a calculation */
