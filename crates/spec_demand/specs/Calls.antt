@@ -19,7 +19,7 @@ use Rattle.spec_decision.specs.Decision as question
 use Rattle.spec_decision.specs.LookUp as look-up
 use Rattle.spec_decision.specs.Walk.{group-at}
 
--- Every call of the library but a register's, which Register.antt adds; those of include/hrazvanut.h but a register's are among them. What the crate sequence
+-- Every call of the library but a register's, which Register.antt adds; those of include/hrazvanut.h that are lent a text or a table, but a register's, are among them. What the crate sequence
 -- offers are sequences of these.
 pub data Call : Type 0 where
   -- of a text; of a text and how many of its warnings are skipped

@@ -5,7 +5,7 @@ use mathlib.Core.Bool.{true, false}
 use mathlib.Core.List.{List, [], _∷_, _++_, map, List·Memᴰ}
 use mathlib.Core.Logic.{_↔_, _⊎_}
 use mathlib.Core.Option.{Option, none, some}
-use Prim.Native.Nat.{ℕ, _≤_, _<_}
+use Prim.Native.Nat.{ℕ, _+_, _≤_, _<_}
 use lib.Ieee.{Float}
 use lib.ListN.{length, getD, replicate}
 use Rattle.spec_calc.specs.declared.Reading.the-variants.{NeverHeard}
@@ -39,7 +39,7 @@ use Rattle.spec_demand.specs.Vocabulary.{Lent, lent, places-bytes, all-r
 use Rattle.spec_demand.specs.Vocabulary.{Never-more-to-clients}
 use Rattle.spec_demand.specs.Vocabulary.{calculation-holds, Some, Yields-true, Finite-values, Gives-on-finite-values, access-groups, name, rules-of}
 use Rattle.spec_demand.specs.Vocabulary.{Names-undefined, Groups-defined, references, number-field, Group-cases}
-use Rattle.spec_demand.specs.Vocabulary.{Names-group, group-at}
+use Rattle.spec_demand.specs.Vocabulary.{Names-group, group-at, empty, Good-file, In-force, Turn, Lent-in-force, register-after, over, left-by-turns, Never-more-in-rooms}
 use Rattle.spec_demand.specs.Vocabulary.{letter-in, worth, Comes-to, Bad-by, Bad-by-arithmetic, Tells, rule-in, Letter-cases}
 use Rattle.spec_demand.specs.laws.Cited as proved
 
@@ -272,17 +272,15 @@ pub record Registered (g : Gateway) : Type 0 where
   pub changed-bits :
       (c : Register-call) (p : ℕ) → p < most-clients → (bit-of p (changed-in (answer g c)) ≡ true) ↔ (right-at g p ≡ right-at (after g c) p → ⊥)
 
--- "After each call of any sequence from an empty register with every reading never heard, nobody else writing it or the table"
-pub register : (t : List ℕ) (cs : List Register-call) → Registered (after-calls (begun t) cs)
-register t cs =
-    let g = after-calls (begun t) cs in
-    let s = proved.sized t cs in
+-- of any gateway whose register has these sizes, and whose clients have names and levels that an add takes
+registered : (g : Gateway) → Sized (g .register) → proved.All-fit (g .register) → Registered g
+registered g s fit =
     record {
       sizes = s;
       added-lowest = λ c. proved.added-lowest g c s;
       removed-only = proved.removed-only g;
       changed-only = proved.changed-only g;
-      right-answers = proved.right-answers t cs;
+      right-answers = proved.right-answers g fit;
       answering-readings = proved.answering-readings (g .table) (g .register);
       set-only = λ n letter x h. proved.set-only g n letter x h s;
       loads = λ s. (refl, proved.load-answers g s);
@@ -301,6 +299,10 @@ register t cs =
       refused-leaves = proved.refused-leaves-gateway g;
       changed-bits = proved.answered-is g;
     }
+
+-- "After each call of any sequence from an empty register with every reading never heard, nobody else writing it or the table"
+pub register : (t : List ℕ) (cs : List Register-call) → Registered (after-calls (begun t) cs)
+register t cs = registered (after-calls (begun t) cs) (proved.sized t cs) (proved.clients-fit t cs)
 
 -- The same of lent storage. What the calls leave there and tell is what their contracts say (left, told), and what the look at a place answers (right-in).
 -- From zeros on, each call made on what the one before it left, so that nobody else writes register or table, the storage is that gateway: its table,
@@ -348,6 +350,24 @@ pub reload-elsewhere :
     × (left one (load-again s) .values ≡ left other (load-again s) .values)
 reload-elsewhere = proved.reload-elsewhere
 
+-- So a gateway may keep its table now in one room and now in another. A load is lent any room, every other call the table in force, whatever stands behind it,
+-- and before the first accepted load bytes that are no table. From zeros on, the storage over whatever bytes stand for the table is the gateway that these
+-- calls make, and each sentence of the ticket holds of it;
+pub register-in-rooms :
+    (n m : ℕ) (v : List Float) → places-bytes ≤ n → all-readings ≤ m → all-readings ≤ length v
+    → (turns : List Turn) (now : Option Good-file) → Lent-in-force none turns now
+    → (b : List ℕ) → In-force now b
+    → let g : Gateway = record { table = b; register = register-after empty turns } in
+    Agrees (over b (left-by-turns (zeroed [] n m v) turns)) g × Registered g
+register-in-rooms n m v hn hm hv turns now l b i = (
+  proved.in-rooms n m v hn hm hv l b i,
+  registered (record { table = b; register = register-after empty turns }) (proved.turns-sized turns) (proved.turns-fit turns),
+)
+
+-- and so does demand 3, of each client and by the file in force.
+pub demand-3-in-rooms : Never-more-in-rooms
+demand-3-in-rooms = proved.never-more-in-rooms
+
 -- A register's calls may come between in demand 3: each leaves of the table what a call of the library does, its load what a load does.
 pub register-on-table : (s : Lent) (c : Register-call) → left s c .table ≡ after-call (s .table) (on-table s c)
 register-on-table = proved.register-on-table
@@ -363,6 +383,9 @@ pub record Walked : Type 0 where
   pub no-table : (b : List ℕ) (n : ℕ) → (group-at b n ≡ found.NotTable) ↔ (Table b → ⊥)
   pub group : (b : List ℕ) (n at l : ℕ) → (group-at b n ≡ found.Part at l) ↔ (Table b × Names-group b n (found.Part at l))
   pub no-group : (b : List ℕ) (n : ℕ) → (group-at b n ≡ found.NoInput) ↔ (Table b × (length (groups-of b) ≤ n))
+  pub refusals : (b : List ℕ) (n k : ℕ) → look-up-number (group-at b n) ≡ some k → ((k ≡ 20) ⊎ (k ≡ 22)) × (part-in (group-at b n) b ≡ [])
+  -- the part lies in the bytes, and is the name
+  pub inside : (b : List ℕ) (n at l : ℕ) → group-at b n ≡ found.Part at l → at + l ≤ length b
   pub name : (b : List ℕ) (g : Numbered) → Table b → List·Memᴰ g (groups-of b) → part-in (group-at b (g .number)) b ≡ group-name b g
   -- of a loaded table they are the groups of the file, in its order
   pub by-file :
@@ -382,6 +405,8 @@ walk =
       no-table = proved.no-table-walked-is;
       group = proved.group-walked-is;
       no-group = proved.no-group-walked-is;
+      refusals = proved.refused-walk-empty;
+      inside = proved.walked-inside;
       name = proved.walked-name;
       by-file = proved.groups-by-file;
       reaches = λ b n g a. (proved.answering-member b n g a, proved.answering-inputs b n g a, proved.answering-named b n g a);

@@ -2,6 +2,7 @@ pub mod Vocabulary
 pub mod Calls
 pub mod Memory
 pub mod Register
+pub mod Rooms
 pub mod ByFile
 pub mod Cases
 pub mod Front

@@ -43,7 +43,8 @@ pub use Rattle.spec_rule.specs.Letter.{Tells}
 pub use Rattle.spec_rule.specs.Finite.{Finite-values, Gives-on-finite-values}
 pub use Rattle.spec_decision.specs.Groups.{Numbered, groups-of, group-name}
 pub use Rattle.spec_decision.specs.Walk.{Names-group, group-at}
-pub use Rattle.spec_register.specs.Register.{Client, most-clients, client-at, readings-at}
+pub use Rattle.spec_demand.specs.Rooms.{Good-file, In-force, Turn, Lent-in-force, register-after, over, left-by-turns, Never-more-in-rooms}
+pub use Rattle.spec_register.specs.Register.{Client, empty, most-clients, client-at, readings-at}
 pub use Rattle.spec_register.specs.Right.{question-now}
 pub use Rattle.spec_register.specs.Calls.{Gateway, Call as Register-call, add, change, remove, set-reading, load-again, after, after-calls, right-at}
 pub use Rattle.spec_register.specs.Calls.{answer, client-added, table-loaded, reloaded-as, refusal-of as refused-with}

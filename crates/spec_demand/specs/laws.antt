@@ -11,3 +11,4 @@ pub mod Letter
 pub mod Refusals
 pub mod Answered
 pub mod Register
+pub mod Rooms

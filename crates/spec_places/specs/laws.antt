@@ -1,4 +1,5 @@
 pub mod Behind
+pub mod Moved
 pub mod Changed
 pub mod Each
 pub mod Fits

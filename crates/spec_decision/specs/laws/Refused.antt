@@ -53,15 +53,15 @@ refused-grants-nothing b q n e = by (decide b q) e
     by BadRoles h = (refl, refl, refl)
 
 -- 20, 22: "the empty part"
+pub refused-found-empty : (f : Found) (b : List ℕ) (n : ℕ) → found-by.number f ≡ some n → ((n ≡ 20) ⊎ (n ≡ 22)) × (part-in f b ≡ [])
+refused-found-empty (found.Part at length) b n e = let z : _≡_ {A = ℕ} 0 1 = cc in absurd (omega arith)
+refused-found-empty found.NotTable b n e = (inl (cc), refl)
+refused-found-empty found.NoInput b n e = (inr (cc), refl)
+
 pub refused-look-up-empty :
     (b g : List ℕ) (letter n : ℕ) → found-by.number (look-up b g letter) ≡ some n
     → ((n ≡ 20) ⊎ (n ≡ 22)) × (part-in (look-up b g letter) b ≡ [])
-refused-look-up-empty b g letter n e = by (look-up b g letter) e
-  where
-    by : (f : Found) → found-by.number f ≡ some n → ((n ≡ 20) ⊎ (n ≡ 22)) × (part-in f b ≡ [])
-    by (found.Part at length) h = let z : _≡_ {A = ℕ} 0 1 = cc in absurd (omega arith)
-    by found.NotTable h = (inl (cc), refl)
-    by found.NoInput h = (inr (cc), refl)
+refused-look-up-empty b g letter n e = refused-found-empty (look-up b g letter) b n e
 
 -- ---- when a question is refused: 20, then 21, then 26
 

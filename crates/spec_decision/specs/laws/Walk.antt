@@ -2,7 +2,7 @@
 use mathlib.Core.Path.{_≡_, refl, sym, ap, subst, _∙_}
 use mathlib.Core.Bool.{Bool, true, false, cond}
 use mathlib.Core.List.{List, [], _∷_, _++_, List·Memᴰ, List·Memᴰ·head, List·Memᴰ·tail}
-use mathlib.Core.Logic.{_↔_}
+use mathlib.Core.Logic.{_↔_, _⊎_}
 use mathlib.Core.Option.{Option, none, some, Option·map}
 use Prim.Native.Nat.{ℕ, zero, suc, _+_, _≤_, _<_}
 use native.Mathlib.Omega.{arith}
@@ -14,18 +14,19 @@ use Rattle.spec_rule.specs.Answering.{default-name}
 use Rattle.spec_rule.specs.Privilege.{First-such, Answers, by-name, by-default}
 use Rattle.spec_rule.specs.laws.Privilege.{answering-is}
 use Rattle.spec_file.specs.Limit.{access-groups, inputs}
-use Rattle.spec_table.specs.View.{view}
+use Rattle.spec_table.specs.View.{view, strings-extent}
 use Rattle.spec_table.specs.Table.{Table, name-run}
 use Rattle.spec_table.specs.Policy.{name, row}
 use Rattle.spec_table.specs.laws.Table.{table-is}
-use Rattle.spec_table.specs.laws.Fields.{strings-count, string-at}
+use Rattle.spec_table.specs.laws.Fields.{strings-count, strings-inside, string-at}
 use Rattle.spec_table.specs.laws.Standing.{stands, name-within}
 use Rattle.spec_decision.specs.declared.Found.{Found}
 use Rattle.spec_decision.specs.declared.Found.the-variants.{Part, NotTable, NoInput}
-use Rattle.spec_decision.specs.LookUp.{part-in, name-part, input-of, look-up}
+use Rattle.spec_decision.specs.LookUp.{number, part-in, name-part, input-of, look-up}
 use Rattle.spec_decision.specs.Groups.{Numbered, numbered, groups-of, group-name, full-name, group-answering}
 use Rattle.spec_decision.specs.Walk.{Names-group, row-at, group-at}
 use Rattle.spec_decision.specs.laws.Found.{found-in, no-table-is, part-is, nothing-is}
+use Rattle.spec_decision.specs.laws.Refused.{refused-found-empty}
 use Rattle.spec_decision.specs.laws.Groups.{Of-table, groups-stand, length-numbered, answering-row}
 
 -- the group of a number is among those that are numbered
@@ -114,6 +115,28 @@ module _ (b : List ℕ) where
       let has : Names-group b (g .number) (name-part access-groups b (g .row)) = record { group = g; among = m; number = refl; has = refl } in
       ap (λ (f : Found). part-in f b) (group-walked-is (g .number) _ _ .1 (t, has))
       ∙ sym (string-at b (s .0) (name-run access-groups (g .row)) (rw (strings-count b (s .0)) at u))
+
+  -- it lies in the bytes
+  pub walked-inside : (n at l : ℕ) → group-at b n ≡ Part at l → at + l ≤ length b
+  walked-inside n at l e =
+      let h = group-walked-is n at l .0 e in
+      let g = h .1 .group in
+      let o = stands-at (h .1 .among) in
+      let s = stands b (table-is b .1 (h .0)) in
+      let w = name-within (view b) (s .1) access-groups (g .number) (o .inside) in
+      let u : name-run access-groups (g .row) .first + name-run access-groups (g .row) .count ≤ length (view b .strings) = rw (o .row) w in
+      let first : strings-extent b .first + name-run access-groups (g .row) .first ≡ at = part-first (h .1 .has) in
+      let count : name-run access-groups (g .row) .count ≡ l = part-count (h .1 .has) in
+      omega (arith, u, strings-count b (s .0), strings-inside b (s .0) .ends, first, count)
+    where
+      part-first : {x y p q : ℕ} → Part x y ≡ Part p q → x ≡ p
+      part-first f = cc
+
+      part-count : {x y p q : ℕ} → Part x y ≡ Part p q → y ≡ q
+      part-count f = cc
+
+  pub refused-walk-empty : (n k : ℕ) → number (group-at b n) ≡ some k → ((k ≡ 20) ⊎ (k ≡ 22)) × (part-in (group-at b n) b ≡ [])
+  refused-walk-empty n k e = refused-found-empty (group-at b n) b k e
 
 -- ---- no group that answers is missed
 

@@ -16,7 +16,7 @@ pub use Rattle.spec_decision.specs.laws.Refused.{refused-question-numbered, ref
 pub use Rattle.spec_decision.specs.laws.Roles.{role-removed}
 pub use Rattle.spec_decision.specs.laws.Privilege.{by-table-is, granted-on-finite-values, tells-by-table}
 pub use Rattle.spec_decision.specs.laws.LookUp.{no-table-found-is, part-found-is, no-input-found-is}
-pub use Rattle.spec_decision.specs.laws.Walk.{no-table-walked-is, group-walked-is, no-group-walked-is, walked-name, answering-member, answering-named, answering-inputs}
+pub use Rattle.spec_decision.specs.laws.Walk.{no-table-walked-is, group-walked-is, no-group-walked-is, walked-name, walked-inside, refused-walk-empty, answering-member, answering-named, answering-inputs}
 pub use Rattle.spec_edition.specs.laws.Agreement.{edition-gives}
 pub use Rattle.spec_demand.specs.laws.Answered.{refused-load, refused-listing, accepted-listing}
 pub use Rattle.spec_demand.specs.laws.Refusals.{refused-load-numbered, refused-listing-numbered}
@@ -27,7 +27,7 @@ pub use Rattle.spec_demand.specs.laws.Exact.{zeros-grant-nothing, laid-d
 pub use Rattle.spec_demand.specs.laws.Memory.{never-more}
 pub use Rattle.spec_demand.specs.laws.Cases.{proved-cases, arithmetic-cases, role-cases, group-cases, letter-cases}
 pub use Rattle.spec_register.specs.laws.Sized.{sized}
-pub use Rattle.spec_register.specs.laws.Rights.{right-answers, answering-readings, free-right, beyond-right, no-table-right}
+pub use Rattle.spec_register.specs.laws.Rights.{All-fit, clients-fit, right-answers, answering-readings, free-right, beyond-right, no-table-right}
 pub use Rattle.spec_register.specs.laws.Places.{added-lowest, changed-only, removed-only, client-stays}
 pub use Rattle.spec_register.specs.laws.Readings.{set-only, set-letter-over, loaded-unheard, reading-stays, table-stays}
 pub use Rattle.spec_register.specs.laws.Refused.{add-refused, change-refused, remove-refused, set-refused, refused-call-leaves as refused-leaves-gateway}
@@ -35,3 +35,4 @@ pub use Rattle.spec_register.specs.laws.Changed.{answered-is, load-answers}
 pub use Rattle.spec_places.specs.laws.Follows.{follows, refused-leaves}
 pub use Rattle.spec_places.specs.laws.Short.{short-right, too-short}
 pub use Rattle.spec_demand.specs.laws.Register.{register-on-table, register-behind, reload-elsewhere, never-more-to-clients}
+pub use Rattle.spec_demand.specs.laws.Rooms.{in-rooms, turns-sized, turns-fit, never-more-in-rooms}

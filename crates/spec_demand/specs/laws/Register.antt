@@ -154,31 +154,38 @@ asked-still :
 asked-still lent s h xs t b same e q later given = rw same (asked-never-more lent s h xs t e q later given)
 
 -- what is claimed of a table, a register and the right of each place, after a load of a text that says xs
-abbrev Claim : List Tagged → List ℕ → Register → (ℕ → Decision) → Type 0
+abbrev pub Claim : List Tagged → List ℕ → Register → (ℕ → Decision) → Type 0
 Claim xs table r right =
     (p : ℕ) (c : Client) → client-at r p ≡ some c
     → let q = question-now table r c in
     (e : Edition) (actual : List Reading) (later : Access) → Later e xs (reading-instead q actual) later
     → (Gone-bad actual (q .readings) → rank (right p .access) ≤ rank later) × (actual ≡ q .readings → Says-no e q xs → right p .access ≡ later)
 
--- of a gateway
+-- of a gateway over what a load left
+pub claims :
+    (lent s : List ℕ) → is-accepted (load lent s .answer) ≡ true → (xs : List Tagged) → Text-reads s xs
+    → (now : Gateway) → now .table ≡ load lent s .bytes → Claim xs (now .table) (now .register) (right-at now)
+claims lent s accepted xs t now same p c stands e actual later given =
+    let q = question-now (now .table) (now .register) c in
+    let asked = asked-still lent s accepted xs t (now .table) same e in
+    let right : right-at now p .access ≡ access-in (decide (now .table) q) = ap (λ o. right-of (now .table) (now .register) o .access) stands in (
+      λ bad. rw right (asked (reading-instead q actual) later given .0 (q .readings) bad),
+      λ same no. right ∙ asked q later (rw same at given) .1 no,
+    )
+
+-- after any calls but an accepted load
 claimed :
     (before : Gateway) (s : List ℕ) → Not-refused before (load-again s)
     → (xs : List Tagged) → Text-reads s xs
     → (between : List Call) → Each-done No-load (after before (load-again s)) between
     → let now = after-calls (after before (load-again s)) between in
     Claim xs (now .table) (now .register) (right-at now)
-claimed before s accepted xs t between n p c stands e actual later given =
-    let now = after-calls (after before (load-again s)) between in
-    let q = question-now (now .table) (now .register) c in
-    let asked = asked-still (before .table) s (load-done before s .0 accepted) xs t (now .table) (table-stays (after before (load-again s)) between n) e in
-    let right : right-at now p .access ≡ access-in (decide (now .table) q) = ap (λ o. right-of (now .table) (now .register) o .access) stands in (
-      λ bad. rw right (asked (reading-instead q actual) later given .0 (q .readings) bad),
-      λ same no. right ∙ asked q later (rw same at given) .1 no,
-    )
+claimed before s accepted xs t between n =
+    claims (before .table) s (load-done before s .0 accepted) xs t (after-calls (after before (load-again s)) between)
+    (table-stays (after before (load-again s)) between n)
 
 -- so of storage that is that gateway
-of-storage : (xs : List Tagged) (l : Lent) (g : Gateway) → Agrees l g → Claim xs (g .table) (g .register) (right-at g)
+pub of-storage : (xs : List Tagged) (l : Lent) (g : Gateway) → Agrees l g → Claim xs (g .table) (g .register) (right-at g)
     → Claim xs (l .table) (register-in l) (right-in (l .places))
 of-storage xs l g a h =
     subst (λ (t : List ℕ). Claim xs t (register-in l) (right-in (l .places))) (sym (a .table))

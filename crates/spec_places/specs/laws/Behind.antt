@@ -65,7 +65,7 @@ module _ (t u : List ℕ) (same-test : is-table t ≡ is-table u) (same-view : v
       (λ (rules : List Rule). suc i ∷ decision-number (decision-by (asked c (rs i)) rules) ∷ map (λ r. bit (stands (asked c (rs i)) r)) rules)
       (rules-same i)
 
-  kept-same : (rs : ℕ → List Reading) (c : Client) → kept t rs c ≡ kept u rs c
+  pub kept-same : (rs : ℕ → List Reading) (c : Client) → kept t rs c ≡ kept u rs c
   kept-same rs c =
       ap₂
       (λ (x : Bool) (k : List ℕ). cond x k nothing-kept)

@@ -72,7 +72,7 @@ calls-hold s h (c ∷ cs) =
     let later = calls-hold (left s c) (k .settled) cs in
     record { settled = later .settled; same = later .same ∙ ap (λ (g : Gateway). after-calls g cs) (k .same) }
 
-agrees : (s : Lent) (g : Gateway) → Holds s g → Agrees s g
+pub agrees : (s : Lent) (g : Gateway) → Holds s g → Agrees s g
 agrees s g k =
     record {
       table = ap (λ (x : Gateway). x .table) (k .same);

@@ -26,7 +26,7 @@ use Rattle.spec_load.specs.declared.Loaded.{Loaded}
 use Rattle.spec_load.specs.declared.Loaded.the-variants as loaded
 use Rattle.spec_load.specs.Load.{load}
 use Rattle.spec_register.specs.declared.Refused.{Refused}
-use Rattle.spec_register.specs.Register.{Client, Register, most-clients, client-at, readings-at, with-client}
+use Rattle.spec_register.specs.Register.{Client, Register, empty, most-clients, client-at, readings-at, with-client}
 use Rattle.spec_register.specs.Right.{question-now, right-of}
 use Rattle.spec_register.specs.Refusal.{add-refusal, change-refusal, remove-refusal, set-refusal, lowest-free}
 use Rattle.spec_register.specs.Calls.{Gateway, Call, add, change, remove, set-reading}
@@ -71,7 +71,7 @@ module _ (g : Gateway) (p : ℕ) where
 abbrev pub Fitting : Client → Type 0
 Fitting c = (Long-name c → ⊥) × (c .level ≤ greatest-level)
 
-abbrev All-fit : Register → Type 0
+abbrev pub All-fit : Register → Type 0
 All-fit r = (p : ℕ) (c : Client) → client-at r p ≡ some c → Fitting c
 
 -- a place holds what it is given, or what it held
@@ -109,7 +109,7 @@ module _ (r : Register) (f : All-fit r) where
   load-fits (loaded.Accepted n w) = f
   load-fits (loaded.Refused x p) = f
 
-call-fits : (g : Gateway) (d : Call) → Sized (g .register) → All-fit (g .register) → All-fit (after g d .register)
+pub call-fits : (g : Gateway) (d : Call) → Sized (g .register) → All-fit (g .register) → All-fit (after g d .register)
 call-fits g (add c) s f =
     put-fits (g .register) f (add-refusal (g .register) c) (lowest-free (g .register .clients)) c
     (λ e.
@@ -130,26 +130,24 @@ calls-fit : (g : Gateway) (cs : List Call) → Sized (g .register) → All-fit (
 calls-fit g [] s f = f
 calls-fit g (c ∷ cs) s f = calls-fit (after g c) cs (call-sized g c s) (call-fits g c s f)
 
-pub clients-fit : (t : List ℕ) (cs : List Call) (p : ℕ) (c : Client) → client-at (after-calls (begun t) cs .register) p ≡ some c → Fitting c
-clients-fit t cs = calls-fit (begun t) cs empty-sized (λ p c e. none-some (at-replicate most-clients none p) e)
+pub none-fits : All-fit empty
+none-fits p c e = none-some (at-replicate most-clients none p) e
+
+pub clients-fit : (t : List ℕ) (cs : List Call) → All-fit (after-calls (begun t) cs .register)
+clients-fit t cs = calls-fit (begun t) cs empty-sized none-fits
 
 -- "After each call of any sequence from an empty register with every reading never heard [..], each standing client's right and trap flag equal what
 -- a question with the answering group's readings would answer now."
 pub right-answers :
-    (t : List ℕ) (cs : List Call)
-    → let g = after-calls (begun t) cs in
-    (p : ℕ) (c : Client) → client-at (g .register) p ≡ some c → Table (g .table)
+    (g : Gateway) → All-fit (g .register) → (p : ℕ) (c : Client) → client-at (g .register) p ≡ some c → Table (g .table)
     → decide (g .table) (question-now (g .table) (g .register) c) ≡ Answered (right-at g p)
-right-answers t cs p c h table = by (decide (g .table) q) refl
+right-answers g fit p c h table = by (decide (g .table) q) refl
   where
-    g : Gateway
-    g = after-calls (begun t) cs
-
     q : Question
     q = question-now (g .table) (g .register) c
 
     by : (a : Answer) → decide (g .table) q ≡ a → a ≡ Answered (right-at g p)
     by (Answered d) e = ap Answered (sym (right-is-answer g p c d h e))
     by NotTable e = absurd (not-table-is (g .table) q .0 e table)
-    by BadLevel e = absurd (omega (arith, bad-level-is (g .table) q .0 e .1, clients-fit t cs p c h .1))
+    by BadLevel e = absurd (omega (arith, bad-level-is (g .table) q .0 e .1, fit p c h .1))
     by BadRoles e = absurd (bad-roles-is (g .table) q .0 e .2 no-roles-fit)
