@@ -15,7 +15,6 @@ use Rattle.spec_rule.specs.Question.{Question, reading-instead}
 use Rattle.spec_rule.specs.Rule.{rank}
 use Rattle.spec_file.specs.Contents.{file-of}
 use Rattle.spec_file.specs.Acceptance.{Text-reads, Acceptable}
-use Rattle.spec_file.specs.Warning.{warnings}
 use Rattle.spec_file.specs.laws.Theorem.{acceptable-is}
 use Rattle.spec_table.specs.View.{view}
 use Rattle.spec_table.specs.Check.{is-table}
@@ -25,7 +24,7 @@ use Rattle.spec_table.specs.laws.Theorem.{viewed, is-a-table}
 use Rattle.spec_edition.specs.Edition.{Edition, Later, Says-no}
 use Rattle.spec_load.specs.declared.Loaded.{Loaded}
 use Rattle.spec_load.specs.declared.Loaded.the-variants as loaded
-use Rattle.spec_load.specs.Load.{is-accepted, load}
+use Rattle.spec_load.specs.Load.{Result, is-accepted, load}
 use Rattle.spec_load.specs.laws.Load.{refused-leaves}
 use Rattle.spec_decision.specs.Groups.{Numbered, group-named}
 use Rattle.spec_decision.specs.Decision.{access-in, decide}
@@ -95,20 +94,25 @@ register-behind s xs a rest rest′ places states values c n =
 
 -- ---- a load again in another room
 
-module _ (places states : List ℕ) (values : List Float) where
-  -- what a load of an accepted file tells and leaves, whether or not the register is long enough
-  alike :
-      (x : Bool) (n w : ℕ) (room room′ t u : List ℕ) → each (settled t) most-clients places ≡ each (settled u) most-clients places
-      → let one = cond x (reloaded-by (lent room places states values) t (loaded.Accepted n w)) (lent room places states values) in
-      let other = cond x (reloaded-by (lent room′ places states values) u (loaded.Accepted n w)) (lent room′ places states values) in
-      (cond x (reloaded-as (loaded.Accepted n w) (differing-in places (one .places))) reloaded.NotRegister
-      ≡ cond x (reloaded-as (loaded.Accepted n w) (differing-in places (other .places))) reloaded.NotRegister)
+module _ (places states : List ℕ) (values : List Float) (x : Bool) (room room′ t u : List ℕ) where
+  -- what two loads tell and leave of a register that is long enough, or not: their answers, and the tables that they leave
+  abbrev Same : Loaded → Loaded → Type 0
+  Same a a′ =
+      let one = cond x (reloaded-by (lent room places states values) t a) (lent room places states values) in
+      let other = cond x (reloaded-by (lent room′ places states values) u a′) (lent room′ places states values) in
+      (table-loaded (cond x (reloaded-as a (differing-in places (one .places))) reloaded.NotRegister)
+      ≡ table-loaded (cond x (reloaded-as a′ (differing-in places (other .places))) reloaded.NotRegister))
       × (one .places ≡ other .places)
       × (one .states ≡ other .states)
       × (one .values ≡ other .values)
-  alike true n w room room′ t u e =
-      (ap (λ (b : List ℕ). reloaded-as (loaded.Accepted n w) (differing-in places b)) e, e, refl, refl)
-  alike false n w room room′ t u e = (refl, refl, refl, refl)
+
+alike :
+    (places states : List ℕ) (values : List Float) (x : Bool) (room room′ t u : List ℕ) (a : Loaded)
+    → each (settled t) most-clients places ≡ each (settled u) most-clients places → Same places states values x room room′ t u a a
+alike places states values true room room′ t u (loaded.Accepted n w) e =
+    (ap (λ (b : List ℕ). table-loaded (reloaded-as (loaded.Accepted n w) (differing-in places b))) e, e, refl, refl)
+alike places states values true room room′ t u (loaded.Refused y p) e = (refl, refl, refl, refl)
+alike places states values false room room′ t u a e = (refl, refl, refl, refl)
 
 pub reload-elsewhere :
     (s : List ℕ) (xs : List Tagged) → Acceptable s xs → (room room′ places states : List ℕ) (values : List Float)
@@ -123,24 +127,21 @@ reload-elsewhere s xs a room room′ places states values l l′ =
     let f = file-of xs in
     let ok = fits s xs (acceptable-is s xs a) in
     let n = length (table-of f) in
-    let t = table-of f ++ drop n room in
-    let u = table-of f ++ drop n room′ in
-    let test : is-table t ≡ is-table u = is-a-table f ok (drop n room) ∙ sym (is-a-table f ok (drop n room′)) in
-    let content : view t ≡ view u = viewed f ok (drop n room) ∙ sym (viewed f ok (drop n room′)) in
-    let same =
-    alike
-    places
-    states
-    values
-    (has-room (lent room places states values))
-    n
-    (length (warnings xs))
-    room
-    room′
-    t
-    u
-    (settled-same t u test content places) in
-    rw (laid-down room s xs a l, laid-down room′ s xs a l′) (ap table-loaded (same .0), same .1, same .2, same .3)
+    let laid = laid-down room s xs a l in
+    let laid′ = laid-down room′ s xs a l′ in
+    let t = load room s .bytes in
+    let u = load room′ s .bytes in
+    let bytes : t ≡ table-of f ++ drop n room = ap (λ (r : Result). r .bytes) laid in
+    let bytes′ : u ≡ table-of f ++ drop n room′ = ap (λ (r : Result). r .bytes) laid′ in
+    let answers : load room s .answer ≡ load room′ s .answer = ap (λ (r : Result). r .answer) laid ∙ sym (ap (λ (r : Result). r .answer) laid′) in
+    let test : is-table t ≡ is-table u =
+    ap is-table bytes ∙ is-a-table f ok (drop n room) ∙ sym (ap is-table bytes′ ∙ is-a-table f ok (drop n room′)) in
+    let content : view t ≡ view u = ap view bytes ∙ viewed f ok (drop n room) ∙ sym (ap view bytes′ ∙ viewed f ok (drop n room′)) in
+    let x = has-room (lent room places states values) in
+    subst
+    (Same places states values x room room′ t u (load room s .answer))
+    answers
+    (alike places states values x room room′ t u (load room s .answer) (settled-same t u test content places))
 
 -- ---- demand 3
 

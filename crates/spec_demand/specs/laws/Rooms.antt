@@ -61,25 +61,25 @@ kept-in-force (some f) t u i j rs c =
     c
 
 -- some have room for every table
-record Roomy (o : Option Good-file) : Type 0 where
+record Roomy (most : ℕ) (o : Option Good-file) : Type 0 where
   pub bytes : List ℕ
   pub stands : In-force o bytes
-  pub long : greatest-table ≤ length bytes
+  pub long : most ≤ length bytes
 
-roomy : (o : Option Good-file) → Roomy o
-roomy none =
-    let zeros : List ℕ = replicate greatest-table 0 in
+roomy : (most : ℕ) (o : Option Good-file) → Roomy most o
+roomy most none =
+    let zeros : List ℕ = replicate most 0 in
     record {
       bytes = zeros;
-      stands = λ t. false≢true (sym (zeros-no-table greatest-table) ∙ table-is zeros .1 t);
-      long = omega (arith, length-replicate {A = ℕ} greatest-table 0);
+      stands = λ t. false≢true (sym (zeros-no-table most) ∙ table-is zeros .1 t);
+      long = omega (arith, length-replicate {A = ℕ} most 0);
     }
-roomy (some f) =
-    let zeros : List ℕ = replicate greatest-table 0 in
+roomy most (some f) =
+    let zeros : List ℕ = replicate most 0 in
     record {
       bytes = its-table f ++ zeros;
       stands = (zeros, refl);
-      long = omega (arith, length-append (its-table f) zeros, length-replicate {A = ℕ} greatest-table 0);
+      long = omega (arith, length-append (its-table f) zeros, length-replicate {A = ℕ} most 0);
     }
 
 -- ---- after each turn
@@ -126,8 +126,8 @@ module _ {o : Option Good-file} {s : Lent} {r : Register} (st : Stands o s r) wh
 
   module _ (f : Good-file) (room : List ℕ) (enough : length (its-table f) ≤ length room) where
     -- the same load, in a room of bytes that stand for the table before it
-    abbrev before : Roomy o
-    before = roomy o
+    abbrev before : Roomy greatest-table o
+    before = roomy greatest-table o
 
     abbrev elsewhere : Lent
     elsewhere = left (over (before .bytes) s) (load-again (f .text))
