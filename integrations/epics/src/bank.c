@@ -126,12 +126,18 @@ void bank_empty(void)
 
 /* ---- rights */
 
+int telling;
+
+/* The callback may remove the client. */
 static void settle(ASGCLIENT *client, asAccessRights before, enum hrazvanut_access access, bool trap)
 {
     client->access = access == HRAZVANUT_WRITE ? asWRITE : access == HRAZVANUT_READ ? asREAD : asNOACCESS;
     client->trapMask = trap ? AS_TRAP_WRITE : 0;
-    if (client->pcallback && client->access != before)
-        client->pcallback(client, asClientCOAR);
+    if (!client->pcallback || client->access == before)
+        return;
+    telling++;
+    client->pcallback(client, asClientCOAR);
+    telling--;
 }
 
 static void settle_place(const struct place *place, asAccessRights before)

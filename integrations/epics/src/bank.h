@@ -6,6 +6,9 @@
 
 #include "preload.h"
 
+/* How many callbacks are under way, one within the other. */
+extern int telling;
+
 /* Nobody has a place, and no register is left: the table in force is another. */
 void bank_empty(void);
 

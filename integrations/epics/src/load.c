@@ -168,6 +168,8 @@ static long first_time(void)
 static long again(struct job *job)
 {
     (void)job;
+    if (telling)
+        return S_asLib_InitFailed; /* whoever tells is in the midst of the lists */
     struct aside *aside = calloc(count_members() + 1, sizeof *aside);
     if (!aside)
         return S_asLib_noMemory;
@@ -256,7 +258,9 @@ static long load(const char *from, size_t length, const char *substitutions)
         return status;
     status = active() ? locked(&job) : first_time();
     if (status)
-        return refuse(from, status == S_asLib_noMemory ? "no memory" : "EPICS does not take its groups and inputs");
+        return refuse(from, status == S_asLib_noMemory     ? "no memory"
+                            : status == S_asLib_InitFailed ? "a callback of a client asked for it"
+                                                           : "EPICS does not take its groups and inputs");
     say_warnings(from, file);
     if (by_address)
         say("%s: asCheckClientIP is set: a HAG must list addresses, a name in it matches nobody\n", from);

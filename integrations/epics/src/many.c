@@ -119,6 +119,113 @@ static void reloaded(void)
             asRemoveClient(&many[i].client);
 }
 
+/* ---- callbacks that remove clients and members: themselves, the one behind them or the one before */
+
+enum { FEW = 8 };
+enum removal { CLIENT, WITH_MEMBER, TO_SHUT };
+
+static const char watched[] = "ASG(DEFAULT) {INPA(s) RULE(1,READ) RULE(1,WRITE) {CALC(\"A<1\")}} ASG(shut) {INPA(s)}\n"
+                              "ASG(other) {RULE(1,READ)}";
+static ASMEMBERPVT of[FEW];
+static int further;
+static enum removal removal;
+
+static void remove_one(ASCLIENTPVT one, asClientStatus status)
+{
+    int i = 0;
+    while (many[i].client != one)
+        i++;
+    i = (i + further) % FEW;
+    count_one(one, status);
+    if (removal == TO_SHUT) {
+        if (strcmp(of[i]->pasg->name, "shut") != 0)
+            asChangeGroup(&of[i], "shut");
+        return;
+    }
+    if (many[i].client)
+        asRemoveClient(&many[i].client);
+    if (removal == WITH_MEMBER && of[i])
+        asRemoveMember(&of[i]);
+}
+
+/* The clients write: all of one member, or each of its own. */
+static void gather(const char *user, int members_of_their_own)
+{
+    asInitMem(watched, NULL);
+    event(1, 0.02);
+    for (int i = 0; i < FEW; i++) {
+        if (i == 0 || members_of_their_own)
+            asAddMember(&of[i], "");
+        come(i, of[members_of_their_own ? i : 0], 1, user, host);
+        many[i].client->pcallback = remove_one;
+    }
+}
+
+/* Whether those that are left have their right and were told of it, once, and the others at most once. */
+static int part(void)
+{
+    int right = 1, left = 0;
+    for (int i = 0; i < FEW; i++) {
+        const ASGCLIENT *one = many[i].client;
+        int shut = one && !strcmp(one->pasgMember->pasg->name, "shut");
+        left += one != NULL;
+        right &= one ? one->access == (shut ? asNOACCESS : asREAD) && (many[i].told == 1 || (shut && many[i].told == 2)) : many[i].told <= 1;
+        many[i].told = 0;
+    }
+    for (int i = 0; i < FEW; i++)
+        if (many[i].client)
+            asRemoveClient(&many[i].client);
+    for (int i = 0; i < FEW; i++)
+        if (of[i])
+            asRemoveMember(&of[i]);
+    return right && (left > 0) == (further != 0 || removal == TO_SHUT);
+}
+
+static void by_event(void) { event(1, 3); }
+static void by_load(void) { asInitMem(watched, NULL); }
+static void by_group(void) { asChangeGroup(&of[0], "other"); }
+
+/* Short names have a place in a register, those of 61 bytes have none. */
+static int all_ways(void (*cause)(void), enum removal what)
+{
+    static const int ways[] = {0, 1, FEW - 1};
+    char sixty_one[62] = "";
+    int right = 1;
+    memset(sixty_one, 'a', 61);
+    removal = what;
+    for (int i = 0; i < 6; i++) {
+        further = ways[i % 3];
+        gather(i < 3 ? "ann" : sixty_one, what != CLIENT);
+        cause();
+        right &= part();
+    }
+    return right;
+}
+
+static int asked;
+
+static void load_in_callback(ASCLIENTPVT one, asClientStatus status)
+{
+    count_one(one, status);
+    asked += asInitMem(watched, NULL) != 0;
+}
+
+static void callbacks_remove(void)
+{
+    check(all_ways(by_event, CLIENT), "an event, and each callback removes a client");
+    check(all_ways(by_load, CLIENT), "a load");
+    check(all_ways(by_group, CLIENT), "another group");
+    check(all_ways(by_event, WITH_MEMBER) && all_ways(by_load, WITH_MEMBER), "an event and a load: each removes a client with its member");
+    check(all_ways(by_event, TO_SHUT) && all_ways(by_load, TO_SHUT), "each moves a member to another group");
+    gather("ann", 0);
+    further = 1;
+    removal = CLIENT;
+    for (int i = 0; i < FEW; i++)
+        many[i].client->pcallback = load_in_callback;
+    event(1, 3);
+    check(asked == FEW && part(), "each callback loads a file: refused");
+}
+
 /* ---- a fresh question: the trial has a library of its own, and knows what it told EPICS */
 
 /* As users and as hosts: of 60, 61 and 300 bytes too. Some stand in lists. */
@@ -320,6 +427,7 @@ void many_clients(int scarce)
     check(scarce || *registers == 4, "no more of them: places that are free are taken again");
     callback_acts();
     reloaded();
+    callbacks_remove();
     long_names();
     at_random();
 }

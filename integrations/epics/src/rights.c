@@ -31,6 +31,35 @@ long locked(struct job *job)
     return status ? status : job->status;
 }
 
+/* ---- walks that lead to callbacks, which may take any client and any member off its list */
+
+struct walk {
+    ELLNODE *next;
+    struct walk *outer;
+};
+
+static struct walk *walks; /* under way, the innermost first */
+
+static void walk(const ELLLIST *list, void (*visit)(void *))
+{
+    struct walk here = {.next = ellFirst(list), .outer = walks};
+    walks = &here;
+    while (here.next) {
+        ELLNODE *node = here.next;
+        here.next = ellNext(node);
+        visit(node);
+    }
+    walks = here.outer;
+}
+
+/* A node has left its list: who was about to go there goes to the one behind it. */
+static void pass_by(const ELLNODE *gone, ELLNODE *behind)
+{
+    for (struct walk *each = walks; each; each = each->outer)
+        if (each->next == gone)
+            each->next = behind;
+}
+
 /* ---- a question */
 
 static int is_bad(const ASG *group, int letter) { return (group->inpBad >> letter & 1) != 0; }
@@ -73,18 +102,15 @@ static void judge(ASGCLIENT *client, asAccessRights before)
     bank_judge(client, before, &question);
 }
 
-static void judge_member(const ASGMEMBER *member)
+static void judge_again(void *client) { judge(client, ((ASGCLIENT *)client)->access); }
+
+static void judge_without_place(void *client)
 {
-    for EACH (ASGCLIENT, client, &member->clientList)
-        judge(client, client->access);
+    if (!bank_has(client))
+        judge_again(client);
 }
 
-static void judge_without_place(const ASGMEMBER *member)
-{
-    for EACH (ASGCLIENT, client, &member->clientList)
-        if (!bank_has(client))
-            judge(client, client->access);
-}
+static void judge_member_without_place(void *member) { walk(&((ASGMEMBER *)member)->clientList, judge_without_place); }
 
 /* EPICS calls an input good before it stores the value; so what is stored for a bad one is made no number. One that is none
  * already is left alone, and the value is read first: EPICS may be storing a good one. */
@@ -99,20 +125,15 @@ static void spoil_bad(ASG *group)
         }
 }
 
-static void judge_group(ASG *group)
+static void judge_group(void *group)
 {
     spoil_bad(group);
     struct hrazvanut_question question = known(group);
     if (bank_hear(group, &question))
-        for EACH (ASGMEMBER, member, &group->memberList)
-            judge_without_place(member);
+        walk(&((ASG *)group)->memberList, judge_member_without_place);
 }
 
-void judge_all(void)
-{
-    for EACH (ASG, group, groups())
-        judge_group(group);
-}
+void judge_all(void) { walk(groups(), judge_group); }
 
 /* ---- sensors */
 
@@ -226,9 +247,14 @@ static long change_client(struct job *job)
 static long remove_client(struct job *job)
 {
     ASGCLIENT *client = *job->client;
+    if (foreign)
+        return REAL(asRemoveClient)(job->client);
+    ELLNODE *behind = ellNext(&client->node);
     long status = REAL(asRemoveClient)(job->client);
-    if (!status && !foreign)
+    if (!status) {
+        pass_by(&client->node, behind);
         bank_leave(client);
+    }
     return status;
 }
 
@@ -266,15 +292,29 @@ static long move_member(struct job *job, long (*move)(ASMEMBERPVT *, const char 
         return move(job->member, job->name);
     clients = member->clientList;
     ellInit(&member->clientList);
+    ELLNODE *behind = ellNext(&member->node);
     long status = move(job->member, job->name);
+    pass_by(&member->node, behind);
     member->clientList = clients;
-    judge_member(member);
+    walk(&member->clientList, judge_again);
     return status;
 }
 
 static long add_member(struct job *job) { return move_member(job, REAL(asAddMember)); }
 
 static long change_group(struct job *job) { return move_member(job, REAL(asChangeGroup)); }
+
+static long remove_member(struct job *job)
+{
+    ASGMEMBER *member = *job->member;
+    if (!member || foreign)
+        return REAL(asRemoveMember)(job->member);
+    ELLNODE *behind = ellNext(&member->node);
+    long status = REAL(asRemoveMember)(job->member);
+    if (!status)
+        pass_by(&member->node, behind);
+    return status;
+}
 
 EXPORT long asAddMember(ASMEMBERPVT *member, const char *name)
 {
@@ -285,5 +325,11 @@ EXPORT long asAddMember(ASMEMBERPVT *member, const char *name)
 EXPORT long asChangeGroup(ASMEMBERPVT *member, const char *name)
 {
     struct job job = {.run = change_group, .member = member, .name = name};
+    return locked(&job);
+}
+
+EXPORT long asRemoveMember(ASMEMBERPVT *member)
+{
+    struct job job = {.run = remove_member, .member = member};
     return locked(&job);
 }
