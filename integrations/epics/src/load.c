@@ -72,7 +72,10 @@ static void say_warnings(const char *from, struct hrazvanut_text file)
 struct aside {
     ASGMEMBER *member;
     ELLLIST clients;
+    int at_home; /* it stood in the group that its record names */
 };
+
+static int is_at_home(const ASGMEMBER *member) { return strcmp(member->asgName, member->pasg->name) == 0; }
 
 static size_t count_members(void)
 {
@@ -90,6 +93,7 @@ static size_t set_aside(struct aside *aside)
         for EACH (ASGMEMBER, member, &group->memberList)
             if (ellCount(&member->clientList) > 0) {
                 aside[count].member = member;
+                aside[count].at_home = is_at_home(member);
                 aside[count++].clients = member->clientList;
                 ellInit(&member->clientList);
             }
@@ -102,19 +106,21 @@ static void put_back(const struct aside *aside, size_t count)
         aside[i].member->clientList = aside[i].clients;
 }
 
-/* A group that went away under its clients. */
-static void say_homeless(const struct aside *aside, size_t count)
+/* Each group that went away under its clients. */
+static void say_homeless(struct aside *aside, size_t count)
 {
-    size_t homeless = 0;
-    const char *name = "";
-    for (size_t i = 0; i < count; i++)
-        if (*aside[i].member->asgName && strcmp(aside[i].member->asgName, aside[i].member->pasg->name) != 0) {
-            name = aside[i].member->asgName;
-            homeless++;
-        }
-    if (homeless)
-        say("group %s, of %zu records in use, is not in the file: they go to DEFAULT, and have no access if there is none\n", name,
-            homeless);
+    for (size_t i = 0; i < count; i++) {
+        const char *name = aside[i].member->asgName;
+        size_t homeless = 0;
+        if (!aside[i].at_home || is_at_home(aside[i].member))
+            continue;
+        for (size_t j = i; j < count; j++)
+            if (aside[j].at_home && strcmp(aside[j].member->asgName, name) == 0) {
+                aside[j].at_home = 0; /* it is counted */
+                homeless++;
+            }
+        say("group %s, of %zu records in use, is not in the file: they go to DEFAULT, and have no access if there is none\n", name, homeless);
+    }
 }
 
 /* ---- the rules change */
@@ -177,10 +183,10 @@ static long again(struct job *job)
     long status = give_plan();
     put_back(aside, count);
     if (!status) {
+        say_homeless(aside, count); /* before a callback can remove a member */
         put_in_force();
         unhear();
         judge_all();
-        say_homeless(aside, count);
     }
     free(aside);
     return status;

@@ -168,8 +168,9 @@ static int part(void)
     for (int i = 0; i < FEW; i++) {
         const ASGCLIENT *one = many[i].client;
         int shut = one && !strcmp(one->pasgMember->pasg->name, "shut");
+        int told = many[i].told;
         left += one != NULL;
-        right &= one ? one->access == (shut ? asNOACCESS : asREAD) && (many[i].told == 1 || (shut && many[i].told == 2)) : many[i].told <= 1;
+        right &= one ? one->access == (shut ? asNOACCESS : asREAD) && (told == 1 || (shut && told == 2)) : told <= 1;
         many[i].told = 0;
     }
     for (int i = 0; i < FEW; i++)

@@ -280,6 +280,41 @@ static void loads(void)
         fclose(failing);
 }
 
+static int gone_a, gone_b, gone;
+
+/* Counts what is said of groups that went away. */
+static void listen(void *nothing, const char *line)
+{
+    (void)nothing;
+    gone_a += strstr(line, "group a, of 2 records in use, is not in the file") != NULL;
+    gone_b += strstr(line, "group b, of 1 records in use, is not in the file") != NULL;
+    gone += strstr(line, "is not in the file") != NULL;
+}
+
+static void groups_gone(void)
+{
+    static const char *const of[] = {"a", "b", "a", "never", ""};
+    ASMEMBERPVT m[5] = {0};
+    ASCLIENTPVT c[5];
+    asInitMem("ASG(a) ASG(b) ASG(DEFAULT)", NULL);
+    for (int i = 0; i < 5; i++) {
+        asAddMember(&m[i], of[i]);
+        asAddClient(&c[i], m[i], 0, "ann", host);
+    }
+    errlogAddListener(listen, NULL);
+    asInitMem("ASG(other)", NULL);
+    errlogFlush();
+    check(gone_a == 1 && gone_b == 1 && gone == 2, "two groups are gone: a line for each, none for a third that never was");
+    asInitMem(rules, NULL);
+    errlogFlush();
+    check(gone == 2, "a load later nothing more is said of them");
+    errlogRemoveListeners(listen, NULL);
+    for (int i = 0; i < 5; i++) {
+        asRemoveClient(&c[i]);
+        asRemoveMember(&m[i]);
+    }
+}
+
 static void addresses(void)
 {
     static const char by_address[] = "HAG(h) {pc1, 10.0.0.7} ASG(DEFAULT) {RULE(1,WRITE) {HAG(h)}}";
@@ -337,6 +372,7 @@ int main(int count_of_words, char **words)
         clients();
         field_written();
         loads();
+        groups_gone();
         addresses();
         threads();
     }
