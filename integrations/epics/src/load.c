@@ -49,7 +49,7 @@ static size_t line_of(size_t place)
 static const char *warning_words(enum hrazvanut_warning_kind kind)
 {
     switch (kind) {
-    case HRAZVANUT_UNKNOWN_ITEM: return "unknown item, left out";
+    case HRAZVANUT_UNKNOWN_ITEM: return "unknown item, left out; if it was meant as an ASG, its records go to DEFAULT";
     case HRAZVANUT_UNKNOWN_PREDICATE: return "unknown predicate, its rule never passes";
     }
     return "unknown warning";
