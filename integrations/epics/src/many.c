@@ -130,6 +130,8 @@ static ASMEMBERPVT of[FEW];
 static int further;
 static enum removal removal;
 
+static int is_shut(const ASGCLIENT *one) { return !strcmp(one->pasgMember->pasg->name, "shut"); }
+
 static void remove_one(ASCLIENTPVT one, asClientStatus status)
 {
     int i = 0;
@@ -138,7 +140,7 @@ static void remove_one(ASCLIENTPVT one, asClientStatus status)
     i = (i + further) % FEW;
     count_one(one, status);
     if (removal == TO_SHUT) {
-        if (strcmp(of[i]->pasg->name, "shut") != 0)
+        if (!is_shut(one))
             asChangeGroup(&of[i], "shut");
         return;
     }
@@ -167,7 +169,7 @@ static int part(void)
     int right = 1, left = 0;
     for (int i = 0; i < FEW; i++) {
         const ASGCLIENT *one = many[i].client;
-        int shut = one && !strcmp(one->pasgMember->pasg->name, "shut");
+        int shut = one && is_shut(one);
         int told = many[i].told;
         left += one != NULL;
         right &= one ? one->access == (shut ? asNOACCESS : asREAD) && (told == 1 || (shut && told == 2)) : told <= 1;
