@@ -559,6 +559,8 @@ static void numbers(struct hrazvanut_table table)
     CHECK(hrazvanut_abi_find_input(table.start, 0, ann, 0, 0) == none);
     CHECK(hrazvanut_abi_find_input(table.start, table.length, ann, 0, 1) == UINT64_C(22) << 48);
     CHECK(hrazvanut_abi_find_input(table.start, table.length, ann, 0, 0) >> 32 == 6);
+    CHECK(hrazvanut_abi_find_input_checked(bytes, length, ann, 0, 0) == hrazvanut_abi_find_input(bytes, length, ann, 0, 0));
+    CHECK(hrazvanut_abi_find_input_checked(bytes, length, ann, 0, 256) == UINT64_C(22) << 48);
     CHECK(hrazvanut_abi_allowed(ann, 3) == 0 && hrazvanut_abi_allowed(ann, 1) == 1);
 }
 
@@ -577,21 +579,36 @@ static void questions(void)
 
 /* ---- look-ups and calculations */
 
-static void look_ups(void)
+static const uint32_t letters_without[] = {1, 19, 21, 255, 256, 65536, UINT32_MAX};
+
+/* With the check, or without it. */
+typedef struct hrazvanut_found looking_up(struct hrazvanut_table, struct hrazvanut_text, uint32_t);
+
+static void look_ups_by(looking_up *find, struct hrazvanut_table table)
 {
-    static const uint32_t letters_without[] = {1, 19, 21, 255, 256, 65536, UINT32_MAX};
-    struct hrazvanut_table none = ZERO, table = load(site).table;
     struct hrazvanut_text no_group = ZERO;
-    struct hrazvanut_found found = hrazvanut_find_input(table, no_group, 0);
+    struct hrazvanut_found found = find(table, no_group, 0);
     size_t i;
     CHECK(found.refusal == HRAZVANUT_NOT_REFUSED && is_text(found.name, "B1:PGA"));
     CHECK(found.name.start == (const char *)table.start + found.at);
-    CHECK(is_text(hrazvanut_find_input(table, hrazvanut_string("nowhere"), 20).name, "B1:KEY"));
-    CHECK(hrazvanut_find_input(table, hrazvanut_string("tower"), 0).refusal == HRAZVANUT_REFUSED_NO_INPUT);
+    CHECK(is_text(find(table, hrazvanut_string("nowhere"), 20).name, "B1:KEY"));
+    CHECK(find(table, hrazvanut_string("tower"), 0).refusal == HRAZVANUT_REFUSED_NO_INPUT);
     for (i = 0; i < sizeof letters_without / sizeof *letters_without; i++) {
-        found = hrazvanut_find_input(table, no_group, letters_without[i]);
+        found = find(table, no_group, letters_without[i]);
         CHECK(found.refusal == HRAZVANUT_REFUSED_NO_INPUT);
         CHECK(found.name.start == NULL && found.name.length == 0 && found.at == 0);
+    }
+}
+
+static void look_ups(void)
+{
+    struct hrazvanut_table none = ZERO, table = load(site).table;
+    struct hrazvanut_text no_group = ZERO;
+    struct hrazvanut_found found;
+    size_t i;
+    look_ups_by(hrazvanut_find_input, table);
+    look_ups_by(hrazvanut_find_input_checked, table);
+    for (i = 0; i < sizeof letters_without / sizeof *letters_without; i++) {
         found = hrazvanut_find_input(none, no_group, letters_without[i]);
         CHECK(found.refusal == HRAZVANUT_REFUSED_NOT_TABLE);
         CHECK(found.name.start == NULL && found.name.length == 0 && found.at == 0);

@@ -19,6 +19,7 @@ struct input {
     const char *name;
     struct hrazvanut_text text;   /* a file, a calculation, a name */
     struct hrazvanut_table table; /* of the questions */
+    bool is_table;                /* asked before, so that calls without the check do without it */
 };
 
 static uint8_t lent[HRAZVANUT_TABLE];
@@ -72,11 +73,17 @@ static void call_decide(const struct input *in)
 static void call_decide_checked(const struct input *in)
 {
     struct hrazvanut_question question = question_of(in);
-    if (hrazvanut_is_table(in->table))
+    if (in->is_table)
         hrazvanut_decide_checked(in->table, &question);
 }
 
 static void call_find_input(const struct input *in) { hrazvanut_find_input(in->table, in->text, 20); }
+
+static void call_find_input_checked(const struct input *in)
+{
+    if (in->is_table)
+        hrazvanut_find_input_checked(in->table, in->text, 20);
+}
 
 static void call_stopping_input(const struct input *in) { hrazvanut_stopping_input(in->table, in->text, 'U'); }
 
@@ -87,10 +94,26 @@ static void call_group_at(const struct input *in)
     hrazvanut_group_at(in->table, SIZE_MAX);
 }
 
+static void call_group_at_checked(const struct input *in)
+{
+    if (!in->is_table)
+        return;
+    hrazvanut_group_at_checked(in->table, 0);
+    hrazvanut_group_at_checked(in->table, HRAZVANUT_GROUPS - 1);
+    hrazvanut_group_at_checked(in->table, SIZE_MAX);
+}
+
 static void call_next_input(const struct input *in)
 {
     struct hrazvanut_input input = {.next = 0};
     while (hrazvanut_next_input(in->table, &input)) {
+    }
+}
+
+static void call_next_input_checked(const struct input *in)
+{
+    struct hrazvanut_input input = {.next = 0};
+    while (in->is_table && hrazvanut_next_input_checked(in->table, &input)) {
     }
 }
 
@@ -140,7 +163,7 @@ static void call_all_checked(const struct input *in)
     struct hrazvanut_client client = client_of(in);
     struct hrazvanut_reading reading = {.state = HRAZVANUT_VALUE, .value = 1};
     struct hrazvanut_text none = {.length = 0};
-    if (!hrazvanut_is_table(in->table))
+    if (!in->is_table)
         return;
     hrazvanut_set_reading_checked(&reg, in->table, none, 0, reading);
     hrazvanut_change_client_checked(&reg, in->table, 62, &client);
@@ -165,16 +188,19 @@ static const struct call {
     {"hrazvanut_decide", call_decide},
     {"hrazvanut_decide_checked", call_decide_checked},
     {"hrazvanut_find_input", call_find_input},
+    {"hrazvanut_find_input_checked", call_find_input_checked},
     {"hrazvanut_stopping_input", call_stopping_input},
     {"hrazvanut_group_at", call_group_at},
+    {"hrazvanut_group_at_checked", call_group_at_checked},
     {"hrazvanut_next_input", call_next_input},
+    {"hrazvanut_next_input_checked", call_next_input_checked},
     {"hrazvanut_version", call_version},
     {"hrazvanut_allowed", call_allowed},
     {"hrazvanut_add_client", call_add_client},
     {"hrazvanut_change_client", call_change_client},
     {"hrazvanut_remove_client", call_remove_client},
     {"hrazvanut_set_reading", call_set_reading},
-    {"these, with _checked", call_all_checked},
+    {"set, change, add, _checked", call_all_checked},
     {"hrazvanut_reload", call_reload},
     {"hrazvanut_right_of", call_right_of},
 };
@@ -230,7 +256,7 @@ static void add(const char *name, struct hrazvanut_text text, struct hrazvanut_t
 {
     if (count == INPUTS)
         abort();
-    inputs[count++] = (struct input){.name = name, .text = text, .table = table};
+    inputs[count++] = (struct input){.name = name, .text = text, .table = table, .is_table = hrazvanut_is_table(table)};
 }
 
 /* A text again and again, up to a length. */
@@ -330,7 +356,7 @@ int main(void)
             if (used > most)
                 most = used;
         }
-        printf("%-26s %6zu bytes of stack at most\n", calls[c].name, most > base ? most - base : 0);
+        printf("%-28s %6zu bytes of stack at most\n", calls[c].name, most > base ? most - base : 0);
         if (most > base + MOST) {
             bad = 1;
             printf("%s needs more than %d bytes\n", calls[c].name, MOST);

@@ -21,7 +21,9 @@ int main(void)
            (int)hrazvanut_set_reading(&reg, table, text, 0, reading).refusal + (int)hrazvanut_reload(&reg, text, room).loaded.refusal +
            (int)hrazvanut_right_of(&reg, 0).access + (int)hrazvanut_stopping_input(table, text, 0).refusal +
            (int)hrazvanut_group_at(table, 0).refusal + hrazvanut_next_input(table, &input) + (int)hrazvanut_version() +
-           (int)hrazvanut_find_input(table, input.group, input.letter).refusal;
+           (int)hrazvanut_find_input(table, input.group, input.letter).refusal +
+           (int)hrazvanut_find_input_checked(table, input.group, input.letter).refusal +
+           (int)hrazvanut_group_at_checked(table, 0).refusal + hrazvanut_next_input_checked(table, &input);
 #elif WRONG == 1
     return (int)hrazvanut_load(room, text).refusal;
 #elif WRONG == 2
@@ -81,5 +83,17 @@ int main(void)
     return (int)hrazvanut_find_input(table, input, 0).refusal;
 #elif WRONG == 28
     return (int)hrazvanut_version(table);
+#elif WRONG == 29
+    return (int)hrazvanut_find_input_checked(text, table, 0).refusal;
+#elif WRONG == 30
+    return (int)hrazvanut_find_input_checked(table, input, 0).refusal;
+#elif WRONG == 31
+    return (int)hrazvanut_group_at_checked(0, table).refusal;
+#elif WRONG == 32
+    return (int)hrazvanut_group_at_checked(text, 0).refusal;
+#elif WRONG == 33
+    return hrazvanut_next_input_checked(&input, table);
+#elif WRONG == 34
+    return hrazvanut_next_input_checked(room, &input);
 #endif
 }

@@ -38,18 +38,28 @@ static const char site[] = "UAG(users) {ann} HAG(hosts) {pc1}\n"
 
 /* ---- by number */
 
+static bool same_found(struct hrazvanut_found a, struct hrazvanut_found b)
+{
+    return a.refusal == b.refusal && same_text(a.name, b.name) && a.at == b.at;
+}
+
 static bool is_group(struct hrazvanut_table table, size_t number, const char *name)
 {
     struct hrazvanut_found found = hrazvanut_group_at(table, number);
-    return found.refusal == HRAZVANUT_NOT_REFUSED && is_text(found.name, name) && found.name.start == (const char *)table.start + found.at;
+    return found.refusal == HRAZVANUT_NOT_REFUSED && is_text(found.name, name) &&
+           found.name.start == (const char *)table.start + found.at && same_found(hrazvanut_group_at_checked(table, number), found);
 }
 
+/* Without the check too, if the bytes are a table. */
 static bool is_no_group(struct hrazvanut_table table, size_t number, enum hrazvanut_refusal refusal)
 {
     struct hrazvanut_found found = hrazvanut_group_at(table, number);
     bool none = found.name.start == NULL && found.name.length == 0 && found.at == 0;
+    bool checked = hrazvanut_is_table(table);
     return found.refusal == refusal && none &&
-           hrazvanut_abi_group_at(hrazvanut_abi_bytes(table.start, table.length), table.length, number) == (uint64_t)refusal << 48;
+           hrazvanut_abi_group_at(hrazvanut_abi_bytes(table.start, table.length), table.length, number) == (uint64_t)refusal << 48 &&
+           (!checked || same_found(hrazvanut_group_at_checked(table, number), found)) &&
+           (!checked || hrazvanut_abi_group_at_checked(table.start, table.length, number) == (uint64_t)refusal << 48);
 }
 
 /* Numbers that three groups have not; some of them are theirs in fewer bits. */
@@ -75,6 +85,7 @@ static void by_number(void)
     CHECK(hrazvanut_abi_group_at(table.start, table.length, 0) == (place | UINT64_C(5) << 32));
     CHECK(hrazvanut_abi_group_at(table.start, table.length, 1) == place + 5);
     CHECK(hrazvanut_abi_group_at(table.start, table.length, 2) == ((place + 5) | UINT64_C(7) << 32));
+    CHECK(hrazvanut_abi_group_at_checked(table.start, table.length, 2) == ((place + 5) | UINT64_C(7) << 32));
     no_groups(table, HRAZVANUT_REFUSED_NO_INPUT);
     CHECK(memcmp(stored, lent, sizeof lent) == 0);
     table.length = sizeof lent;
@@ -96,30 +107,38 @@ struct told {
 
 static const struct told of_site[] = {{"tower", 'A', "T:A"}, {"tower", 'C', "T:C"}, {"DEFAULT", 'A', ""}, {"DEFAULT", 'U', "D:U"}};
 
-/* It stays at its end, and the input is as it was. */
+static bool same_input(struct hrazvanut_input a, struct hrazvanut_input b)
+{
+    return same_text(a.group, b.group) && a.letter == b.letter && same_text(a.name, b.name);
+}
+
+/* It stays at its end, and the input is as it was; without the check too, if the bytes are a table. */
 static bool is_over(struct hrazvanut_table table, struct hrazvanut_input input)
 {
-    struct hrazvanut_input was = input;
+    struct hrazvanut_input was = input, checked = input;
+    bool is_table = hrazvanut_is_table(table);
     int i;
     for (i = 0; i < 3; i++)
-        if (hrazvanut_next_input(table, &input) || !same_text(input.group, was.group) || input.letter != was.letter ||
-            !same_text(input.name, was.name))
+        if (hrazvanut_next_input(table, &input) || !same_input(input, was) ||
+            (is_table && (hrazvanut_next_input_checked(table, &checked) || !same_input(checked, was) || checked.next != input.next)))
             return false;
     return true;
 }
 
-/* From this input on these are told, and no more. Each is a part of the table, and what a look-up finds. */
+/* From this input on these are told, and no more, with the check and without it. Each is a part of the table, and what a look-up finds. */
 static void tells(struct hrazvanut_table table, struct hrazvanut_input input, const struct told *told, size_t count)
 {
+    struct hrazvanut_input checked = input;
     size_t i;
     for (i = 0; i < count; i++) {
         bool more = hrazvanut_next_input(table, &input);
-        CHECK(more);
+        CHECK(more && hrazvanut_next_input_checked(table, &checked) && same_input(checked, input) && checked.next == input.next);
         if (!more)
             return;
         CHECK(is_text(input.group, told[i].group) && is_text(input.name, told[i].name));
         CHECK(input.letter == (uint32_t)(told[i].letter - 'A'));
         CHECK(same_text(input.name, hrazvanut_find_input(table, input.group, input.letter).name));
+        CHECK(same_text(input.name, hrazvanut_find_input_checked(table, input.group, input.letter).name));
         CHECK((const uint8_t *)input.group.start > table.start && (const uint8_t *)input.name.start > table.start);
     }
     CHECK(is_over(table, input));
@@ -235,14 +254,17 @@ static void most_groups(void)
     CHECK(is_over(table, input_at(64 * 21)));
 }
 
-/* As many inputs as a table has: each once, by group and letter, whichever order the file has them in. The last group has eight. */
+/* As many inputs as a table has, and not one more: each once, by group and letter, whichever order the file has them in. The last group has
+ * eight. */
 static void most_inputs(void)
 {
     static char text[HRAZVANUT_FILE] = "";
-    struct hrazvanut_input input = ZERO;
+    struct hrazvanut_input input = ZERO, checked = ZERO;
     struct hrazvanut_table table;
+    struct hrazvanut_room room = ZERO;
     char group[16], name[16];
     unsigned i, letter, told;
+    CHECK(HRAZVANUT_INPUTS == 512);
     for (i = 0; i < 25; i++) {
         sprintf(text + strlen(text), "ASG(g%u) {", i);
         for (letter = i < 24 ? 21 : 8; letter-- > 0;)
@@ -254,8 +276,11 @@ static void most_inputs(void)
         sprintf(group, "g%u", told / 21);
         sprintf(name, "v%u", told);
         CHECK(is_text(input.group, group) && input.letter == told % 21 && is_text(input.name, name));
+        CHECK(hrazvanut_next_input_checked(table, &checked) && same_input(checked, input));
     }
-    CHECK(told == 512 && is_over(table, input));
+    CHECK(told == HRAZVANUT_INPUTS && is_over(table, input));
+    strcat(text, "ASG(one) {INPA(more)}");
+    CHECK(hrazvanut_load(hrazvanut_string(text), room).refusal == HRAZVANUT_REFUSED_TOO_MANY);
 }
 
 void walks(void)

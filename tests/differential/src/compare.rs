@@ -4,7 +4,7 @@
 use inputs::question::Owned;
 use inputs::random::Random;
 use library::{Asked, Decision, Found, List, Load, Pool};
-use paper::table::{View, ACCESS_GROUPS};
+use paper::table::{View, ACCESS_GROUPS, INPUTS};
 use paper::{Access, Answer};
 use std::collections::BTreeMap;
 use std::fmt::Debug;
@@ -129,7 +129,7 @@ impl Comparison {
         self.count(format!("decide {:2} {} {}{stopped}", paper.refusal, paper.access, paper.trap));
         let describe = |name: &str| format!("{name}\ntable {}\n{}", hex(table), described(question));
         self.same(paper, library::decide(table, &asked(question)), || describe("decide"))?;
-        if !paper::is_table(table) || !library::is_table(table) {
+        if !both_say_table(table) {
             return Ok(());
         }
         // SAFETY: the library has just said so of these bytes.
@@ -155,7 +155,7 @@ impl Comparison {
         let describe = || format!("pool {pool:?}\ntable {}\n{}", hex(table), described(question));
         let asked = asked(question);
         self.same(paper.number(), library::decide_pool(table, &asked, &pool), describe)?;
-        if !paper::is_table(table) || !library::is_table(table) {
+        if !both_say_table(table) {
             return Ok(());
         }
         // SAFETY: the library has just said so of these bytes.
@@ -176,20 +176,32 @@ impl Comparison {
     pub fn find_input(&mut self, table: &[u8], group: &[u8], letter: u32) -> Go {
         let paper = found_by_paper(table, group, letter);
         self.count(format!("find_input {:2}", paper.refusal));
-        self.same(paper, library::find_input(table, group, letter), || {
-            format!("find_input of letter {letter} in group {}\ntable {}", hex(group), hex(table))
-        })
+        let describe =
+            |name: &str| format!("{name} of letter {letter} in group {}\ntable {}", hex(group), hex(table));
+        self.same(paper, library::find_input(table, group, letter), || describe("find_input"))?;
+        if !both_say_table(table) {
+            return Ok(());
+        }
+        // SAFETY: the library has just said so of these bytes.
+        let library = unsafe { library::find_input_checked(table, group, letter) };
+        self.same(paper, library, || describe("find_input_checked"))
     }
 
-    /// Each access group by its number, and numbers of which there is none; the bytes
-    /// of the table stay.
+    /// Each access group by its number, and numbers of which there is none, without
+    /// the check too if it is a table; the bytes of the table stay.
     pub fn groups(&mut self, random: &mut Random, table: &[u8]) -> Go {
         let lent = Lent::of(random, table);
         let mut theirs = Lent { whole: lent.whole.clone() };
+        let checked = both_say_table(table);
         for number in group_numbers(random, table) {
             let paper = found(paper::group_at(table, number));
             self.count(format!("group_at {:2}", paper.refusal));
-            let library = library::group_at(theirs.part(), number);
+            let mut library = vec![library::group_at(theirs.part(), number)];
+            if checked {
+                // SAFETY: the library has said so of these bytes.
+                library.push(unsafe { library::group_at_checked(theirs.part(), number) });
+            }
+            let paper = vec![paper; library.len()];
             if paper != library {
                 return self.same(paper, library, || format!("group_at {number}\ntable {}", hex(table)));
             }
@@ -199,15 +211,21 @@ impl Comparison {
         })
     }
 
-    /// The inputs that a walk tells; the bytes of the table stay.
+    /// The inputs that a walk tells, with and without the check; the bytes of the table
+    /// stay.
     pub fn walk(&mut self, random: &mut Random, table: &[u8]) -> Go {
         let lent = Lent::of(random, table);
         let mut theirs = Lent { whole: lent.whole.clone() };
         let paper = paper::inputs(table);
         self.count(format!("walk over {} inputs", if paper.is_empty() { "no" } else { "some" }));
-        let (library, ends) = library::walk(theirs.part());
+        let mut library = vec![library::walk(theirs.part())];
+        if both_say_table(table) {
+            // SAFETY: the library has just said so of these bytes.
+            library.push(unsafe { library::walk_checked(theirs.part()) });
+        }
+        let paper = vec![(paper, true); library.len()];
         let written = first_difference(&lent.whole, &theirs.whole);
-        self.same((paper, true, None), (library, ends, written), || format!("walk\ntable {}", hex(table)))
+        self.same((paper, None), (library, written), || format!("walk\ntable {}", hex(table)))
     }
 
     /// The header's, which is the library's, by the header and by number.
@@ -216,11 +234,31 @@ impl Comparison {
         self.same([version[0]; 3], version, || "version".to_string())
     }
 
+    /// The header's numbers are those of the papers.
+    pub fn limits(&mut self) -> Go {
+        let paper = [
+            paper::FILE_BYTES,
+            paper::TABLE_BYTES,
+            paper::LETTERS,
+            paper::ROLES,
+            paper::ROLE_BYTES,
+            paper::PLACES,
+            paper::MOST[ACCESS_GROUPS],
+            paper::MOST[INPUTS],
+        ];
+        self.same(paper.map(|most| most as u64), library::limits(), || "limits".to_string())
+    }
+
     pub fn allowed(&mut self, text: &[u8]) -> Go {
         let paper = paper::allowed(text);
         self.count(format!("allowed {paper}"));
         self.same(paper, library::allowed(text), || format!("allowed\n{}", hex(text)))
     }
+}
+
+/// Whether a call without the check may be made.
+fn both_say_table(slice: &[u8]) -> bool {
+    paper::is_table(slice) && library::is_table(slice)
 }
 
 /// Where two buffers of one length first differ.

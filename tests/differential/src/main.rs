@@ -27,12 +27,13 @@ fn number(text: &str) -> u64 {
     text.parse().unwrap_or_else(|_| usage())
 }
 
-/// The version, then cases until there are enough comparisons.
+/// The version and the limits, then cases until there are enough comparisons.
 fn compare(comparison: &mut Comparison, seed: u64, only: Option<u64>) {
     let first = only.unwrap_or(0);
     for case in first.. {
-        let version = if case == first { comparison.version() } else { Ok(()) };
-        match version.and_then(|()| cases::run(&mut Random::of_case(seed, case), comparison)) {
+        let once =
+            if case == first { comparison.version().and_then(|()| comparison.limits()) } else { Ok(()) };
+        match once.and_then(|()| cases::run(&mut Random::of_case(seed, case), comparison)) {
             Ok(()) if only.is_some() => return,
             Ok(()) => {}
             Err(Stop::Enough) => return,

@@ -66,7 +66,8 @@ impl Names {
             return (self.group(random), letter);
         }
         let (group, letter) = *random.pick(&self.inputs);
-        (self.groups[group].clone(), letter.into())
+        let high = if random.percent(5) { 1 << random.between(5, 31) } else { 0 }; // its own in fewer bits
+        (self.groups[group].clone(), u32::from(letter) | high)
     }
 
     pub(crate) fn member(&self, random: &mut Random) -> Vec<u8> {

@@ -149,17 +149,22 @@ calls! {
         values_length: usize,
     ) -> u64;
     fn library_find_input(
-        table: In, table_length: usize, group: In, group_length: usize, letter: u32, out: *mut u64,
+        checked: c_int, table: In, table_length: usize, group: In, group_length: usize, letter: u32,
+        out: *mut u64,
     );
+    fn library_find_input_number(
+        checked: c_int, table: In, table_length: usize, group: In, group_length: usize, letter: u32,
+    ) -> u64;
     fn library_stopping_input(
         table: In, table_length: usize, group: In, group_length: usize, letter: u8, out: *mut u64,
     );
-    fn library_group_at(table: In, table_length: usize, number: usize, out: *mut u64);
-    fn library_group_at_number(table: In, table_length: usize, number: usize) -> u64;
+    fn library_group_at(checked: c_int, table: In, table_length: usize, number: usize, out: *mut u64);
+    fn library_group_at_number(checked: c_int, table: In, table_length: usize, number: usize) -> u64;
     fn library_walk(
-        table: In, table_length: usize, out: *mut [u64; 5], most: usize, ends: *mut c_int,
+        checked: c_int, table: In, table_length: usize, out: *mut [u64; 5], most: usize, ends: *mut c_int,
     ) -> usize;
     fn library_version(out: *mut u32);
+    fn library_limits(out: *mut u64);
     fn library_allowed(text: In, text_length: usize) -> c_int;
 }
 
@@ -331,11 +336,33 @@ fn found(look_up: impl FnOnce(*mut u64)) -> Found {
     Found { refusal, place, length, agrees: agrees != 0 }
 }
 
+/// By the header and by the number of the proved function.
 pub fn find_input(table: &[u8], group: &[u8], letter: u32) -> Found {
-    // SAFETY: as above.
-    found(|out| unsafe {
-        calls::library_find_input(table.as_ptr(), table.len(), group.as_ptr(), group.len(), letter, out);
-    })
+    // SAFETY: any bytes may be asked.
+    unsafe { find(false, table, group, letter) }
+}
+
+/// The same without the check.
+///
+/// # Safety
+/// `is_table` has said so of these bytes.
+pub unsafe fn find_input_checked(table: &[u8], group: &[u8], letter: u32) -> Found {
+    find(true, table, group, letter)
+}
+
+unsafe fn find(checked: bool, table: &[u8], group: &[u8], letter: u32) -> Found {
+    let (start, name) = (table.as_ptr(), group.as_ptr());
+    let by_header = found(|out| {
+        calls::library_find_input(checked.into(), start, table.len(), name, group.len(), letter, out);
+    });
+    by_header.beside(calls::library_find_input_number(
+        checked.into(),
+        start,
+        table.len(),
+        name,
+        group.len(),
+        letter,
+    ))
 }
 
 /// By the letter of an answer, as C has it.
@@ -349,17 +376,29 @@ pub fn stopping_input(table: &[u8], group: &[u8], letter: u8) -> Found {
 /// By the header and by the number of the proved function. A table is lent here as
 /// something that can be written, so that it is seen if one is.
 pub fn group_at(table: &mut [u8], number: usize) -> Found {
+    // SAFETY: any bytes may be asked.
+    unsafe { name(false, table, number) }
+}
+
+/// The same without the check.
+///
+/// # Safety
+/// `is_table` has said so of these bytes.
+pub unsafe fn group_at_checked(table: &mut [u8], number: usize) -> Found {
+    name(true, table, number)
+}
+
+unsafe fn name(checked: bool, table: &mut [u8], number: usize) -> Found {
     let start = table.as_mut_ptr().cast_const();
-    // SAFETY: as above.
-    let by_header = found(|out| unsafe { calls::library_group_at(start, table.len(), number, out) });
-    let packed = unsafe { calls::library_group_at_number(start, table.len(), number) };
-    Found { agrees: by_header.agrees && packed == by_header.number(), ..by_header }
+    let by_header = found(|out| calls::library_group_at(checked.into(), start, table.len(), number, out));
+    by_header.beside(calls::library_group_at_number(checked.into(), start, table.len(), number))
 }
 
 impl Found {
-    /// As the proved function answers it.
-    fn number(&self) -> u64 {
-        self.place | self.length << 32 | self.refusal << 48
+    /// Whether the proved function's number says the same.
+    fn beside(self, number: u64) -> Found {
+        let packed = self.place | self.length << 32 | self.refusal << 48;
+        Found { agrees: self.agrees && packed == number, ..self }
     }
 }
 
@@ -369,13 +408,24 @@ const MOST_TOLD: usize = paper::MOST[paper::table::ACCESS_GROUPS] * paper::LETTE
 /// What a walk over a table tells, up to one more than there can be; and whether it
 /// then stays at its end, with the input as it was.
 pub fn walk(table: &mut [u8]) -> (Vec<Input>, bool) {
+    // SAFETY: a walk may go over any bytes.
+    unsafe { told(false, table) }
+}
+
+/// The same without the check.
+///
+/// # Safety
+/// `is_table` has said so of these bytes.
+pub unsafe fn walk_checked(table: &mut [u8]) -> (Vec<Input>, bool) {
+    told(true, table)
+}
+
+unsafe fn told(checked: bool, table: &mut [u8]) -> (Vec<Input>, bool) {
     let mut out = vec![[0; 5]; MOST_TOLD + 1];
     let mut ends = 0;
-    // SAFETY: as above; `out` has as many inputs as it says.
-    let told = unsafe {
-        let start = table.as_mut_ptr().cast_const();
-        calls::library_walk(start, table.len(), out.as_mut_ptr(), out.len(), &mut ends)
-    };
+    let start = table.as_mut_ptr().cast_const();
+    let told =
+        calls::library_walk(checked.into(), start, table.len(), out.as_mut_ptr(), out.len(), &mut ends);
     let input = |numbers: &[u64; 5]| {
         let [group, group_length, letter, name, name_length] = numbers.map(|n| n as usize);
         Input { group: (group, group_length), letter: letter as u32, name: (name, name_length) }
@@ -389,6 +439,15 @@ pub fn version() -> [u32; 3] {
     let mut out = [0; 3];
     // SAFETY: three numbers are written.
     unsafe { calls::library_version(out.as_mut_ptr()) };
+    out
+}
+
+/// The header's numbers: bytes of a file and of a table, readings, roles, bytes of a
+/// role, places, access groups, inputs.
+pub fn limits() -> [u64; 8] {
+    let mut out = [0; 8];
+    // SAFETY: eight numbers are written.
+    unsafe { calls::library_limits(out.as_mut_ptr()) };
     out
 }
 

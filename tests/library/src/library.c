@@ -116,10 +116,19 @@ static void tell(struct hrazvanut_found found, const uint8_t *table, uint64_t ou
     out[3] = found.name.start == (found.refusal ? NULL : (const char *)table + found.at);
 }
 
-void library_find_input(const uint8_t *table, size_t table_length, const uint8_t *group, size_t group_length, uint32_t letter,
-                        uint64_t out[4])
+void library_find_input(int checked, const uint8_t *table, size_t table_length, const uint8_t *group, size_t group_length,
+                        uint32_t letter, uint64_t out[4])
 {
-    tell(hrazvanut_find_input(table_of(table, table_length), text_of(group, group_length), letter), table, out);
+    tell((checked ? hrazvanut_find_input_checked : hrazvanut_find_input)(table_of(table, table_length), text_of(group, group_length),
+                                                                         letter),
+         table, out);
+}
+
+/* The proved function's number. */
+uint64_t library_find_input_number(int checked, const uint8_t *table, size_t table_length, const uint8_t *group, size_t group_length,
+                                   uint32_t letter)
+{
+    return (checked ? hrazvanut_abi_find_input_checked : hrazvanut_abi_find_input)(table, table_length, group, group_length, letter);
 }
 
 void library_stopping_input(const uint8_t *table, size_t table_length, const uint8_t *group, size_t group_length, uint8_t letter,
@@ -128,15 +137,15 @@ void library_stopping_input(const uint8_t *table, size_t table_length, const uin
     tell(hrazvanut_stopping_input(table_of(table, table_length), text_of(group, group_length), (char)letter), table, out);
 }
 
-void library_group_at(const uint8_t *table, size_t table_length, size_t number, uint64_t out[4])
+void library_group_at(int checked, const uint8_t *table, size_t table_length, size_t number, uint64_t out[4])
 {
-    tell(hrazvanut_group_at(table_of(table, table_length), number), table, out);
+    tell((checked ? hrazvanut_group_at_checked : hrazvanut_group_at)(table_of(table, table_length), number), table, out);
 }
 
 /* The proved function's number. */
-uint64_t library_group_at_number(const uint8_t *table, size_t table_length, size_t number)
+uint64_t library_group_at_number(int checked, const uint8_t *table, size_t table_length, size_t number)
 {
-    return hrazvanut_abi_group_at(table, table_length, number);
+    return (checked ? hrazvanut_abi_group_at_checked : hrazvanut_abi_group_at)(table, table_length, number);
 }
 
 /* Where a text starts in the table, and its length. */
@@ -148,21 +157,22 @@ static void tell_part(struct hrazvanut_text text, const uint8_t *table, uint64_t
 
 static int same_text(struct hrazvanut_text a, struct hrazvanut_text b) { return a.start == b.start && a.length == b.length; }
 
-/* How many inputs a walk tells, up to `most`; of each its group, its letter and its name. Whether it then stays at its end, with the input as
- * it was. */
-size_t library_walk(const uint8_t *table, size_t table_length, uint64_t (*out)[5], size_t most, int *ends)
+/* How many inputs a walk tells, up to `most`; of each its group, its letter and its name. Whether it then stays at its end, with the input
+ * as it was. */
+size_t library_walk(int checked, const uint8_t *table, size_t table_length, uint64_t (*out)[5], size_t most, int *ends)
 {
+    bool (*next)(struct hrazvanut_table, struct hrazvanut_input *) = checked ? hrazvanut_next_input_checked : hrazvanut_next_input;
     struct hrazvanut_input input = {0};
     size_t told = 0;
-    while (told < most && hrazvanut_next_input(table_of(table, table_length), &input)) {
+    while (told < most && next(table_of(table, table_length), &input)) {
         tell_part(input.group, table, out[told]);
         out[told][2] = input.letter;
         tell_part(input.name, table, out[told] + 3);
         told++;
     }
     struct hrazvanut_input last = input;
-    *ends = !hrazvanut_next_input(table_of(table, table_length), &input) && same_text(input.group, last.group) &&
-            input.letter == last.letter && same_text(input.name, last.name);
+    *ends = !next(table_of(table, table_length), &input) && same_text(input.group, last.group) && input.letter == last.letter &&
+            same_text(input.name, last.name);
     return told;
 }
 
@@ -172,6 +182,19 @@ void library_version(uint32_t out[3])
     out[0] = HRAZVANUT_VERSION;
     out[1] = hrazvanut_version();
     out[2] = hrazvanut_abi_version();
+}
+
+/* in the order in which the header has them */
+void library_limits(uint64_t out[8])
+{
+    out[0] = HRAZVANUT_FILE;
+    out[1] = HRAZVANUT_TABLE;
+    out[2] = HRAZVANUT_READINGS;
+    out[3] = HRAZVANUT_ROLES;
+    out[4] = HRAZVANUT_ROLE_LENGTH;
+    out[5] = HRAZVANUT_PLACES;
+    out[6] = HRAZVANUT_GROUPS;
+    out[7] = HRAZVANUT_INPUTS;
 }
 
 int library_allowed(const uint8_t *text, size_t text_length) { return hrazvanut_allowed(text_of(text, text_length)); }

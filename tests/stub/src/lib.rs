@@ -24,7 +24,8 @@ use std::sync::OnceLock;
 /// of the library's groups (146 of its register's), 151 of the checker's, 152 of
 /// the asker's, 153 to 185 of the library's letters, 186 to 194 of its register's,
 /// 195 to 199 of the asker's, 200 to 219 of the library's groups by number and its
-/// version, 220 to 226 of its register's loads into another room.
+/// version, 220 to 226 of its register's loads into another room, 227 to 237 of the
+/// library's look-ups without the check.
 pub fn fault(number: u32) -> bool {
     static CHOSEN: OnceLock<u32> = OnceLock::new();
     let chosen = CHOSEN.get_or_init(|| {
@@ -249,22 +250,31 @@ macro_rules! decision {
 decision!(hrazvanut_abi_decide_letter, false);
 decision!(hrazvanut_abi_decide_letter_checked, true);
 
-#[no_mangle]
-pub unsafe extern "C" fn hrazvanut_abi_find_input(
-    table: *const u8,
-    table_len: usize,
-    group: *const u8,
-    group_len: usize,
-    letter: u32,
-) -> u64 {
-    let (table, group) = (part(table, table_len), part(group, group_len));
-    let mut answer = paper::find_input(table, group, letter);
-    if fault(20) && answer == Err(22) {
-        answer = paper::find_input(table, b"", letter); // goes on to DEFAULT
-    }
-    match answer {
-        Ok((place, length)) => place as u64 | (length as u64) << 32,
-        Err(number) => u64::from(number) << 48,
+macro_rules! finding {
+    ($name:ident, $find:expr) => {
+        #[no_mangle]
+        pub unsafe extern "C" fn $name(
+            table: *const u8,
+            table_len: usize,
+            group: *const u8,
+            group_len: usize,
+            letter: u32,
+        ) -> u64 {
+            match $find(part(table, table_len), part(group, group_len), letter) {
+                Ok((place, length)) => place as u64 | (length as u64) << 32,
+                Err(number) => u64::from(number) << 48,
+            }
+        }
+    };
+}
+
+finding!(hrazvanut_abi_find_input, find_input);
+finding!(hrazvanut_abi_find_input_checked, walk::find_input_checked);
+
+fn find_input(table: &[u8], group: &[u8], letter: u32) -> Result<walk::Part, u8> {
+    match paper::find_input(table, group, letter) {
+        Err(22) if fault(20) => paper::find_input(table, b"", letter), // goes on to DEFAULT
+        answer => answer,
     }
 }
 
