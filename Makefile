@@ -24,16 +24,19 @@ archive := target/lib/libhrazvanut.a
 soname := libhrazvanut.so.$(major)
 shared := $(soname).$(minor)
 
+# A folder by the prefix, if it is below it; either may have spaces.
+under = $(subst |,,$(subst |$(PREFIX)/,$${prefix}/,|$(1)))
+
 define pc
 prefix=$(PREFIX)
-libdir=$(LIBDIR:$(PREFIX)/%=$${prefix}/%)
-includedir=$(INCLUDEDIR:$(PREFIX)/%=$${prefix}/%)
+libdir=$(call under,$(LIBDIR))
+includedir=$(call under,$(INCLUDEDIR))
 
 Name: hrazvanut
 Description: Verified access security for EPICS gateways
 Version: $(major).$(minor)
-Cflags: -I$${includedir}
-Libs: -L$${libdir} -lhrazvanut
+Cflags: -I"$${includedir}"
+Libs: -L"$${libdir}" -lhrazvanut
 endef
 export pc
 
@@ -49,22 +52,25 @@ prove:
 target/staticlib/libhrazvanut.a:
 	include/build
 
-# By its bytes and not by its time: one from elsewhere may be older than the last.
-copy: $(from)
-	mkdir -p target/lib
-	cmp -s $(from) $(archive) || cp $(from) $(archive)
+# What a shared object is made with, but for its name and the archive.
+link = $(CC) -shared -Wl,-soname,$(soname) -Wl,--version-script,target/lib/exports $(functions:%=-Wl,--require-defined,%) \
+    -Wl,-Bsymbolic -Wl,-z,defs,-z,text,-z,noexecstack,-z,relro,-z,now $(LDFLAGS)
+
+# By its bytes and not by its time: one from elsewhere may be older than the last. One that does not link is not taken.
+copy: $(from) target/lib/exports
+	cmp -s $(from) $(archive) || { $(link) -o target/lib/trial $(from) && cp $(from) target/lib/trial && mv target/lib/trial $(archive); }
 
 # An install takes what was built, unless LIB names another.
 $(archive): $(if $(LIB),copy)
 	test -e $@ || $(MAKE) copy
 
 # The functions of the header and nothing else. Each bears the major version: two libraries in one process do not mix.
-target/lib/exports: $(header) Makefile $(archive)
+target/lib/exports: $(header) Makefile
+	mkdir -p target/lib
 	printf '%s\n' 'HRAZVANUT_$(major) {' 'global:' $(functions:%='%;') 'local: *;' '};' >$@
 
 target/lib/$(shared): $(archive) target/lib/exports
-	$(CC) -shared -Wl,-soname,$(soname) -Wl,--version-script,target/lib/exports $(functions:%=-Wl,--require-defined,%) \
-	    -Wl,-Bsymbolic -Wl,-z,defs,-z,text,-z,noexecstack,-z,relro,-z,now $(LDFLAGS) -o $@ $(archive)
+	$(link) -o $@ $(archive)
 
 install: $(archive) target/lib/$(shared)
 	$(INSTALL) -d '$(DESTDIR)$(LIBDIR)/pkgconfig' '$(DESTDIR)$(INCLUDEDIR)'
@@ -76,7 +82,7 @@ install: $(archive) target/lib/$(shared)
 	printf '%s\n' "$$pc" | $(INSTALL) -m 644 /dev/stdin '$(DESTDIR)$(LIBDIR)/pkgconfig/hrazvanut.pc'
 
 uninstall:
-	cd '$(DESTDIR)$(LIBDIR)' && rm -f libhrazvanut.a $(shared) $(soname) libhrazvanut.so pkgconfig/hrazvanut.pc
+	rm -f $(foreach f,libhrazvanut.a $(shared) $(soname) libhrazvanut.so pkgconfig/hrazvanut.pc,'$(DESTDIR)$(LIBDIR)/$(f)')
 	rm -f '$(DESTDIR)$(INCLUDEDIR)/hrazvanut.h'
 
 clean:
