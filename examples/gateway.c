@@ -12,7 +12,7 @@
 
 #include "hrazvanut.h"
 
-enum { INPUTS = 512, DEADLINE = 4 }; /* no file has more inputs; no reading may be older */
+enum { DEADLINE = 4 }; /* no reading may be older */
 
 struct client {
     const char *user, *host, *group;
@@ -32,7 +32,7 @@ struct feed {
 struct site {
     uint8_t lent[HRAZVANUT_TABLE];
     struct hrazvanut_table table;
-    struct feed feeds[INPUTS];
+    struct feed feeds[HRAZVANUT_INPUTS];
     size_t count;
 };
 
@@ -52,6 +52,18 @@ static const char *words(enum hrazvanut_access access, bool trap)
     return word[trap][access];
 }
 
+/* Tells a client its right, and what stands in its way. */
+static void tell_right(size_t place)
+{
+    struct hrazvanut_right has = hrazvanut_right_of(&clients, place);
+    struct hrazvanut_found input = hrazvanut_stopping_input(in_force->table, hrazvanut_string(who[place]->group), has.letter);
+    told[place] = has;
+    printf("%s", words(has.access, has.trap));
+    if (!input.refusal)
+        printf(", look at %.*s", (int)input.name.length, input.name.start);
+    printf("\n");
+}
+
 /* Tells those whose right is another than they were told: over several calls a right may have been lost and gained again. */
 static void tell(uint64_t changed)
 {
@@ -59,12 +71,8 @@ static void tell(uint64_t changed)
         struct hrazvanut_right had = told[place], has = hrazvanut_right_of(&clients, place);
         if (!(changed >> place & 1) || (has.access == had.access && has.trap == had.trap && has.letter == had.letter))
             continue;
-        told[place] = has;
-        printf("      %s: %s -> %s", who[place]->user, words(had.access, had.trap), words(has.access, has.trap));
-        struct hrazvanut_found input = hrazvanut_stopping_input(in_force->table, hrazvanut_string(who[place]->group), has.letter);
-        if (!input.refusal)
-            printf(", look at %.*s", (int)input.name.length, input.name.start);
-        printf("\n");
+        printf("      %s: %s -> ", who[place]->user, words(had.access, had.trap));
+        tell_right(place);
     }
 }
 
@@ -78,7 +86,7 @@ static bool refused(enum hrazvanut_refusal refusal)
 
 /* ---- the life of a client */
 
-/* There may be no table yet, so it is checked. */
+/* There may be no table yet, so it is checked. A new client is told its right whatever changed: NONE without a letter sets no bit. */
 static void enter(struct client *c)
 {
     struct hrazvanut_client client = {
@@ -91,7 +99,8 @@ static void enter(struct client *c)
         printf("      at place %zu\n", entered.place);
         c->place = entered.place;
         who[c->place] = c;
-        tell(entered.changed);
+        printf("      %s: ", c->user);
+        tell_right(c->place);
     }
     pthread_mutex_unlock(&gate);
 }
@@ -105,13 +114,12 @@ static void use(struct client *c)
     pthread_mutex_unlock(&gate);
 }
 
-/* Nobody is told, and who takes the place next begins with NONE. */
+/* Nobody is told. Who takes the place next is told its own right. */
 static void leave(struct client *c)
 {
     pthread_mutex_lock(&gate);
     printf("%s leaves place %zu after %d surprises\n", c->user, c->place, c->surprises);
     c->in = refused(hrazvanut_remove_client(&clients, c->place).refusal);
-    told[c->place] = hrazvanut_right_of(&clients, c->place);
     pthread_mutex_unlock(&gate);
 }
 
@@ -175,14 +183,15 @@ static struct hrazvanut_text read_file(const char *path)
     return text;
 }
 
-/* Lists what is to be heard for a new table. What was heard for the table before stays known. */
-static void subscribe(struct site *site, const struct site *before)
+/* Lists what is to be heard for a new table, which is an accepted load's and needs no check. What was heard for the table before stays
+ * known if it is not too old: the watchdog may not have looked yet. */
+static void subscribe(struct site *site, const struct site *before, int time)
 {
     struct hrazvanut_input input = {0};
-    for (site->count = 0; hrazvanut_next_input(site->table, &input); site->count++) {
+    for (site->count = 0; hrazvanut_next_input_checked(site->table, &input); site->count++) {
         struct feed feed = {.heard = 0};
         for (size_t i = 0; i < before->count; i++)
-            if (same(before->feeds[i].input.name, input.name))
+            if (same(before->feeds[i].input.name, input.name) && time - before->feeds[i].heard <= DEADLINE)
                 feed = before->feeds[i];
         feed.input = input;
         site->feeds[site->count] = feed;
@@ -192,8 +201,8 @@ static void subscribe(struct site *site, const struct site *before)
 }
 
 /* Refused: all is as it was. Accepted: every call is lent the new table from now on. No reading of it is heard yet, so what is known is set
- * again before anybody is told. */
-static void load(const char *path)
+ * again before anybody is told. All this is short, so that nobody waits long for the lock. */
+static void load(const char *path, int time)
 {
     struct hrazvanut_text text = read_file(path);
     pthread_mutex_lock(&gate);
@@ -206,7 +215,7 @@ static void load(const char *path)
     } else {
         printf("      accepted, warnings: %zu\n", reloaded.loaded.warnings);
         spare->table = reloaded.loaded.table;
-        subscribe(spare, in_force);
+        subscribe(spare, in_force, time);
         pthread_rwlock_wrlock(&swap);
         in_force = spare;
         pthread_rwlock_unlock(&swap);
@@ -249,14 +258,15 @@ static const struct act {
     const char *name;
     double value;
 } script[] = {
-    {PANEL, ASK, "", 0},             {LOADER, LOAD, "calm.acf", 0},   {ANN, ENTER, "", 0},
+    {PANEL, ASK, "", 0},             {ANN, ENTER, "", 0},             {LOADER, LOAD, "calm.acf", 0},
     {BOB, ENTER, "", 0},             {EVE, ENTER, "", 0},             {SENSORS, HEAR, "B1:PGA", 0.02},
     {SENSORS, HEAR, "L1:LOAD", 300}, {SENSORS, HEAR, "B1:PGA", NAN},  {SENSORS, HEAR, "B1:PGA", 0.03},
     {LOADER, LOAD, "slip.acf", 0},   {PANEL, ASK, "", 0},             {WATCHDOG, LOOK, "", 0},
     {LOADER, LOAD, "quake.acf", 0},  {SENSORS, HEAR, "B1:GAS", 1},    {PANEL, ASK, "", 0},
     {SENSORS, HEAR, "B1:PGA", 0.04}, {ANN, LEAVE, "", 0},             {EVE_AGAIN, ENTER, "", 0},
     {BOB_AGAIN, ENTER, "", 0},       {WATCHDOG, LOOK, "", 0},         {SENSORS, HEAR, "B1:GAS", 1},
-    {EVE, LEAVE, "", 0},             {BOB, LEAVE, "", 0},             {EVE_AGAIN, LEAVE, "", 0},
+    {LOADER, LOAD, "quake.acf", 0},  {EVE, LEAVE, "", 0},             {BOB, LEAVE, "", 0},
+    {EVE_AGAIN, LEAVE, "", 0},
 };
 enum { STEPS = sizeof script / sizeof *script };
 static pthread_barrier_t begins, ends; /* two, since with one the thread sanitizer would miss races */
@@ -269,7 +279,7 @@ static void act(const struct act *a, int step)
     case LEAVE: leave(&lives[a->thread]); break;
     case HEAR: hear(a->name, a->value, step); break;
     case LOOK: find_silent(step); break;
-    case LOAD: load(a->name); break;
+    case LOAD: load(a->name, step); break;
     case ASK: printf("the panel is answered %s\n", words(ask().access, false)); break;
     }
 }

@@ -8,7 +8,7 @@ static inline int lent_to_write(void *lent) { return *(volatile char *)lent = *(
 #define hrazvanut_decide(table, question) ((void)lent_to_read((table).start), hrazvanut_decide(table, question))
 #define hrazvanut_find_input(table, group, letter) ((void)lent_to_read((table).start), hrazvanut_find_input(table, group, letter))
 #define hrazvanut_stopping_input(table, group, letter) ((void)lent_to_read((table).start), hrazvanut_stopping_input(table, group, letter))
-#define hrazvanut_next_input(table, input) ((void)lent_to_read((table).start), hrazvanut_next_input(table, input))
+#define hrazvanut_next_input_checked(table, input) ((void)lent_to_read((table).start), hrazvanut_next_input_checked(table, input))
 #define hrazvanut_right_of(reg, place) ((void)lent_to_read(reg), hrazvanut_right_of(reg, place))
 #define hrazvanut_remove_client(reg, place) ((void)lent_to_write(reg), hrazvanut_remove_client(reg, place))
 #define hrazvanut_add_client(reg, table, client) \
