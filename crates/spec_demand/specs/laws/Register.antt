@@ -71,6 +71,17 @@ register-on-table s (load-again text) = reload-loads s text (has-room s) (load (
 
 -- ---- what stands behind the table
 
+-- bytes that begin with one file's table are alike to a call that is no load
+pub same-file :
+    (s : List ℕ) (xs : List Tagged) → Acceptable s xs → {t u : List ℕ} (rest rest′ : List ℕ) → t ≡ table-of (file-of xs) ++ rest → u ≡ table-of (file-of xs) ++ rest′
+    → (is-table t ≡ is-table u) × (view t ≡ view u)
+same-file s xs a rest rest′ e e′ =
+    let f = file-of xs in
+    let ok = fits s xs (acceptable-is s xs a) in (
+      ap is-table e ∙ is-a-table f ok rest ∙ sym (ap is-table e′ ∙ is-a-table f ok rest′),
+      ap view e ∙ viewed f ok rest ∙ sym (ap view e′ ∙ viewed f ok rest′),
+    )
+
 pub register-behind :
     (s : List ℕ) (xs : List Tagged) → Acceptable s xs → (rest rest′ places states : List ℕ) (values : List Float)
     → let one = lent (table-of (file-of xs) ++ rest) places states values in
@@ -79,14 +90,11 @@ pub register-behind :
     → (told one c ≡ told other c) × (left one c .places ≡ left other c .places) × (left one c .states ≡ left other c .states)
     × (left one c .values ≡ left other c .values)
 register-behind s xs a rest rest′ places states values c n =
-    let f = file-of xs in
-    let ok = fits s xs (acceptable-is s xs a) in
-    let t = table-of f ++ rest in
-    let u = table-of f ++ rest′ in
-    let test : is-table t ≡ is-table u = is-a-table f ok rest ∙ sym (is-a-table f ok rest′) in
-    let content : view t ≡ view u = viewed f ok rest ∙ sym (viewed f ok rest′) in
-    let same = same-left t u test content places states values c n in (
-      same-told t u test content places states values c n,
+    let t = table-of (file-of xs) ++ rest in
+    let u = table-of (file-of xs) ++ rest′ in
+    let k : (is-table t ≡ is-table u) × (view t ≡ view u) = same-file s xs a rest rest′ refl refl in
+    let same = same-left t u (k .0) (k .1) places states values c n in (
+      same-told t u (k .0) (k .1) places states values c n,
       ap (λ (l : Lent). l .places) same,
       ap (λ (l : Lent). l .states) same,
       ap (λ (l : Lent). l .values) same,
@@ -124,24 +132,18 @@ pub reload-elsewhere :
     × (left one (load-again s) .states ≡ left other (load-again s) .states)
     × (left one (load-again s) .values ≡ left other (load-again s) .values)
 reload-elsewhere s xs a room room′ places states values l l′ =
-    let f = file-of xs in
-    let ok = fits s xs (acceptable-is s xs a) in
-    let n = length (table-of f) in
+    let n = length (table-of (file-of xs)) in
     let laid = laid-down room s xs a l in
     let laid′ = laid-down room′ s xs a l′ in
     let t = load room s .bytes in
     let u = load room′ s .bytes in
-    let bytes : t ≡ table-of f ++ drop n room = ap (λ (r : Result). r .bytes) laid in
-    let bytes′ : u ≡ table-of f ++ drop n room′ = ap (λ (r : Result). r .bytes) laid′ in
     let answers : load room s .answer ≡ load room′ s .answer = ap (λ (r : Result). r .answer) laid ∙ sym (ap (λ (r : Result). r .answer) laid′) in
-    let test : is-table t ≡ is-table u =
-    ap is-table bytes ∙ is-a-table f ok (drop n room) ∙ sym (ap is-table bytes′ ∙ is-a-table f ok (drop n room′)) in
-    let content : view t ≡ view u = ap view bytes ∙ viewed f ok (drop n room) ∙ sym (ap view bytes′ ∙ viewed f ok (drop n room′)) in
+    let k : (is-table t ≡ is-table u) × (view t ≡ view u) = same-file s xs a (drop n room) (drop n room′) (ap (λ (r : Result). r .bytes) laid) (ap (λ (r : Result). r .bytes) laid′) in
     let x = has-room (lent room places states values) in
     subst
     (Same places states values x room room′ t u (load room s .answer))
     answers
-    (alike places states values x room room′ t u (load room s .answer) (settled-same t u test content places))
+    (alike places states values x room room′ t u (load room s .answer) (settled-same t u (k .0) (k .1) places))
 
 -- ---- demand 3
 

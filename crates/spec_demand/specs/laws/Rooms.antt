@@ -12,12 +12,11 @@ use Rattle.spec_calc.specs.declared.Reading.{Reading}
 use Rattle.spec_file.specs.Contents.{file-of}
 use Rattle.spec_file.specs.laws.Theorem.{acceptable-is}
 use Rattle.spec_table.specs.Layout.{greatest-table}
-use Rattle.spec_table.specs.View.{view}
 use Rattle.spec_table.specs.Table.{Table}
 use Rattle.spec_table.specs.Check.{is-table}
 use Rattle.spec_table.specs.laws.Table.{table-is}
 use Rattle.spec_table.specs.laws.Accepted.{fits}
-use Rattle.spec_table.specs.laws.Theorem.{viewed, is-a-table, table-length, zeros-no-table}
+use Rattle.spec_table.specs.laws.Theorem.{table-length, zeros-no-table}
 use Rattle.spec_load.specs.declared.Loaded.{Loaded}
 use Rattle.spec_load.specs.declared.Loaded.the-variants as loaded
 use Rattle.spec_load.specs.Load.{Result, is-accepted, load}
@@ -37,7 +36,7 @@ use Rattle.spec_places.specs.laws.Follows.{agrees}
 use Rattle.spec_demand.specs.Calls.{load-text, check-table, after-call}
 use Rattle.spec_demand.specs.Rooms.{Good-file, its-table, In-force, Turn, Lent-in-force, no-more, other, accepted, refused, register-after, over, left-by-turns, Never-more-in-rooms}
 use Rattle.spec_demand.specs.laws.Exact.{laid-down}
-use Rattle.spec_demand.specs.laws.Register.{register-on-table, reload-elsewhere, claims, of-storage}
+use Rattle.spec_demand.specs.laws.Register.{register-on-table, same-file, reload-elsewhere, claims, of-storage}
 
 -- ---- bytes that stand for the table in force
 
@@ -52,13 +51,7 @@ kept-in-force :
     (o : Option Good-file) (t u : List ℕ) → In-force o t → In-force o u → (rs : ℕ → List Reading) (c : Client) → kept t rs c ≡ kept u rs c
 kept-in-force none t u no-t no-u rs c = kept-of-none t u (not-table t no-t) (not-table u no-u) rs c
 kept-in-force (some f) t u i j rs c =
-    let ok = fits (f .text) (f .says) (acceptable-is (f .text) (f .says) (f .acceptable)) in
-    let g = file-of (f .says) in
-    kept-same t u
-    (ap is-table (i .1) ∙ is-a-table g ok (i .0) ∙ sym (ap is-table (j .1) ∙ is-a-table g ok (j .0)))
-    (ap view (i .1) ∙ viewed g ok (i .0) ∙ sym (ap view (j .1) ∙ viewed g ok (j .0)))
-    rs
-    c
+    let k = same-file (f .text) (f .says) (f .acceptable) (i .0) (j .0) (i .1) (j .1) in kept-same t u (k .0) (k .1) rs c
 
 -- some have room for every table
 record Roomy (most : ℕ) (o : Option Good-file) : Type 0 where
