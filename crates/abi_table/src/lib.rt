@@ -27,8 +27,7 @@ pub extern "C" fn hrazvanut_abi_group_at(table: &[u8], number: usize) -> u64
     api_numbers::found_number(ask::group_at(table, number))
 }
 
-// The functions of a table that was checked before: a gateway walks over the table of an accepted load.
-
+// Asks of its caller: hrazvanut_abi_is_table has said 1 of the same bytes, or an accepted load left them.
 #[no_mangle]
 pub extern "C" fn hrazvanut_abi_find_input_checked(table: &[u8], group: &[u8], letter: u32) -> u64
     requires { ⌜ is-table (now table) ≡ true ⌝ }
@@ -37,6 +36,7 @@ pub extern "C" fn hrazvanut_abi_find_input_checked(table: &[u8], group: &[u8], l
     api_numbers::found_number(ask_input::find_input_checked(table, group, letter))
 }
 
+// Asks of its caller what hrazvanut_abi_find_input_checked does: a gateway walks over the table of an accepted load.
 #[no_mangle]
 pub extern "C" fn hrazvanut_abi_group_at_checked(table: &[u8], number: usize) -> u64
     requires { ⌜ is-table (now table) ≡ true ⌝ }

@@ -31,7 +31,7 @@ pub fn find_input_checked(table: &[u8], group: &[u8], letter: u32) -> Found
     }
 }
 
-// Where the name of the access group of a number stands, in a table that was checked before. ask::group_at has asked is_table.
+// Where the name of the access group of a number stands, in a table that was checked before. Callers as of find_input_checked; others call ask::group_at.
 pub fn group_at_checked(table: &[u8], number: usize) -> Found
     requires { ⌜ is-table (now table) ≡ true ⌝ }
     ensures { λ r. ⌜ r ≡ group-at (now (table .entry)) number ⌝ }
