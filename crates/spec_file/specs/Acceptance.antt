@@ -39,13 +39,15 @@ pub data Caused (xs : List Tagged) (r : Refusal) : ℕ → Type 0 where
       → ((sooner : Refusal) → turn sooner < turn r → Nowhere sooner (contexts xs))
       → Caused xs r (place (c .here))
 
--- the same of all the text's refusals, 1 to 10 and 12: r is the refusal of the text s, and p its place
+-- the same of all the text's refusals but 1, the text being taken without the limit of 16,384 bytes: r is the first that has a cause, and p its place
+pub data Has-cause (s : List ℕ) : Refusal → ℕ → Type 0 where
+  bad-byte : {p : ℕ} → Bad-at s p → Has-cause s BadByte p
+  deep-brace : {p : ℕ} {ts : List Token} → Spelled s ts → too-deep 0 ts ≡ some p → Has-cause s TooDeep p
+  no-file : {p : ℕ} {ts : List Token} → Spelled s ts → too-deep 0 ts ≡ none → Stops ts (length s) p → Has-cause s Ungrammatical p
+  for-cause :
+      {r : Refusal} {p : ℕ} {xs : List Tagged} → (t : Text-reads s xs) → too-deep 0 (t .spelled) ≡ none → Caused xs r p → Has-cause s r p
+
+-- and of all of them, 1 to 10 and 12: r is the refusal of the text s, and p its place
 pub data Refusable (s : List ℕ) : Refusal → ℕ → Type 0 where
   long-file : most-bytes < length s → Refusable s FileTooLong 0
-  bad-byte : {p : ℕ} → length s ≤ most-bytes → Bad-at s p → Refusable s BadByte p
-  deep-brace : {p : ℕ} {ts : List Token} → length s ≤ most-bytes → Spelled s ts → too-deep 0 ts ≡ some p → Refusable s TooDeep p
-  no-file :
-      {p : ℕ} {ts : List Token} → length s ≤ most-bytes → Spelled s ts → too-deep 0 ts ≡ none → Stops ts (length s) p → Refusable s Ungrammatical p
-  for-cause :
-      {r : Refusal} {p : ℕ} {xs : List Tagged} → length s ≤ most-bytes → (t : Text-reads s xs) → too-deep 0 (t .spelled) ≡ none → Caused xs r p
-      → Refusable s r p
+  in-limit : {r : Refusal} {p : ℕ} → length s ≤ most-bytes → Has-cause s r p → Refusable s r p

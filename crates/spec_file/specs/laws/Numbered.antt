@@ -23,7 +23,7 @@ use Rattle.spec_file.specs.Depth.{opened, too-deep}
 use Rattle.spec_file.specs.Refusal.{number, Context, contexts}
 use Rattle.spec_file.specs.laws.Counted.{every-context}
 use Rattle.spec_file.specs.Refusal.{Applies, long, many, again, nowhere-defined, level, word, calculation}
-use Rattle.spec_file.specs.Acceptance.{Caused, caused, Refusable, long-file, bad-byte, deep-brace, no-file, for-cause}
+use Rattle.spec_file.specs.Acceptance.{Caused, caused, Has-cause, bad-byte, deep-brace, no-file, for-cause, Refusable, long-file, in-limit}
 
 -- ---- a token's place lies in the text
 
@@ -74,14 +74,17 @@ caused-within n {xs} e (caused earlier later i a w soonest) =
     let within : Every (λ c. place (c .here) ≤ n) (contexts xs) = every-context [] e in
     (cause-of-a-text a, every-head (every-split earlier (rw i at within) .1))
 
-pub refusal-numbered : {s : List ℕ} {r : Refusal} {p : ℕ} → Refusable s r p → Of-a-text (number r) × (p ≤ length s)
-refusal-numbered (long-file l) = (inl (omega arith), omega arith)
-refusal-numbered (bad-byte l d) = let h = bad-within d in (inl (omega arith), omega arith)
-refusal-numbered {s} {p = p} (deep-brace {ts = ts} l d e) = (inl (omega arith), subst (Up-to (length s)) e (deep-within (length s) 0 (tokens-within d)))
-refusal-numbered (no-file l d e t) = (inl (omega arith), stops-within (tokens-within d) t)
-refusal-numbered {s} (for-cause {xs = xs} l t e c) =
+cause-numbered : {s : List ℕ} {r : Refusal} {p : ℕ} → Has-cause s r p → Of-a-text (number r) × (p ≤ length s)
+cause-numbered (bad-byte d) = let h = bad-within d in (inl (omega arith), omega arith)
+cause-numbered {s} {p = p} (deep-brace {ts = ts} d e) = (inl (omega arith), subst (Up-to (length s)) e (deep-within (length s) 0 (tokens-within d)))
+cause-numbered (no-file d e t) = (inl (omega arith), stops-within (tokens-within d) t)
+cause-numbered {s} (for-cause {xs = xs} t e c) =
     let within : Every (λ u. u .place ≤ length s) (t .spelled) = tokens-within (t .spelling) in
     caused-within (length s) (tagged-have xs (rw (← t .reading .tokens) at within)) c
+
+pub refusal-numbered : {s : List ℕ} {r : Refusal} {p : ℕ} → Refusable s r p → Of-a-text (number r) × (p ≤ length s)
+refusal-numbered (long-file l) = (inl (omega arith), omega arith)
+refusal-numbered (in-limit l c) = cause-numbered c
 
 -- no number is greater than 12
 pub number-small : (r : Refusal) → number r ≤ 12

@@ -21,7 +21,7 @@ use Rattle.spec_file.specs.Limit.{most-bytes}
 use Rattle.spec_file.specs.Depth.{too-deep}
 use Rattle.spec_file.specs.Refusal.{contexts}
 use Rattle.spec_file.specs.laws.Causes.{nowhere, unanswered, caused-by, caused-is}
-use Rattle.spec_file.specs.Acceptance.{Acceptable, Refusable, long-file, bad-byte, deep-brace, no-file, for-cause}
+use Rattle.spec_file.specs.Acceptance.{Text-reads, Nowhere, Acceptable, Has-cause, bad-byte, deep-brace, no-file, for-cause, Refusable, long-file, in-limit}
 use Rattle.spec_file.specs.Load.{Refusal-at, causes, refused-by, refuse, accept, by-causes, by-grammar, by-depth, by-tokens, verdict}
 
 never-accepts : {A : Type 0} (r : Refusal) (p : ℕ) (xs : List Tagged) → refuse r p ≡ accept xs → A
@@ -68,81 +68,76 @@ module _ (s : List ℕ) (xs : List Tagged) where
       go-length true l h = go-tokens (scanned s) l refl h
       go-length false l h = never-accepts FileTooLong 0 xs h
 
+  -- what is read without a cause is accepted, its length aside
+  pub free-is : (t : Text-reads s xs) → too-deep 0 (t .spelled) ≡ none → ((r : Refusal) → Nowhere r (contexts xs)) → by-tokens (length s) (scanned s) ≡ accept xs
+  free-is t d u =
+      rw (
+        scanned-complete s (tokens (t .spelled)) (t .spelling),
+        d,
+        read-complete (t .spelled) (length s) xs (t .reading),
+        unanswered (contexts xs) u,
+      )
+
   -- what is acceptable is accepted
   pub acceptable-is : Acceptable s xs → verdict s ≡ accept xs
   unfolding verdict
-  acceptable-is a =
-      rw (
-        le-leb
-            (length s) most-bytes
-            (a .short),
-        scanned-complete s
-            (tokens (a .as-read .spelled))
-            (a .as-read .spelling),
-        a .shallow,
-        read-complete
-            (a .as-read .spelled)
-            (length s) xs
-            (a .as-read .reading),
-        unanswered
-            (contexts xs)
-            (a .uncaused),
-      )
+  acceptable-is a = rw (le-leb (length s) most-bytes (a .short), free-is (a .as-read) (a .shallow) (a .uncaused))
 
 -- ---- refusals
 
 module _ (s : List ℕ) (r : Refusal) (p : ℕ) where
-  refused-so : (q : Refusal) (o : ℕ) → refuse q o ≡ refuse r p → Refusable s q o → Refusable s r p
-  refused-so q o e w = let a : q ≡ r = cc in let b : o ≡ p = cc in subst₂ (Refusable s) a b w
+  caused-so : (q : Refusal) (o : ℕ) → refuse q o ≡ refuse r p → Has-cause s q o → Has-cause s r p
+  caused-so q o e w = let a : q ≡ r = cc in let b : o ≡ p = cc in subst₂ (Has-cause s) a b w
 
-  -- what is refused is refused by the first cause in turn, at its earliest place
+  -- what the tokens are refused for is the first cause in turn, at its earliest place
+  pub refused-for : by-tokens (length s) (scanned s) ≡ refuse r p → Has-cause s r p
+  refused-for e = by-scan (scanned s) refl e
+    where
+      by-cause :
+          (ts : List Token) (xs : List Tagged) (o : Option Refusal-at) → scanned s ≡ tokens ts → too-deep 0 ts ≡ none → read ts (length s) ≡ parsed xs
+          → refused-by causes (contexts xs) ≡ o → by-causes xs o ≡ refuse r p → Has-cause s r p
+      by-cause ts xs none a d q c h = never-accepts r p xs (sym h)
+      by-cause ts xs (some x) a d q c h =
+          caused-so
+          (x .refusal)
+          (x .place) h
+          (for-cause (record { spelled = ts; spelling = scanned-sound s (tokens ts) a; reading = read-sound ts (length s) xs q }) d (caused-by xs c))
+
+      by-read :
+          (ts : List Token) (o : Parse) → scanned s ≡ tokens ts → too-deep 0 ts ≡ none → read ts (length s) ≡ o → by-grammar o ≡ refuse r p
+          → Has-cause s r p
+      by-read ts (parsed xs) a d q h = by-cause ts xs (refused-by causes (contexts xs)) a d q refl h
+      by-read ts (stopped o) a d q h = caused-so Ungrammatical o h (no-file (scanned-sound s (tokens ts) a) d (read-stops ts (length s) o q))
+
+      by-braces :
+          (ts : List Token) (o : Option ℕ) → scanned s ≡ tokens ts → too-deep 0 ts ≡ o → by-depth o (read ts (length s)) ≡ refuse r p → Has-cause s r p
+      by-braces ts none a d h = by-read ts (read ts (length s)) a d refl h
+      by-braces ts (some o) a d h = caused-so TooDeep o h (deep-brace (scanned-sound s (tokens ts) a) d)
+
+      by-scan : (t : Tokens) → scanned s ≡ t → by-tokens (length s) t ≡ refuse r p → Has-cause s r p
+      by-scan (tokens ts) a h = by-braces ts (too-deep 0 ts) a refl h
+      by-scan (bad o) a h = caused-so BadByte o h (bad-byte (scanned-sound s (bad o) a))
+
   pub refused-is : verdict s ≡ refuse r p → Refusable s r p
   unfolding verdict
   refused-is e = by-length (leb (length s) most-bytes) refl e
     where
-      by-cause :
-          (ts : List Token) (xs : List Tagged) (o : Option Refusal-at) → length s ≤ most-bytes → scanned s ≡ tokens ts → too-deep 0 ts ≡ none
-          → read ts (length s) ≡ parsed xs → refused-by causes (contexts xs) ≡ o → by-causes xs o ≡ refuse r p → Refusable s r p
-      by-cause ts xs none l a d q c h = never-accepts r p xs (sym h)
-      by-cause ts xs (some x) l a d q c h =
-          refused-so
-          (x .refusal)
-          (x .place) h
-          (for-cause l (record { spelled = ts; spelling = scanned-sound s (tokens ts) a; reading = read-sound ts (length s) xs q }) d (caused-by xs c))
-
-      by-read :
-          (ts : List Token) (o : Parse) → length s ≤ most-bytes → scanned s ≡ tokens ts → too-deep 0 ts ≡ none → read ts (length s) ≡ o
-          → by-grammar o ≡ refuse r p → Refusable s r p
-      by-read ts (parsed xs) l a d q h = by-cause ts xs (refused-by causes (contexts xs)) l a d q refl h
-      by-read ts (stopped o) l a d q h = refused-so Ungrammatical o h (no-file l (scanned-sound s (tokens ts) a) d (read-stops ts (length s) o q))
-
-      by-braces :
-          (ts : List Token) (o : Option ℕ) → length s ≤ most-bytes → scanned s ≡ tokens ts → too-deep 0 ts ≡ o → by-depth o (read ts (length s)) ≡ refuse r p
-          → Refusable s r p
-      by-braces ts none l a d h = by-read ts (read ts (length s)) l a d refl h
-      by-braces ts (some o) l a d h = refused-so TooDeep o h (deep-brace l (scanned-sound s (tokens ts) a) d)
-
-      by-scan : (t : Tokens) → length s ≤ most-bytes → scanned s ≡ t → by-tokens (length s) t ≡ refuse r p → Refusable s r p
-      by-scan (tokens ts) l a h = by-braces ts (too-deep 0 ts) l a refl h
-      by-scan (bad o) l a h = refused-so BadByte o h (bad-byte l (scanned-sound s (bad o) a))
-
       by-length : (b : Bool) → leb (length s) most-bytes ≡ b → cond b (by-tokens (length s) (scanned s)) (refuse FileTooLong 0) ≡ refuse r p → Refusable s r p
-      by-length true l h = by-scan (scanned s) (leb-true (length s) most-bytes l) refl h
-      by-length false l h = refused-so FileTooLong 0 h (long-file (leb-false (length s) most-bytes l))
+      by-length true l h = in-limit (leb-true (length s) most-bytes l) (refused-for h)
+      by-length false l h =
+          let a : FileTooLong ≡ r = cc in let b : _≡_ {A = ℕ} 0 p = cc in
+          subst₂ (Refusable s) a b (long-file (leb-false (length s) most-bytes l))
 
 -- ---- and the other way round: a text is refusable for one number at one place, and so refused
+
+pub cause-is : (s : List ℕ) (r : Refusal) (p : ℕ) → Has-cause s r p → by-tokens (length s) (scanned s) ≡ refuse r p
+cause-is s r p (bad-byte a) = rw (scanned-complete s (bad p) a)
+cause-is s r p (deep-brace {ts = ts} a d) = rw (scanned-complete s (tokens ts) a, d)
+cause-is s r p (no-file {ts = ts} a d h) = rw (scanned-complete s (tokens ts) a, d, stops-read ts (length s) p h)
+cause-is s r p (for-cause {xs = xs} t d c) =
+    rw (scanned-complete s (tokens (t .spelled)) (t .spelling), d, read-complete (t .spelled) (length s) xs (t .reading), caused-is xs c)
 
 pub refusable-is : (s : List ℕ) (r : Refusal) (p : ℕ) → Refusable s r p → verdict s ≡ refuse r p
 unfolding verdict
 refusable-is s r p (long-file l) = rw (lt-leb (length s) most-bytes l)
-refusable-is s r p (bad-byte l a) = rw (le-leb (length s) most-bytes l, scanned-complete s (bad p) a)
-refusable-is s r p (deep-brace {ts = ts} l a d) = rw (le-leb (length s) most-bytes l, scanned-complete s (tokens ts) a, d)
-refusable-is s r p (no-file {ts = ts} l a d h) = rw (le-leb (length s) most-bytes l, scanned-complete s (tokens ts) a, d, stops-read ts (length s) p h)
-refusable-is s r p (for-cause {xs = xs} l t d c) =
-    rw (
-      le-leb (length s) most-bytes l,
-      scanned-complete s (tokens (t .spelled)) (t .spelling),
-      d,
-      read-complete (t .spelled) (length s) xs (t .reading),
-      caused-is xs c,
-    )
+refusable-is s r p (in-limit l c) = rw (le-leb (length s) most-bytes l, cause-is s r p c)

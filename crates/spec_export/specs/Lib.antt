@@ -1,0 +1,4 @@
+pub mod Says
+pub mod Unwritable
+pub mod Export
+pub mod laws

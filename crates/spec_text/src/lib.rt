@@ -1,0 +1,1 @@
+// Definitions of the text of a file only: see specs/.
