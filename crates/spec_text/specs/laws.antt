@@ -1,3 +1,4 @@
 pub mod Pieces
 pub mod Keeps
 pub mod Unplaced
+pub mod KeptText
