@@ -38,7 +38,9 @@ lowered-again = read-alike lower-byte lower-byte lower-byte lower-again
 
 -- ---- a changed element in a list beside another
 
-beside-alike : {A B C : Type 0} (f : A → B → C) (g : A → A) → ((x : A) (y : B) → f (g x) y ≡ f x y) → (xs : List A) (ys : List B) → beside f (map g xs) ys ≡ beside f xs ys
+beside-alike :
+    {A B C : Type 0} (f : A → B → C) (g : A → A) → ((x : A) (y : B) → f (g x) y ≡ f x y) → (xs : List A) (ys : List B)
+    → beside f (map g xs) ys ≡ beside f xs ys
 beside-alike f g e [] ys = refl
 beside-alike f g e (x ∷ xs) [] = refl
 beside-alike f g e (x ∷ xs) (y ∷ ys) = cc (e x y, beside-alike f g e xs ys)

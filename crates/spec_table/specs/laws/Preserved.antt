@@ -155,10 +155,10 @@ module _ (c : Content) (sec : Section) (val : Option Group → List (List ℕ)) 
 
 module _ (f : File) where
   -- the strings of the n-th list of names stand in its spots
-  strings-kept : (n : ℕ) → map (string (content f)) (spots f n) ≡ getD (names f) n []
+  pub strings-kept : (n : ℕ) → map (string (content f)) (spots f n) ≡ getD (names f) n []
   strings-kept = parts-spread (names f)
 
-  spots-length : (n : ℕ) → length (spots f n) ≡ length (getD (names f) n [])
+  pub spots-length : (n : ℕ) → length (spots f n) ≡ length (getD (names f) n [])
   spots-length n = sym (length-map (spots f n) (string (content f))) ∙ ap length (strings-kept n)
 
   -- groups whose runs rs hold xs among all members have these members
@@ -178,10 +178,10 @@ module _ (f : File) where
       (spots-length n ∙ l)
       ∙ e
 
-  uags-kept : map (members-of (content f)) (records f user-groups) ≡ map (λ g. g .members) (f .uags)
+  pub uags-kept : map (members-of (content f)) (records f user-groups) ≡ map (λ g. g .members) (f .uags)
   uags-kept = members-kept 0 _ (simp (length-runs, length-map)) (rw joined-append (part-runs [] (map (λ g. g .members) (f .uags)) _))
 
-  hags-kept : map (members-of (content f)) (records f host-groups) ≡ map (λ g. map lowered (g .members)) (f .hags)
+  pub hags-kept : map (members-of (content f)) (records f host-groups) ≡ map (λ g. map lowered (g .members)) (f .hags)
   hags-kept =
       members-kept
       1
@@ -250,7 +250,7 @@ module _ (f : File) (fits : Fits f) (no-empty : tree-of [] ≡ none) where
   rows-kept (cons {x = r} c cs) (cons l ls) (cons₂ {x = u} us (cons₂ {x = h} hs refs)) (cons₂ {x = q} s ss) =
       cc (rule-kept r u h q c l us hs s, rows-kept cs ls refs ss)
 
-  rule-records-kept : map (rule-of (content f)) (records f rules) ≡ map (rule-in f) (all-rules f)
+  pub rule-records-kept : map (rule-of (content f)) (records f rules) ≡ map (rule-in f) (all-rules f)
   rule-records-kept =
       rows-kept
       (fits .calculations)
@@ -261,7 +261,7 @@ module _ (f : File) (fits : Fits f) (no-empty : tree-of [] ≡ none) where
 -- ---- access groups
 
 -- what the names, the runs of inputs and the runs of rules say
-asgs-kept :
+pub asgs-kept :
     {W : Type 0} {Q R : Run → Asg → Type 0} (f : File) (g : List ℕ → W) (h : Asg → W)
     → ((n i r : Run) (a : Asg) → string (content f) n ≡ a .name → Q i a → R r a → g (run-words n ++ (run-words i ++ run-words r)) ≡ h a)
     → Alike Q (runs 0 (map (λ a. a .inputs) (f .asgs))) (f .asgs) → Alike R (runs 0 (map (λ a. a .rules) (f .asgs))) (f .asgs)

@@ -13,6 +13,8 @@ use Rattle.spec_lists.specs.laws.Any.{any-map, any-same}
 use Rattle.spec_lists.specs.laws.Every.{every-implies, every-map}
 use Rattle.spec_lists.specs.laws.Joined.{map-map}
 use Rattle.spec_lists.specs.laws.Range.{bounded}
+-- passed on to the laws of an export, whose crate names no calculation
+pub use Rattle.spec_calc.specs.laws.Theorem.{no-empty}
 use Rattle.spec_token.specs.Token.{Between-quotes, nothing, stringchar, escape}
 use Rattle.spec_file.specs.Contents.{Group, Rule-text, Asg, File}
 use Rattle.spec_file.specs.Meaning.{switched-off}
