@@ -2,3 +2,5 @@ pub mod Pieces
 pub mod Keeps
 pub mod Unplaced
 pub mod KeptText
+pub mod Said
+pub mod Says
