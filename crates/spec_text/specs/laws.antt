@@ -4,3 +4,5 @@ pub mod Unplaced
 pub mod KeptText
 pub mod Said
 pub mod Says
+pub mod AcceptedTokens
+pub mod AcceptedQuotable
