@@ -6,3 +6,4 @@ pub mod Said
 pub mod Says
 pub mod AcceptedTokens
 pub mod AcceptedQuotable
+pub mod AcceptedOnce

@@ -1,5 +1,5 @@
 -- Whatever text reads: every string of what it says can stand between quotes.
-use mathlib.Core.List.{List, [], _∷_}
+use mathlib.Core.List.{List, []}
 use mathlib.Core.Option.{Option·getD}
 use Prim.Native.Nat.{ℕ}
 use Rattle.spec_lists.specs.Every.{Every, nil, cons}
@@ -8,7 +8,7 @@ use Rattle.spec_token.specs.Token.{Between-quotes, nothing}
 use Rattle.spec_grammar.specs.declared.Role.{Role}
 use Rattle.spec_grammar.specs.declared.Role.the-variants.{UagName, User, HagName, Host, AsgName, Input, Pvname, RuleWord, UagNamed, HagNamed, Calculation}
 use Rattle.spec_grammar.specs.Sentence.{Tagged}
-use Rattle.spec_file.specs.Contents.{text, texts, head-of, groups, links, rule-text, asg, file-of}
+use Rattle.spec_file.specs.Contents.{text, texts, head-of, groups, rule-text, asg, file-of}
 use Rattle.spec_file.specs.Acceptance.{Text-reads}
 use Rattle.spec_file.specs.laws.Counted.{every-clauses, every-texts}
 use Rattle.spec_file.specs.laws.ItemClauses.{group, link, rule-of}
