@@ -7,3 +7,4 @@ pub mod Says
 pub mod AcceptedTokens
 pub mod AcceptedQuotable
 pub mod AcceptedOnce
+pub mod Accepted

@@ -146,7 +146,7 @@ satisfied-within b (x ∷ xs) (cons h n) = go (has-role AsgName x) (satisfied-af
 -- ---- what the file says
 
 -- what holds of all texts holds of the first
-head-has : {Q : List ℕ → Type 0} {ts : List (List ℕ)} → Every Q ts → (s : List ℕ) → head-of ts ≡ some s → Q s
+pub head-has : {Q : List ℕ → Type 0} {ts : List (List ℕ)} → Every Q ts → (s : List ℕ) → head-of ts ≡ some s → Q s
 head-has nil s e = let z : false ≡ true = cc in absurd (false≢true z)
 head-has {Q} (cons {x = x} q c) s e = let same : x ≡ s = cc in subst Q same q
 
@@ -155,7 +155,7 @@ rule-given : (ys zs : List Tagged) → Every (Satisfied ys) zs → (s : List ℕ
 rule-given ys zs e = head-has (every-texts Calculation (λ x h w t p. every-implies (λ i g. input-given i ys g) (w h t p)) e)
 
 -- where 10 has no cause, each letter of each rule's calculation has an input in the group
-inputs-given : (xs : List Tagged) → Nowhere BadCalculation (contexts xs) → Every Inputs-given (file-of xs .asgs)
+pub inputs-given : (xs : List Tagged) → Nowhere BadCalculation (contexts xs) → Every Inputs-given (file-of xs .asgs)
 inputs-given xs n =
     every-map asg
     (every-implies
