@@ -8,3 +8,4 @@ pub mod AcceptedTokens
 pub mod AcceptedQuotable
 pub mod AcceptedOnce
 pub mod Accepted
+pub mod Quotable
