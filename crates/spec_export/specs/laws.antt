@@ -1,3 +1,4 @@
 pub mod Kept
 pub mod SameTable
 pub mod Quotes
+pub mod Limits
