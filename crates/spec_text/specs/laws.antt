@@ -9,3 +9,4 @@ pub mod AcceptedQuotable
 pub mod AcceptedOnce
 pub mod Accepted
 pub mod Quotable
+pub mod Length
