@@ -2,3 +2,4 @@ pub mod Kept
 pub mod SameTable
 pub mod Quotes
 pub mod Limits
+pub mod Bound
