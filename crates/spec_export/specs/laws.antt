@@ -3,3 +3,4 @@ pub mod SameTable
 pub mod Quotes
 pub mod Limits
 pub mod Bound
+pub mod QuotesBack

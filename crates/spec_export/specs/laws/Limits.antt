@@ -123,7 +123,7 @@ module _ (c : Content) (w : well-formed c ≡ true) where
 
   -- what stands in the sections, group by group and rule by rule
 
-  members-all : joined (map (members-of c) (c .records user-groups ++ c .records host-groups)) ≡ map (name c members) (c .records members)
+  pub members-all : joined (map (members-of c) (c .records user-groups ++ c .records host-groups)) ≡ map (name c members) (c .records members)
   members-all = joined-rows (name c members) (c .records members) members-run (c .records user-groups ++ c .records host-groups) (runs-in-turn .0)
 
   pub inputs-all : joined (map (λ a. a .inputs) (file-in c .asgs)) ≡ map (link-in c) (c .records inputs)
