@@ -18,6 +18,10 @@ use Rattle.spec_load.specs.Listing.{listing}
 use Rattle.spec_decision.specs.Decision as question
 use Rattle.spec_decision.specs.LookUp as look-up
 use Rattle.spec_decision.specs.Walk.{group-at}
+use Rattle.spec_decision.specs.Decision.{not-table-number}
+use Rattle.spec_export.specs.declared.Exported.{Exported}
+use Rattle.spec_export.specs.declared.Exported.the-variants as exports
+use Rattle.spec_export.specs.Export.{exported, unwritable-number, no-room-number}
 
 -- Every call of the library but a register's, which Register.antt adds; those of include/hrazvanut.h that are lent a text or a table, but a register's, are among them. What the crate sequence
 -- offers are sequences of these.
@@ -35,6 +39,8 @@ pub data Call : Type 0 where
   look-up-name : List ℕ → ℕ → Call
   -- of a number: where the name of that access group stands
   find-group : ℕ → Call
+  -- into so many lent bytes: the table's text
+  export-text : ℕ → Call
   -- of a calculation's text: whether it is allowed; on readings, its value, and whether it is true
   allow : List ℕ → Call
   calculate : List ℕ → List Reading → Call
@@ -51,6 +57,7 @@ text-loaded (find-input g letter) = none
 text-loaded (find-input-checked g letter) = none
 text-loaded (look-up-name g letter) = none
 text-loaded (find-group n) = none
+text-loaded (export-text n) = none
 text-loaded (allow s) = none
 text-loaded (calculate s rs) = none
 text-loaded (hold s rs) = none
@@ -99,6 +106,13 @@ abbrev pub listing-told : Listed → Option Told
 listing-told (listed.Warnings n) = none
 listing-told (listed.Refused r p) = some (at-place r p)
 
+-- 28 with the bytes needed, as a load's 11
+abbrev pub exported-told : Exported → Option Told
+exported-told (exports.Written n) = none
+exported-told exports.NotTable = some (no-place not-table-number)
+exported-told exports.Unwritable = some (no-place unwritable-number)
+exported-told (exports.NoRoom n) = some (record { number = no-room-number; place = some n })
+
 -- What a call on a table's bytes is refused with. A check and the calculation's calls never are; of a look-up, find-input tells the number.
 abbrev pub refusal-of : List ℕ → Call → Option Told
 refusal-of b (load-text s) = load-told (load b s .answer)
@@ -110,6 +124,7 @@ refusal-of b (find-input g letter) = Option·map no-place (look-up.number (look-
 refusal-of b (find-input-checked g letter) = Option·map no-place (look-up.number (look-up.look-up b g letter))
 refusal-of b (look-up-name g letter) = Option·map no-place (look-up.number (look-up.look-up b g letter))
 refusal-of b (find-group n) = Option·map no-place (look-up.number (group-at b n))
+refusal-of b (export-text n) = exported-told (exported n b)
 refusal-of b (allow s) = none
 refusal-of b (calculate s rs) = none
 refusal-of b (hold s rs) = none

@@ -28,6 +28,10 @@ number NotTable = some not-table-number
 number Unwritable = some unwritable-number
 number (NoRoom n) = some no-room-number
 
+-- No text is longer: laws/Bound.antt.
+abbrev pub greatest-text : ℕ
+greatest-text = 213056
+
 -- the text's length; with 28 the bytes needed
 abbrev pub bytes-in : Exported → ℕ
 bytes-in (Written n) = n
@@ -35,25 +39,34 @@ bytes-in NotTable = 0
 bytes-in Unwritable = 0
 bytes-in (NoRoom n) = n
 
+-- ---- what it answers
+
+-- 28: a text that needs more bytes than are lent
+abbrev pub if-room : ℕ → ℕ → Exported
+if-room needed n = cond (leb needed n) (Written needed) (NoRoom needed)
+
+-- 27, then the rest
+abbrev pub of-content : ℕ → Content → Exported
+of-content n c = cond (unwritable c) Unwritable (if-room (length (text-in c)) n)
+
+-- the answer to an export of the table b into n lent bytes. "Refusals: 20; then 27 [..]; then 28"
+unfoldable pub exported : ℕ → List ℕ → Exported
+exported n b = cond (is-table b) (of-content n (view b)) NotTable
+
+-- ---- what it leaves
+
+-- a text is written at the start of the lent bytes, and those behind it stay; a refused export leaves all of them
+abbrev pub left : List ℕ → List ℕ → Exported → List ℕ
+left lent text (Written n) = text ++ drop (length text) lent
+left lent text NotTable = lent
+left lent text Unwritable = lent
+left lent text (NoRoom n) = lent
+
 -- the answer, and the lent bytes afterwards
 pub record Result : Type 0 where
   pub answer : Exported
   pub bytes : List ℕ
 
--- a text is written at the start of the lent bytes; those behind it stay
-abbrev pub written : List ℕ → List ℕ → Result
-written lent text = record { answer = Written (length text); bytes = text ++ drop (length text) lent }
-
--- a refused export leaves the lent bytes as they are
-abbrev pub refused : List ℕ → Exported → Result
-refused lent a = record { answer = a; bytes = lent }
-
-abbrev pub if-room : List ℕ → List ℕ → Result
-if-room lent text = cond (leb (length text) (length lent)) (written lent text) (refused lent (NoRoom (length text)))
-
-abbrev pub of-content : List ℕ → Content → Result
-of-content lent c = cond (unwritable c) (refused lent Unwritable) (if-room lent (text-in c))
-
--- the export of the table b into lent bytes. "Refusals: 20; then 27 [..]; then 28"
-unfoldable pub export : List ℕ → List ℕ → Result
-export lent b = cond (is-table b) (of-content lent (view b)) (refused lent NotTable)
+-- the export of the table b into lent bytes
+abbrev pub export : List ℕ → List ℕ → Result
+export lent b = record { answer = exported (length lent) b; bytes = left lent (text-in (view b)) (exported (length lent) b) }

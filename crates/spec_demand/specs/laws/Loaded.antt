@@ -28,7 +28,7 @@ use Rattle.spec_load.specs.laws.Load.{refused-leaves}
 use Rattle.spec_decision.specs.Decision.{rules-in, rules-for, decide}
 use Rattle.spec_edition.specs.Machine.{rules-later}
 use Rattle.spec_demand.specs.ByFile.{rules-by-file, answer-by-file}
-use Rattle.spec_demand.specs.Calls.{Call, load-text, list-warnings, check-table, ask, ask-checked, find-input, find-input-checked, look-up-name, find-group}
+use Rattle.spec_demand.specs.Calls.{Call, load-text, list-warnings, check-table, ask, ask-checked, find-input, find-input-checked, look-up-name, find-group, export-text}
 use Rattle.spec_demand.specs.Calls.{allow, calculate, hold, Told, load-told, refusal-of}
 use Rattle.spec_demand.specs.Calls.{text-loaded, after-load, after-call, after-calls, is-accepted, no-new-table, No-accepted-load}
 
@@ -74,6 +74,7 @@ refused-call-leaves b (find-input g letter) r e = refl
 refused-call-leaves b (find-input-checked g letter) r e = refl
 refused-call-leaves b (look-up-name g letter) r e = refl
 refused-call-leaves b (find-group n) r e = refl
+refused-call-leaves b (export-text n) r e = refl
 refused-call-leaves b (allow s) r e = refl
 refused-call-leaves b (calculate s rs) r e = refl
 refused-call-leaves b (hold s rs) r e = refl
