@@ -10,3 +10,4 @@ pub mod AcceptedOnce
 pub mod Accepted
 pub mod Quotable
 pub mod Length
+pub mod Spelled
