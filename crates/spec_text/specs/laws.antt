@@ -11,3 +11,4 @@ pub mod Accepted
 pub mod Quotable
 pub mod Length
 pub mod Spelled
+pub mod Derived
