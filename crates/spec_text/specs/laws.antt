@@ -12,3 +12,4 @@ pub mod Quotable
 pub mod Length
 pub mod Spelled
 pub mod Derived
+pub mod Read

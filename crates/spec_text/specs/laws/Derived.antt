@@ -192,19 +192,25 @@ hag-is g =
 abbrev Predicate : List Piece → Type 0
 Predicate l = Is rule-list-item (signs-of l)
 
-module _ {l : Nonterminal} (k : Kind) (r : Role) (item : rule-list-item ⟶ tm (k tagged NoRole) (grammar.lp (nt l (grammar.rp end)))) (list : l ⟶ strings r) where
-  reference-is : (w : List ℕ) (ss : List (List ℕ)) → Every Predicate (reference-pieces (word k NoRole w) r ss)
-  reference-is w [] = nil
-  reference-is w (s ∷ ss) = cons (λ z. expand item (take (take (expand list (strings-say z) (take finish)))) finish) nil
-    where
-      strings-say : (z : List Sign) → Derives (strings r) (signs-of (list-pieces r s ss ++ (rp ∷ [])) ++ z) (kind.CloseParen tagged NoRole ∷ z)
-      strings-say z =
-          subst
-          (λ t. Derives (strings r) t (kind.CloseParen tagged NoRole ∷ z))
-          (sym
-          (ap (λ t. t ++ z) (signs-append (list-pieces r s ss) (rp ∷ []))
-          ∙ append-assoc (signs-of (list-pieces r s ss)) (kind.CloseParen tagged NoRole ∷ []) z))
-          (list-says r s ss (kind.CloseParen tagged NoRole ∷ z))
+module _
+    {l : Nonterminal}
+    (k : Kind)
+    (r : Role)
+    (item : rule-list-item ⟶ tm (k tagged NoRole) (grammar.lp (nt l (grammar.rp end))))
+    (list : l ⟶ strings r)
+  where
+    reference-is : (w : List ℕ) (ss : List (List ℕ)) → Every Predicate (reference-pieces (word k NoRole w) r ss)
+    reference-is w [] = nil
+    reference-is w (s ∷ ss) = cons (λ z. expand item (take (take (expand list (strings-say z) (take finish)))) finish) nil
+      where
+        strings-say : (z : List Sign) → Derives (strings r) (signs-of (list-pieces r s ss ++ (rp ∷ [])) ++ z) (kind.CloseParen tagged NoRole ∷ z)
+        strings-say z =
+            subst
+            (λ t. Derives (strings r) t (kind.CloseParen tagged NoRole ∷ z))
+            (sym
+            (ap (λ t. t ++ z) (signs-append (list-pieces r s ss) (rp ∷ []))
+            ∙ append-assoc (signs-of (list-pieces r s ss)) (kind.CloseParen tagged NoRole ∷ []) z))
+            (list-says r s ss (kind.CloseParen tagged NoRole ∷ z))
 
 calculation-is : (c : Option (List ℕ)) → Every Predicate (calculation-pieces c)
 calculation-is none = nil
@@ -229,8 +235,7 @@ predicates-are r =
 
 -- "{" rule_list "}", if there is a predicate
 predicates-say :
-    (ls : List (List Piece)) → Every Predicate ls → (z : List Sign)
-    → Derives (opt grammar.rule-body end) (body-signs ls ++ z) z
+    (ls : List (List Piece)) → Every Predicate ls → (z : List Sign) → Derives (opt grammar.rule-body end) (body-signs ls ++ z) z
 predicates-say ls ps z =
     body-says grammar.rule-body₁ ls z
     (λ h. expand grammar.rule-list₁ (at-least-one (map signs-of ls) (every-map signs-of ps) (nonempty-map signs-of ls ∙ h) finish) (take finish))

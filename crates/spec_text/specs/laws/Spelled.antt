@@ -171,11 +171,11 @@ text-by-pieces f = sym (ended-bytes (line-pieces f) ∙ ap ended (line-bytes f))
 -- ---- pieces that stand for what they are
 
 -- a bare word of the kind k
-data A-word : List ℕ → Kind → Type 0 where
+pub data A-word : List ℕ → Kind → Type 0 where
   a-word : {b : ℕ} {w : List ℕ} {k : Kind} → all name-byte (b ∷ w) ≡ true → Of-kind (b ∷ w) k → A-word (b ∷ w) k
 
 -- Each piece can stand for its token. A punctuation token stands behind a word, so no word runs on.
-data Well-spelled : List Piece → Type 0 where
+pub data Well-spelled : List Piece → Type 0 where
   no-pieces : Well-spelled []
   a-mark : {b : ℕ} {k : Kind} {ps : List Piece} → Alone b k → Well-spelled ps → Well-spelled (mark b k ∷ ps)
   a-word-and-mark :
@@ -195,7 +195,7 @@ no-name-byte comma = refl
 abbrev pub tokens-at : ℕ → List Piece → List Token
 tokens-at p ps = map (λ x. x .token) (said-at p ps)
 
-well-spells : {ps : List Piece} → Well-spelled ps → (p : ℕ) → Spells p (spelled-by ps) (tokens (tokens-at p ps))
+pub well-spells : {ps : List Piece} → Well-spelled ps → (p : ℕ) → Spells p (spelled-by ps) (tokens (tokens-at p ps))
 well-spells no-pieces p = end
 well-spells (a-mark {ps = ps} a d) p = spells.alone {o = tokens (tokens-at (p + 1) ps)} a (well-spells d (p + 1))
 well-spells (a-word-and-mark {w = w} {b = c} {ps = ps} (a-word {b = b} {w = v} n k) a d) p =
