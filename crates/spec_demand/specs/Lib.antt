@@ -3,6 +3,7 @@ pub mod Calls
 pub mod Memory
 pub mod Register
 pub mod Rooms
+pub mod Exporting
 pub mod ByFile
 pub mod Cases
 pub mod Front

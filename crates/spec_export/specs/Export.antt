@@ -28,10 +28,6 @@ number NotTable = some not-table-number
 number Unwritable = some unwritable-number
 number (NoRoom n) = some no-room-number
 
--- No text is longer: laws/Bound.antt.
-abbrev pub greatest-text : ℕ
-greatest-text = 213056
-
 -- the text's length; with 28 the bytes needed
 abbrev pub bytes-in : Exported → ℕ
 bytes-in (Written n) = n

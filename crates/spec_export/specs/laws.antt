@@ -4,3 +4,4 @@ pub mod Quotes
 pub mod Limits
 pub mod Bound
 pub mod QuotesBack
+pub mod Unwritable

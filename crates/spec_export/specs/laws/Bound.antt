@@ -5,7 +5,8 @@ use Prim.Native.Nat.{_≤_}
 use lib.ListN.{length}
 use Rattle.spec_table.specs.Layout.{Content}
 use Rattle.spec_table.specs.Check.{well-formed}
-use Rattle.spec_text.specs.laws.Length.{greatest-text, text-bounded}
+use Rattle.spec_text.specs.Lines.{greatest-text}
+use Rattle.spec_text.specs.laws.Length.{text-bounded}
 use Rattle.spec_export.specs.Says.{file-in}
 use Rattle.spec_export.specs.Unwritable.{text-in}
 use Rattle.spec_export.specs.laws.Limits.{keeps}

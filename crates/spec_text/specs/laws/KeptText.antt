@@ -1,5 +1,5 @@
 -- A file without its places has the same text; what a table keeps of a file has the same faults, and its strings can be quoted as well.
-use mathlib.Core.Path.{_≡_, refl, ap, _∙_}
+use mathlib.Core.Path.{_≡_, refl, ap, _∙_, sym}
 use mathlib.Core.Bool.{Bool, true, false, cond, not, _||_}
 use mathlib.Core.List.{List, [], _∷_, _++_, map}
 use Prim.Native.Nat.{ℕ, _+_}
@@ -98,6 +98,26 @@ module _ (f : File) where
         map-map (λ a. a .name) unplaced-asg (f .asgs),
         any-alike (asg-faulty (kept f)) (asg-faulty f) unplaced-asg same-asg-faults (f .asgs),
       )
+
+-- ---- a file without its places
+
+pub unplaced-again : (f : File) → kept (unplaced f) ≡ kept f
+unplaced-again f =
+    ap (λ (l : List Asg). record { uags = f .uags; hags = map lowered-group (f .hags); asgs = l }) (read-alike unplaced-asg unplaced-asg unplaced-asg asg-again (f .asgs))
+  where
+    rule-again : (r : Rule-text) → unplaced-rule (unplaced-rule r) ≡ unplaced-rule r
+    rule-again r = rw (still-off r) refl
+
+    asg-again : (a : Asg) → unplaced-asg (unplaced-asg a) ≡ unplaced-asg a
+    asg-again a =
+        ap (λ (l : List Rule-text). record { name = a .name; inputs = a .inputs; rules = l })
+        (read-alike unplaced-rule unplaced-rule unplaced-rule rule-again (a .rules))
+
+pub unplaced-faults : (f : File) → faulty (unplaced f) ≡ faulty f
+unplaced-faults f = sym (same-faults (unplaced f)) ∙ (ap faulty (unplaced-again f) ∙ same-faults f)
+
+pub unplaced-definitions : (f : File) → defines-nothing (unplaced f) ≡ defines-nothing f
+unplaced-definitions f = sym (same-definitions (unplaced f)) ∙ (ap defines-nothing (unplaced-again f) ∙ same-definitions f)
 
 -- ---- the strings
 

@@ -16,12 +16,8 @@ use Rattle.spec_file.specs.Contents.{Group, Link, Rule-text, Asg, File}
 use Rattle.spec_file.specs.Meaning.{switched-off}
 use Rattle.spec_text.specs.Lines.{quoted, quoted-list, called, headed, member-line, group-lines, link-word, link-line, level-word, permission-word}
 use Rattle.spec_text.specs.Lines.{log-word, rule-head, reference-line, calculation-line, unknown-line, predicate-lines, rule-lines, asg-lines}
-use Rattle.spec_text.specs.Lines.{ended, text-of}
+use Rattle.spec_text.specs.Lines.{ended, text-of, greatest-text}
 use Rattle.spec_text.specs.laws.Keeps.{Calculation-of, without, with, Group-of, Rule-of, Asg-of, Short-name, Short-calculation, named-in, Keeps}
-
--- No text is longer: 192 groups of 71 bytes each, 1,024 members and 1,024 references of 63, 512 inputs of 69 and 256 rules of 137.
-abbrev pub greatest-text : ℕ
-greatest-text = 213056
 
 -- ---- words and lines
 
