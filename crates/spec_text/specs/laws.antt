@@ -13,3 +13,4 @@ pub mod Length
 pub mod Spelled
 pub mod Derived
 pub mod Read
+pub mod ClearSayings
