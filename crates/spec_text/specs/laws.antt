@@ -14,3 +14,5 @@ pub mod Spelled
 pub mod Derived
 pub mod Read
 pub mod ClearSayings
+pub mod ClearContexts
+pub mod ClearTokens
