@@ -16,3 +16,4 @@ pub mod Read
 pub mod ClearSayings
 pub mod ClearContexts
 pub mod ClearTokens
+pub mod ClearCounts
