@@ -17,3 +17,6 @@ pub mod ClearSayings
 pub mod ClearContexts
 pub mod ClearTokens
 pub mod ClearCounts
+pub mod ClearFaults
+pub mod ClearRoles
+pub mod ClearNames

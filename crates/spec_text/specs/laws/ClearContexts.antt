@@ -12,9 +12,10 @@ use Rattle.spec_grammar.specs.declared.Role.the-variants.{NoRole}
 use Rattle.spec_grammar.specs.Codes.{same-role}
 use Rattle.spec_grammar.specs.Sentence.{Tagged}
 use Rattle.spec_file.specs.Limit.{Section, order, item-of}
-use Rattle.spec_file.specs.Contents.{has-role, text, texts, until}
-use Rattle.spec_file.specs.Refusal.{Context, contexts-after, item}
-use Rattle.spec_text.specs.laws.ClearSayings.{Says, nothing, silent, aloud}
+use Rattle.spec_file.specs.Contents.{has-role, text, texts, until, File}
+use Rattle.spec_file.specs.Refusal.{Context, contexts-after, contexts, item}
+use Rattle.spec_text.specs.laws.Pieces.{said-at, file-pieces}
+use Rattle.spec_text.specs.laws.ClearSayings.{Says, nothing, silent, aloud, file-sayings, text-says}
 
 -- a property of each of some tokens and of those before it, b being before all of them
 pub data Onward (Q : List Tagged → Tagged → Type 0) : List Tagged → List Tagged → Type 0 where
@@ -50,6 +51,10 @@ module _ {Q : List Tagged → Tagged → Type 0} where
   onward-says r s nothing o = end
   onward-says r {b} s (silent {x = x} e t) o = next (r .quiet b x e) (onward-says r (silent e s) t o)
   onward-says r {b} {d} s (aloud {x = x} {y = y} e u t) (next q o) = next (r .heard b d x y s e u q) (onward-says r (aloud e u s) t o)
+
+  -- so it is with the text of a file
+  pub in-text : Respects Q → (f : File) (p : ℕ) → Onward Q [] (file-sayings f) → Every (λ c. Q (c .backwards) (c .here)) (contexts (said-at p (file-pieces f)))
+  in-text r f p o = onward-contexts (onward-says r nothing (text-says f p) o)
 
 -- ---- what tokens and what they say have in common
 
