@@ -20,3 +20,6 @@ pub mod ClearCounts
 pub mod ClearFaults
 pub mod ClearRoles
 pub mod ClearNames
+pub mod ClearDefined
+pub mod ClearCalculations
+pub mod Clear

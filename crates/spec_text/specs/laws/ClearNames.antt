@@ -32,7 +32,7 @@ use Rattle.spec_text.specs.laws.ClearSayings.{predicate-sayings, rule-sa
 use Rattle.spec_text.specs.laws.ClearContexts.{Onward, end, next, Respects, every-onward, onward-append, onward-joined, in-text}
 use Rattle.spec_text.specs.laws.ClearContexts.{texts-says, until-says}
 use Rattle.spec_text.specs.laws.ClearRoles.{Without, group-without, link-without, body-without, rule-without, strings-without, each-without}
-use Rattle.spec_text.specs.laws.ClearRoles.{asg-without, texts-none, texts-append, texts-each, uag-names, hag-names, asg-names}
+use Rattle.spec_text.specs.laws.ClearRoles.{unknown-without, asg-without, texts-none, texts-append, texts-each, uag-names, hag-names, asg-names}
 
 -- one of some texts is u
 abbrev given-in : List ℕ → List (List ℕ) → Bool
@@ -178,12 +178,8 @@ rule-calcs r =
     (texts-append CalcWord (strings HagNamed (r .hags)) _
     ∙ ap₂ (λ (s t : List (List ℕ)). s ++ t) (texts-none CalcWord (strings-without CalcWord HagNamed refl (r .hags)))
     (texts-append CalcWord (calculation-sayings (r .calculation)) _
-    ∙ (ap (λ (t : List (List ℕ)). texts CalcWord (calculation-sayings (r .calculation)) ++ t) (unknown (switched-off r))
+    ∙ (ap (λ (t : List (List ℕ)). texts CalcWord (calculation-sayings (r .calculation)) ++ t) (texts-none CalcWord (unknown-without CalcWord refl (switched-off r)))
     ∙ append-nil (texts CalcWord (calculation-sayings (r .calculation))))))
-  where
-    unknown : (b : Bool) → texts CalcWord (unknown-sayings b) ≡ []
-    unknown false = refl
-    unknown true = refl
 
 rule-once : (r : Rule-text) (b : List Tagged) → Onward (Once CalcWord (until RuleWord)) b (rule-sayings r)
 rule-once r b =

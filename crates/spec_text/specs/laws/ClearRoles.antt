@@ -5,11 +5,13 @@ use mathlib.Core.List.{List, [], _∷_, _++_, map, append-nil}
 use mathlib.Core.Option.{Option, none, some}
 use Prim.Native.Nat.{ℕ}
 use borrow.Author.Tests.{not-true, eq-eqb}
+use Rattle.spec_lists.specs.Text.{bytes}
 use Rattle.spec_lists.specs.Select.{select, prepend-if, joined, all}
 use Rattle.spec_lists.specs.Every.{Every, nil, cons}
 use Rattle.spec_lists.specs.laws.Every.{every, every-append, every-implies, every-map, every-joined}
 use Rattle.spec_grammar.specs.declared.Role.{Role}
-use Rattle.spec_grammar.specs.declared.Role.the-variants.{UagName, User, HagName, Host, AsgName, Input, Pvname, RuleWord, UagNamed, HagNamed}
+use Rattle.spec_grammar.specs.declared.Role.the-variants.{UagName, User, HagName, Host, AsgName, Input, Pvname, RuleWord, Level, Permission, LogOption}
+use Rattle.spec_grammar.specs.declared.Role.the-variants.{UagNamed, HagNamed, CalcWord, Calculation, UnknownPredicate}
 use Rattle.spec_grammar.specs.Codes.{role-number, same-role}
 use Rattle.spec_grammar.specs.Sentence.{Tagged}
 use Rattle.spec_grammar.specs.laws.Roles.{one-of, one-of-all, rule-roles}
@@ -83,6 +85,14 @@ module _ (q : Role) where
   pub strings-without : (r : Role) → same-role r q ≡ false → (ss : List (List ℕ)) → Without q (strings r ss)
   strings-without r w ss = every-map (saying r) (every (λ s. w) ss)
 
+  pub calculation-without : same-role CalcWord q ≡ false → same-role Calculation q ≡ false → (o : Option (List ℕ)) → Without q (calculation-sayings o)
+  calculation-without v w none = nil
+  calculation-without v w (some s) = cons v (cons w nil)
+
+  pub unknown-without : same-role UnknownPredicate q ≡ false → (b : Bool) → Without q (unknown-sayings b)
+  unknown-without w false = nil
+  unknown-without w true = cons w nil
+
   -- of each of a list
   pub each-without : {A : Type 0} (g : A → List Tagged) → ((x : A) → Without q (g x)) → (xs : List A) → Without q (joined (map g xs))
   each-without g w xs = every-joined (every-map g (every w xs))
@@ -91,6 +101,33 @@ module _ (q : Role) where
   pub asg-without :
       other q (Input ∷ Pvname ∷ []) → other q (RuleWord ∷ rule-roles) → (a : Asg) → Without q (links-sayings a ++ rules-sayings a)
   asg-without v w a = every-append (each-without link-sayings (link-without v) (a .inputs)) (each-without rule-sayings (rule-without w) (a .rules))
+
+  -- ---- what holds of each token
+
+  -- P holds of the tokens that do not say q, which stands in rules only
+  module _ {P : Tagged → Type 0} (v : (x : Tagged) → has-role q x ≡ false → P x) where
+    pub rule-each :
+        other q (RuleWord ∷ Level ∷ Permission ∷ LogOption ∷ []) → same-role UnknownPredicate q ≡ false → (r : Rule-text)
+        → Every P (strings UagNamed (r .uags)) → Every P (strings HagNamed (r .hags)) → Every P (calculation-sayings (r .calculation))
+        → Every P (rule-sayings r)
+    rule-each w k r us hs cs =
+        every-append (every-implies v (without q (RuleWord ∷ Level ∷ Permission ∷ LogOption ∷ []) {xs = saying RuleWord (bytes "RULE") ∷ head-sayings r} w (cons refl (cons refl (cons refl (cons refl nil))))))
+        (every-append us (every-append hs (every-append cs (every-implies v (unknown-without k (switched-off r))))))
+
+    pub file-each :
+        other q (UagName ∷ User ∷ []) → other q (HagName ∷ Host ∷ []) → same-role AsgName q ≡ false → other q (Input ∷ Pvname ∷ []) → (f : File)
+        → Every (λ a. Every (λ r. Every P (rule-sayings r)) (a .rules)) (f .asgs)
+        → Every P (file-sayings f)
+    file-each us hs n ls f rs =
+        every-append (every-implies v (each-without (group-sayings UagName User) (group-without UagName User us) (f .uags)))
+        (every-append (every-implies v (each-without (group-sayings HagName Host) (group-without HagName Host hs) (f .hags)))
+        (every-joined (every-map asg-sayings (every-implies asg-each rs))))
+      where
+        asg-each : (a : Asg) → Every (λ r. Every P (rule-sayings r)) (a .rules) → Every P (asg-sayings a)
+        asg-each a rs =
+            cons
+            (v (saying AsgName (a .name)) n)
+            (every-append (every-implies v (each-without link-sayings (link-without ls) (a .inputs))) (every-joined (every-map rule-sayings rs)))
 
   -- ---- the texts
 
