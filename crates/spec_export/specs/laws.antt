@@ -5,3 +5,4 @@ pub mod Limits
 pub mod Bound
 pub mod QuotesBack
 pub mod Unwritable
+pub mod Back

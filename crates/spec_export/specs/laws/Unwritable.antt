@@ -33,6 +33,7 @@ use Rattle.spec_text.specs.laws.KeptText.{unplaced-faults, unplaced-definitions
 use Rattle.spec_text.specs.laws.Quotable.{quotable-sound, quotable-complete}
 use Rattle.spec_text.specs.laws.Read.{text-reads, shallow, empty, empty-cause}
 use Rattle.spec_text.specs.laws.Says.{says}
+use Rattle.spec_text.specs.laws.Clear.{uncaused}
 use Rattle.spec_text.specs.laws.Accepted.{faultless}
 use Rattle.spec_export.specs.Says.{file-in}
 use Rattle.spec_export.specs.Unwritable.{text-in, strings-in, Unwritable, unquotable, caused, unwritable}
@@ -60,8 +61,8 @@ module _ (f : File) (q : Quotable f) (k : Keeps f) where
       go false h = by-cause h (refused-by causes (contexts (said-at 0 (file-pieces f)))) refl
 
   -- a text without a fault has none
-  pub faultless-free : ((f : File) (p : ℕ) → Keeps f → faulty f ≡ false → (r : Refusal) → Nowhere r (contexts (said-at p (file-pieces f)))) → faulty f ≡ false → (r : Refusal) (p : ℕ) → Has-cause (text-of f) r p → ⊥
-  faultless-free uncaused e r p c =
+  pub faultless-free : faulty f ≡ false → (r : Refusal) (p : ℕ) → Has-cause (text-of f) r p → ⊥
+  faultless-free e r p c =
       let h : defines-nothing f ≡ false = defines e in
       let free = free-is (text-of f) (said-at 0 (file-pieces f)) (text-reads f q (k .named) h) (shallow f) (uncaused f 0 k e) in
       let clash = sym (cause-is (text-of f) r p c) ∙ free in
@@ -90,7 +91,7 @@ none-unquotable : (ss : List (List ℕ)) → all quotable ss ≡ true → Some (
 none-unquotable (s ∷ ss) e (here n) = n (quotable-sound s (both (quotable s) (all quotable ss) e .0))
 none-unquotable (s ∷ ss) e (further h) = none-unquotable ss (both (quotable s) (all quotable ss) e .1) h
 
-module _ (c : Content) (w : well-formed c ≡ true) (uncaused : (f : File) (p : ℕ) → Keeps f → faulty f ≡ false → (r : Refusal) → Nowhere r (contexts (said-at p (file-pieces f)))) where
+module _ (c : Content) (w : well-formed c ≡ true) where
   found-so : unwritable c ≡ true → Unwritable c
   found-so = go (all quotable (strings-in c)) refl
     where
@@ -105,7 +106,7 @@ module _ (c : Content) (w : well-formed c ≡ true) (uncaused : (f : File) (p : 
       go false h d e u = refl
       go true h true e u = refl
       go true h false e (unquotable s) = absurd (none-unquotable (strings-in c) h s)
-      go true h false e (caused {r = r} {p = p} k) = absurd (faultless-free (file-in c) (strings-quotable c h) (keeps c w) uncaused e r p k)
+      go true h false e (caused {r = r} {p = p} k) = absurd (faultless-free (file-in c) (strings-quotable c h) (keeps c w) e r p k)
 
   pub unwritable-is : (unwritable c ≡ true) ↔ Unwritable c
   unwritable-is = (found-so, so-found)

@@ -111,8 +111,8 @@ letter-back n = omega arith
 links-onward :
     (is : List Link) (b ys : List Tagged)
     → ((d : List Tagged)
-      → ((i : ℕ) → any (eqb i) (map (λ l. l .letter) is) || any (eqb i) (letters-before b) ≡ true → any (eqb i) (letters-before d) ≡ true)
-      → Onward Allowed d ys)
+    → ((i : ℕ) → any (eqb i) (map (λ l. l .letter) is) || any (eqb i) (letters-before b) ≡ true → any (eqb i) (letters-before d) ≡ true)
+    → Onward Allowed d ys)
     → Onward Allowed b (joined (map link-sayings is) ++ ys)
 links-onward [] b ys k = k b (λ i h. h)
 links-onward (l ∷ is) b ys k =
@@ -146,9 +146,9 @@ asg-onward f a k b =
     next refl
     (links-onward (a .inputs) (saying AsgName (a .name) ∷ b) (rules-sayings a)
     (λ d g.
-      rules-onward (letters-of a) d (rules-sayings a) (λ i h. g i (rw h))
-      (each-without AsgName rule-sayings (rule-without AsgName refl) (a .rules))
-      (every-joined (every-map rule-sayings (every-implies (rule-allowed f (letters-of a)) (k .rules))))))
+    rules-onward (letters-of a) d (rules-sayings a) (λ i h. g i (rw h))
+    (each-without AsgName rule-sayings (rule-without AsgName refl) (a .rules))
+    (every-joined (every-map rule-sayings (every-implies (rule-allowed f (letters-of a)) (k .rules))))))
 
 groups-onward : {xs : List Tagged} → Without Calculation xs → (b : List Tagged) → Onward Allowed b xs
 groups-onward w b = every-onward b (every-implies (λ x e d. rw e) w)
@@ -158,9 +158,9 @@ file-onward f k =
     onward-append
     (groups-onward (each-without Calculation (group-sayings UagName User) (group-without Calculation UagName User refl) (f .uags)) [])
     (λ b.
-      onward-append
-      (groups-onward (each-without Calculation (group-sayings HagName Host) (group-without Calculation HagName Host refl) (f .hags)) b)
-      (onward-joined asg-sayings (every-implies (asg-onward f) (k .each))))
+    onward-append
+    (groups-onward (each-without Calculation (group-sayings HagName Host) (group-without Calculation HagName Host refl) (f .hags)) b)
+    (onward-joined asg-sayings (every-implies (asg-onward f) (k .each))))
 
 pub no-bad-calculation : (f : File) (p : ℕ) → Sound f → Every (λ c. bad-calculation c ≡ false) (contexts (said-at p (file-pieces f)))
 no-bad-calculation f p k = every-implies allowed-not-bad (in-text allowed-respects f p (file-onward f k))

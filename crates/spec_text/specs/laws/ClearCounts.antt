@@ -228,8 +228,8 @@ few f k s = go s (file-counts s f) (sum-same (in-asg-is s) (f .asgs))
     references-in : sum (asg-items references) (f .asgs) ≡ length (joined (map named-in (joined (map (λ a. a .rules) (f .asgs)))))
     references-in =
         sym (
-          length-of named-in (joined (map (λ a. a .rules) (f .asgs)))
-          ∙ (sum-joined (λ r. length (named-in r)) (map (λ a. a .rules) (f .asgs)) ∙ sum-map (sum (λ r. length (named-in r))) (λ a. a .rules) (f .asgs)))
+        length-of named-in (joined (map (λ a. a .rules) (f .asgs)))
+        ∙ (sum-joined (λ r. length (named-in r)) (map (λ a. a .rules) (f .asgs)) ∙ sum-map (sum (λ r. length (named-in r))) (λ a. a .rules) (f .asgs)))
 
     go :
         (s : Section)

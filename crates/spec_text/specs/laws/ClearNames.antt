@@ -165,9 +165,9 @@ letters-once f k =
     onward-append
     (once-without Input (until AsgName) (each-without Input (group-sayings UagName User) (group-without Input UagName User refl) (f .uags)) [])
     (λ b.
-      onward-append
-      (once-without Input (until AsgName) (each-without Input (group-sayings HagName Host) (group-without Input HagName Host refl) (f .hags)) b)
-      (onward-joined asg-sayings (every-implies (asg-once f) (k .each))))
+    onward-append
+    (once-without Input (until AsgName) (each-without Input (group-sayings HagName Host) (group-without Input HagName Host refl) (f .hags)) b)
+    (onward-joined asg-sayings (every-implies (asg-once f) (k .each))))
 
 -- ---- CALC
 
@@ -199,9 +199,9 @@ calcs-once f =
     onward-append
     (once-without CalcWord (until RuleWord) (each-without CalcWord (group-sayings UagName User) (group-without CalcWord UagName User refl) (f .uags)) [])
     (λ b.
-      onward-append
-      (once-without CalcWord (until RuleWord) (each-without CalcWord (group-sayings HagName Host) (group-without CalcWord HagName Host refl) (f .hags)) b)
-      (onward-joined asg-sayings (every (λ a d. next refl (in-asg a (saying AsgName (a .name) ∷ d))) (f .asgs))))
+    onward-append
+    (once-without CalcWord (until RuleWord) (each-without CalcWord (group-sayings HagName Host) (group-without CalcWord HagName Host refl) (f .hags)) b)
+    (onward-joined asg-sayings (every (λ a d. next refl (in-asg a (saying AsgName (a .name) ∷ d))) (f .asgs))))
   where
     in-asg : (a : Asg) (b : List Tagged) → Onward (Once CalcWord (until RuleWord)) b (links-sayings a ++ rules-sayings a)
     in-asg a b =
