@@ -1,4 +1,4 @@
--- 01, "Proved and run cases": those that are proved, together as a single list; 02's of requests 3 to 5; and 001's example of a role. Each is computed
+-- 01, "Proved and run cases": those that are proved, together as a single list; 02's of requests 3 to 6; and 001's example of a role. Each is computed
 -- from its text by the definitions.
 use mathlib.Core.Path.{_≡_}
 use mathlib.Core.Bool.{Bool, true, false}
@@ -6,6 +6,7 @@ use mathlib.Core.List.{List, [], _∷_, _++_, map}
 use mathlib.Core.Option.{some}
 use Prim.Native.Nat.{ℕ, _+_, _-_}
 use Prim.Native.String.{String}
+use Prim.Native.Char.{code}
 use lib.ListN.{replicate, set}
 use lib.Ieee.{Float, nan, binary64, ofBits}
 use Rattle.spec_lists.specs.Text.{bytes}
@@ -24,6 +25,7 @@ use Rattle.spec_rule.specs.Decision.{with-trap, with-letter}
 use Rattle.spec_rule.specs.Question.{Question, asking, question-of}
 use Rattle.spec_rule.specs.Rule.{calculation-holds}
 use Rattle.spec_file.specs.declared.Refusal.the-variants.{GivenAgain, UndefinedGroup}
+use Rattle.spec_table.specs.View.{view}
 use Rattle.spec_table.specs.Check.{is-table}
 use Rattle.spec_load.specs.declared.Loaded.{Loaded}
 use Rattle.spec_load.specs.declared.Loaded.the-variants.{Refused}
@@ -31,6 +33,9 @@ use Rattle.spec_load.specs.Load.{load}
 use Rattle.spec_decision.specs.declared.Answer.{Answer}
 use Rattle.spec_decision.specs.declared.Answer.the-variants.{Answered, BadLevel, BadRoles}
 use Rattle.spec_decision.specs.Decision.{decide}
+use Rattle.spec_export.specs.declared.Exported.the-variants.{Written, NotTable, Unwritable, NoRoom}
+use Rattle.spec_export.specs.Unwritable.{text-in}
+use Rattle.spec_export.specs.Export.{exported}
 
 -- every letter never heard; A alone heard
 abbrev pub silent : List Reading
@@ -238,3 +243,37 @@ pub record Letter-cases : Type 0 where
   pub by-level-too : stopped-in "RULE(0,WRITE) {CALC(\"A\")}" ≡ nobody-stops access.None
   pub switched-off-too : stopped-in "RULE(1,WRITE) {METHOD() CALC(\"A\")}" ≡ nobody-stops access.None
   pub by-arithmetic-only : stopped-in "RULE(1,WRITE) {CALC(\"0/0\")}" ≡ nobody-stops access.None
+
+-- the text of the table that the load of a text leaves
+abbrev pub text-back : String → List ℕ
+text-back s = text-in (view (load buffer (bytes s) .bytes))
+
+-- the table of `ASG(x)` with another byte for that name
+abbrev pub named-with : ℕ → List ℕ
+named-with b = set (load buffer (bytes "ASG(x)") .bytes) 48 b
+
+-- 02, ticket 6
+pub record Text-cases : Type 0 where
+  -- "every name [..] quoted", "whole member list [..] a line", hosts as they are stored
+  pub members : text-back "UAG(a) {x, \"y z\"}" ≡ bytes "UAG(\"a\"){\n\"x\",\"y z\"\n}\n"
+  pub hosts : text-back "HAG(h) {PC1}" ≡ bytes "HAG(\"h\"){\n\"pc1\"\n}\n"
+  -- "A backslash and any byte after it stay as they are, both": 01
+  pub escaped : text-back "ASG(\"a\\\"b\")" ≡ bytes "ASG(\"a\\\"b\")\n"
+  -- "in section order", "Empty bodies are left out"
+  pub order : text-back "ASG(x) HAG(h) UAG(a)" ≡ bytes "UAG(\"a\")\nHAG(\"h\")\nASG(\"x\")\n"
+  -- inputs, then rules; "`UNKNOWN()` if switched off", "log words always written"
+  pub unknown :
+      text-back "ASG(x) {RULE(1,READ) {METHOD(\"x509\")} INPB(p)}"
+      ≡ bytes "ASG(\"x\"){\nINPB(\"p\")\nRULE(1,READ,NOTRAPWRITE){\nUNKNOWN()\n}\n}\n"
+  -- "one UAG, one HAG, CALC"
+  pub predicates :
+      text-back "UAG(a) UAG(b) HAG(h) ASG(x) {INPA(p) RULE(0,WRITE,TRAPWRITE) {CALC(\"A=1\") HAG(h) UAG(b) UAG(a)}}"
+      ≡ bytes "UAG(\"a\")\nUAG(\"b\")\nHAG(\"h\")\nASG(\"x\"){\nINPA(\"p\")\nRULE(0,WRITE,TRAPWRITE){\nUAG(\"b\",\"a\")\nHAG(\"h\")\nCALC(\"A=1\")\n}\n}\n"
+  -- "Refusals: 20; then 27 [..]; then 28": no table; no definition; a bare quote, a bare newline, a backslash without its byte, lent nothing; too little
+  pub no-table : exported 256 [] ≡ NotTable
+  pub no-definition : exported 256 (load buffer (bytes "FOO()") .bytes) ≡ Unwritable
+  pub bare-quote : exported 256 (named-with (code "\"")) ≡ Unwritable
+  pub bare-newline : exported 256 (named-with (code "\n")) ≡ Unwritable
+  pub odd-backslash : exported 0 (named-with (code "\\")) ≡ Unwritable
+  pub control-byte : exported 256 (named-with 1) ≡ Written 9
+  pub too-little : exported 8 (named-with (code "x")) ≡ NoRoom 9

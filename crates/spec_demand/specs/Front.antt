@@ -7,7 +7,7 @@ use mathlib.Core.Logic.{_↔_, _⊎_}
 use mathlib.Core.Option.{Option, none, some}
 use Prim.Native.Nat.{ℕ, _+_, _≤_, _<_}
 use lib.Ieee.{Float}
-use lib.ListN.{length, getD, replicate}
+use lib.ListN.{length, take, drop, getD, replicate}
 use Rattle.spec_calc.specs.declared.Reading.the-variants.{NeverHeard}
 use Rattle.spec_calc.specs.declared.Worth.the-variants.{BadBy, BadByArithmetic, Is}
 use Rattle.spec_rule.specs.declared.Access.{Access}
@@ -20,6 +20,7 @@ use Rattle.spec_load.specs.declared.Loaded.the-variants as loaded
 use Rattle.spec_register.specs.declared.Added.the-variants as added
 use Rattle.spec_load.specs.declared.Listed.the-variants as listed
 use Rattle.spec_decision.specs.declared.Answer.the-variants.{Answered, NotTable, BadLevel, BadRoles}
+use Rattle.spec_export.specs.declared.Exported.the-variants as exported
 use Rattle.spec_decision.specs.declared.Found.{Found}
 use Rattle.spec_decision.specs.declared.Found.the-variants as found
 use Rattle.spec_demand.specs.Vocabulary.{Every, Token, Spelled, Ascending, Stands-in, greatest-letter, Tagged, Reading, Tree, Parses, tree-of, Gone-bad}
@@ -41,6 +42,7 @@ use Rattle.spec_demand.specs.Vocabulary.{calculation-holds, Some, Yields
 use Rattle.spec_demand.specs.Vocabulary.{Names-undefined, Groups-defined, references, number-field, Group-cases}
 use Rattle.spec_demand.specs.Vocabulary.{Names-group, group-at, empty, Good-file, In-force, Turn, Lent-in-force, register-after, over, left-by-turns, Never-more-in-rooms}
 use Rattle.spec_demand.specs.Vocabulary.{letter-in, worth, Comes-to, Bad-by, Bad-by-arithmetic, Tells, rule-in, Letter-cases}
+use Rattle.spec_demand.specs.Vocabulary.{text-in, Unwritable, export, export-number, Defines-nothing, Alike, Text-cases}
 use Rattle.spec_demand.specs.laws.Cited as proved
 
 -- DEMAND 1. Total: no file, table, name, level or reading makes it index outside, trap or run on. A refusal carries a number, a load's
@@ -502,3 +504,61 @@ letter-named = proved.letter-named
 -- the lowest letter, and which rules it is of; 01's three answers stand among its own cases
 pub letter-cases : Letter-cases
 letter-cases = proved.letter-cases
+
+-- REQUEST 6. Write the rules back as text: "Export a table as ACF text in section order: every name and calculation quoted, one definition, whole member list,
+-- input, rule or predicate [..] a line, each line ended, references by their stored names, no other space, log words always written." The text, line by line,
+-- is spec_text/specs/Lines.antt, of the file that the table says: spec_export/specs/Says.antt. Of any lent bytes and any slice:
+pub record Written-back : Type 0 where
+  -- "Refusals: 20;"
+  pub no-table : (lent b : List ℕ) → (Table b → ⊥) → export lent b ≡ record { answer = exported.NotTable; bytes = lent }
+  -- "then 27 a string holding bytes that no quoted text can hold, or a text with a cause for any of today's load refusals but 1 and 11;"
+  pub unwritable : (lent b : List ℕ) → Table b → Unwritable (view b) → export lent b ≡ record { answer = exported.Unwritable; bytes = lent }
+  -- "then 28 text longer than the lent buffer."
+  pub no-room :
+      (lent b : List ℕ) → Table b → (Unwritable (view b) → ⊥) → length lent < length (text-in (view b))
+      → export lent b ≡ record { answer = exported.NoRoom (length (text-in (view b))); bytes = lent }
+  -- else the text, at the start of the lent bytes; those behind it stay
+  pub text :
+      (lent b : List ℕ) → Table b → (Unwritable (view b) → ⊥) → length (text-in (view b)) ≤ length lent
+      → export lent b
+      ≡ record { answer = exported.Written (length (text-in (view b))); bytes = text-in (view b) ++ drop (length (text-in (view b))) lent }
+  -- a table can be written or not, so that one of these four applies
+  pub either : (lent b : List ℕ) → Table b → Unwritable (view b) ⊎ (Unwritable (view b) → ⊥)
+  -- 27 is answered exactly of these tables
+  pub exactly-27 : (lent b : List ℕ) → (export-number (export lent b .answer) ≡ some 27) ↔ (Table b × Unwritable (view b))
+  -- a refused call changes no lent byte
+  pub refused :
+      (lent b : List ℕ) (n : ℕ) → export-number (export lent b .answer) ≡ some n → ((n ≡ 20) ⊎ (n ≡ 27) ⊎ (n ≡ 28)) × (export lent b .bytes ≡ lent)
+  pub greatest : (lent b : List ℕ) → Table b → length (text-in (view b)) ≤ 213056
+  -- of a table that today's loader made, 27 is answered only if its file defines nothing
+  pub loaded-27 :
+      (s : List ℕ) (xs : List Tagged) → Acceptable s xs → (rest : List ℕ) → Unwritable (view (table-of (file-of xs) ++ rest)) ↔ Defines-nothing (file-of xs)
+  -- "For a table that today's loader made, a text within 16,384 bytes loads, the loaded table answers every question alike, and exporting it gives the same
+  -- text.": it is the same table, byte for byte
+  pub comes-back :
+      (s : List ℕ) (xs : List Tagged) → Acceptable s xs → (rest out lent : List ℕ) (n : ℕ)
+      → let b = table-of (file-of xs) ++ rest in
+      export out b .answer ≡ exported.Written n → n ≤ 16384 → length (table-of (file-of xs)) ≤ length lent
+      → let t = take n (export out b .bytes) in
+      (is-accepted (load lent t .answer) ≡ true)
+      × (load lent t .bytes ≡ table-of (file-of xs) ++ drop (length (table-of (file-of xs))) lent)
+      × Alike b (load lent t .bytes)
+
+pub written-back : Written-back
+written-back =
+    record {
+      no-table = proved.exported-not-table;
+      unwritable = proved.exported-unwritable;
+      no-room = proved.exported-no-room;
+      text = proved.exported-text;
+      either = proved.unwritable-or-not;
+      exactly-27 = proved.exactly-27;
+      refused = proved.refused-export;
+      greatest = proved.text-short;
+      loaded-27 = proved.loaded-unwritable;
+      comes-back = proved.comes-back;
+    }
+
+-- the ticket's lines, and the order of the refusals
+pub text-cases : Text-cases
+text-cases = proved.text-cases

@@ -36,7 +36,7 @@ pub use Rattle.spec_decision.specs.Privilege.{By-table, By-file}
 pub use Rattle.spec_edition.specs.Edition.{Edition, Later, Says-no}
 pub use Rattle.spec_demand.specs.Calls.{Call, after-call, is-accepted, No-accepted-load, Told, refusal-of}
 pub use Rattle.spec_demand.specs.Memory.{Memory, Storage, bytes-in, Step, calls-of, Made, Nobody-else-writes}
-pub use Rattle.spec_demand.specs.Cases.{Proved-cases, Arithmetic-cases, Role-cases, Group-cases, Letter-cases}
+pub use Rattle.spec_demand.specs.Cases.{Proved-cases, Arithmetic-cases, Role-cases, Group-cases, Letter-cases, Text-cases}
 pub use Rattle.spec_rule.specs.Decision.{no-access}
 pub use Rattle.spec_rule.specs.Privilege.{Some, Answers, Yields-true}
 pub use Rattle.spec_rule.specs.Letter.{Tells}
@@ -54,3 +54,6 @@ pub use Rattle.spec_register.specs.Sentences.{Spares-reading, First-applies, ad
 pub use Rattle.spec_places.specs.Storage.{Lent, lent, places-bytes, all-readings, zeroed, right-in}
 pub use Rattle.spec_places.specs.Calls.{left, left-by-calls, told, Agrees, Too-short}
 pub use Rattle.spec_demand.specs.Register.{on-table, Never-more-to-clients}
+pub use Rattle.spec_export.specs.Unwritable.{text-in, Unwritable}
+pub use Rattle.spec_export.specs.Export.{export, number as export-number}
+pub use Rattle.spec_demand.specs.Exporting.{Defines-nothing, Alike}

@@ -12,3 +12,4 @@ pub mod Refusals
 pub mod Answered
 pub mod Register
 pub mod Rooms
+pub mod Export

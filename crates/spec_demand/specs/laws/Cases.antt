@@ -12,7 +12,9 @@ use Rattle.spec_table.specs.Check.{is-table}
 use Rattle.spec_table.specs.Written.{table-of}
 use Rattle.spec_load.specs.Load.{load}
 use Rattle.spec_decision.specs.Decision.{decide}
-use Rattle.spec_demand.specs.Cases.{Proved-cases, Arithmetic-cases, Role-cases, Group-cases, Letter-cases}
+use Rattle.spec_text.specs.Lines.{text-of}
+use Rattle.spec_export.specs.Export.{exported}
+use Rattle.spec_demand.specs.Cases.{Proved-cases, Arithmetic-cases, Role-cases, Group-cases, Letter-cases, Text-cases}
 
 pub proved-cases : Proved-cases
 unfolding load verdict scan table-of layout is-table view decide tree-of run reduce symbols-in value evaluated ne lt le eq add sub mul div neg ofBits ofInt
@@ -119,4 +121,23 @@ letter-cases =
       by-level-too = refl;
       switched-off-too = refl;
       by-arithmetic-only = refl;
+    }
+
+pub text-cases : Text-cases
+unfolding load verdict scan table-of layout is-table view tree-of run reduce symbols-in text-of exported
+text-cases =
+    record {
+      members = refl;
+      hosts = refl;
+      escaped = refl;
+      order = refl;
+      unknown = refl;
+      predicates = refl;
+      no-table = refl;
+      no-definition = refl;
+      bare-quote = refl;
+      bare-newline = refl;
+      odd-backslash = refl;
+      control-byte = refl;
+      too-little = refl;
     }

@@ -25,7 +25,7 @@ pub use Rattle.spec_demand.specs.laws.Privilege.{by-file-is, tells-by-fi
 pub use Rattle.spec_demand.specs.laws.Letter.{letter-named}
 pub use Rattle.spec_demand.specs.laws.Exact.{zeros-grant-nothing, laid-down, not-laid-down, stands, groups-by-file}
 pub use Rattle.spec_demand.specs.laws.Memory.{never-more}
-pub use Rattle.spec_demand.specs.laws.Cases.{proved-cases, arithmetic-cases, role-cases, group-cases, letter-cases}
+pub use Rattle.spec_demand.specs.laws.Cases.{proved-cases, arithmetic-cases, role-cases, group-cases, letter-cases, text-cases}
 pub use Rattle.spec_register.specs.laws.Sized.{sized}
 pub use Rattle.spec_register.specs.laws.Rights.{All-fit, clients-fit, right-answers, answering-readings, free-right, beyond-right, no-table-right}
 pub use Rattle.spec_register.specs.laws.Places.{added-lowest, changed-only, removed-only, client-stays}
@@ -36,3 +36,5 @@ pub use Rattle.spec_places.specs.laws.Follows.{follows, refused-leaves}
 pub use Rattle.spec_places.specs.laws.Short.{short-right, too-short}
 pub use Rattle.spec_demand.specs.laws.Register.{register-on-table, register-behind, reload-elsewhere, never-more-to-clients}
 pub use Rattle.spec_demand.specs.laws.Rooms.{in-rooms, turns-sized, turns-fit, never-more-in-rooms}
+pub use Rattle.spec_demand.specs.laws.Export.{exported-not-table, exported-unwritable, exported-no-room, exported-text, unwritable-or-not, exactly-27}
+pub use Rattle.spec_demand.specs.laws.Export.{text-short, refused-export, loaded-unwritable, comes-back}

@@ -4,10 +4,9 @@ use mathlib.Core.Bool.{Bool, true, false, not, _&&_, _||_, or-true, false≢true
 use mathlib.Core.List.{List, [], _∷_, _++_, map}
 use mathlib.Core.Option.{Option, none, some}
 use Prim.Native.Nat.{ℕ, _+_}
-use Prim.Native.Char.{code}
 use native.Mathlib.Omega.{arith}
 use lib.Dec.{eqb}
-use Rattle.spec_lists.specs.Select.{any, all, select, prepend-if, joined, holds-of}
+use Rattle.spec_lists.specs.Select.{any, select, prepend-if, joined, holds-of}
 use Rattle.spec_lists.specs.Every.{Every, nil, cons}
 use Rattle.spec_lists.specs.laws.Any.{any-append, or-between}
 use Rattle.spec_lists.specs.laws.Every.{every-implies, every-map, every-joined, every-all, all-every}
@@ -16,7 +15,7 @@ use Rattle.spec_token.specs.Word.{link-letter}
 use Rattle.spec_calc.specs.Expression.{Tree}
 use Rattle.spec_calc.specs.Value.{letters}
 use Rattle.spec_calc.specs.Reader.{tree-of}
-use Rattle.spec_grammar.specs.declared.Role.the-variants.{UagName, User, HagName, Host, AsgName, Input, Pvname, UagNamed, HagNamed, Calculation}
+use Rattle.spec_grammar.specs.declared.Role.the-variants.{AsgName, Input, Pvname, UagNamed, HagNamed, Calculation}
 use Rattle.spec_grammar.specs.Sentence.{Tagged}
 use Rattle.spec_file.specs.Contents.{has-role, text, texts, until, Link, Rule-text, Asg, File}
 use Rattle.spec_file.specs.Refusal.{Context, contexts, letters-given, letters-among}
@@ -25,9 +24,9 @@ use Rattle.spec_text.specs.Lines.{link-word}
 use Rattle.spec_text.specs.Faults.{calculation-faulty, letters-of}
 use Rattle.spec_text.specs.laws.Pieces.{said-at, file-pieces}
 use Rattle.spec_text.specs.laws.ClearFaults.{Rule-sound, Asg-sound, Sound}
-use Rattle.spec_text.specs.laws.ClearSayings.{saying, group-sayings, link-sayings, calculation-sayings, rule-sayings, rules-sayings, asg-sayings, file-sayings}
-use Rattle.spec_text.specs.laws.ClearContexts.{Onward, end, next, Respects, every-onward, onward-append, onward-joined, in-text, texts-says, until-says}
-use Rattle.spec_text.specs.laws.ClearRoles.{Without, group-without, rule-without, strings-without, each-without, texts-append, rule-each}
+use Rattle.spec_text.specs.laws.ClearSayings.{saying, link-sayings, calculation-sayings, rule-sayings, rules-sayings, asg-sayings, file-sayings}
+use Rattle.spec_text.specs.laws.ClearContexts.{Onward, end, next, Respects, in-text, texts-says, until-says}
+use Rattle.spec_text.specs.laws.ClearRoles.{Without, file-onward, rule-without, strings-without, each-without, texts-append, rule-each}
 
 -- ---- more letters
 
@@ -107,12 +106,13 @@ rules-onward ls b (x ∷ xs) g (cons e w) (cons h c) =
 letter-back : (n : ℕ) → link-letter (link-word n) ≡ n
 letter-back n = omega arith
 
+-- d has the letters ls besides those of b
+abbrev Besides : List ℕ → List Tagged → List Tagged → Type 0
+Besides ls b d = (i : ℕ) → any (eqb i) ls || any (eqb i) (letters-before b) ≡ true → any (eqb i) (letters-before d) ≡ true
+
 -- the inputs, and what follows where their letters are given
 links-onward :
-    (is : List Link) (b ys : List Tagged)
-    → ((d : List Tagged)
-    → ((i : ℕ) → any (eqb i) (map (λ l. l .letter) is) || any (eqb i) (letters-before b) ≡ true → any (eqb i) (letters-before d) ≡ true)
-    → Onward Allowed d ys)
+    (is : List Link) (b ys : List Tagged) → ((d : List Tagged) → Besides (map (λ l. l .letter) is) b d → Onward Allowed d ys)
     → Onward Allowed b (joined (map link-sayings is) ++ ys)
 links-onward [] b ys k = k b (λ i h. h)
 links-onward (l ∷ is) b ys k =
@@ -129,7 +129,7 @@ links-onward (l ∷ is) b ys k =
 
 rule-allowed : (f : File) (given : List ℕ) (r : Rule-text) → Rule-sound f given r → Every (λ x. disallowed given x ≡ false) (rule-sayings r)
 rule-allowed f given r k =
-    rule-each Calculation v refl refl r
+    rule-each Calculation v refl r
     (every-implies v (strings-without Calculation UagNamed refl (r .uags)))
     (every-implies v (strings-without Calculation HagNamed refl (r .hags)))
     (calculation (r .calculation) (k .calculation))
@@ -150,17 +150,8 @@ asg-onward f a k b =
     (each-without AsgName rule-sayings (rule-without AsgName refl) (a .rules))
     (every-joined (every-map rule-sayings (every-implies (rule-allowed f (letters-of a)) (k .rules))))))
 
-groups-onward : {xs : List Tagged} → Without Calculation xs → (b : List Tagged) → Onward Allowed b xs
-groups-onward w b = every-onward b (every-implies (λ x e d. rw e) w)
-
-file-onward : (f : File) → Sound f → Onward Allowed [] (file-sayings f)
-file-onward f k =
-    onward-append
-    (groups-onward (each-without Calculation (group-sayings UagName User) (group-without Calculation UagName User refl) (f .uags)) [])
-    (λ b.
-    onward-append
-    (groups-onward (each-without Calculation (group-sayings HagName Host) (group-without Calculation HagName Host refl) (f .hags)) b)
-    (onward-joined asg-sayings (every-implies (asg-onward f) (k .each))))
-
 pub no-bad-calculation : (f : File) (p : ℕ) → Sound f → Every (λ c. bad-calculation c ≡ false) (contexts (said-at p (file-pieces f)))
-no-bad-calculation f p k = every-implies allowed-not-bad (in-text allowed-respects f p (file-onward f k))
+no-bad-calculation f p k = every-implies allowed-not-bad (in-text allowed-respects f p all)
+  where
+    all : Onward Allowed [] (file-sayings f)
+    all = file-onward Calculation (λ x e b. rw e) refl refl f (every-implies (asg-onward f) (k .each))

@@ -13,7 +13,7 @@ use Rattle.spec_grammar.specs.Codes.{same-role}
 use Rattle.spec_grammar.specs.Sentence.{Tagged}
 use Rattle.spec_file.specs.Limit.{Section, order, item-of}
 use Rattle.spec_file.specs.Contents.{has-role, text, texts, until, File}
-use Rattle.spec_file.specs.Refusal.{Context, contexts-after, contexts, item}
+use Rattle.spec_file.specs.Refusal.{contexts-after, contexts, item}
 use Rattle.spec_text.specs.laws.Pieces.{said-at, file-pieces}
 use Rattle.spec_text.specs.laws.ClearSayings.{Says, nothing, silent, aloud, file-sayings, text-says}
 
@@ -92,7 +92,9 @@ count-says s (aloud {x = x} {y = y} {xs = xs} {ys = ys} e u t) =
     go false h = h
 
 module _ (P : Role → List ℕ → Type 0) where
-  pub every-says : ((s : List ℕ) → P NoRole s) → {xs ys : List Tagged} → Says xs ys → Every (λ y. P (y .role) (text y)) ys → Every (λ x. P (x .role) (text x)) xs
+  pub every-says :
+      ((s : List ℕ) → P NoRole s) → {xs ys : List Tagged} → Says xs ys → Every (λ y. P (y .role) (text y)) ys
+      → Every (λ x. P (x .role) (text x)) xs
   every-says n nothing c = nil
   every-says n (silent {x = x} e s) c = cons {x = x} (rw e (n (text x))) (every-says n s c)
   every-says n (aloud {x = x} e u s) (cons p c) = cons {x = x} (rw (e, u) p) (every-says n s c)

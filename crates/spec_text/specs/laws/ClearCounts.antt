@@ -1,5 +1,5 @@
 -- The cause of 6: the text has no more items of a section than it holds.
-use mathlib.Core.Path.{_≡_, refl, sym, ap, ap₂, fun-ext, _∙_}
+use mathlib.Core.Path.{_≡_, refl, sym, ap, fun-ext, _∙_}
 use mathlib.Core.Bool.{Bool, true, false, cond}
 use mathlib.Core.List.{List, [], _∷_, _++_, map}
 use mathlib.Core.Option.{Option, none, some}
@@ -205,12 +205,17 @@ asg-items inputs a = length (a .inputs)
 asg-items rules a = length (a .rules)
 asg-items references a = sum (λ r. length (named-in r)) (a .rules)
 
+-- a section of which an ASG has nothing but what its name adds
+no-items : (s : Section) → ((i : Link) → in-link s i ≡ 0) → ((r : Rule-text) → in-rule s r ≡ 0) → (a : Asg) → in-asg s a ≡ if-item s AsgName 1
+unfolding in-asg
+no-items s l r a = omega (arith, sum-none l (a .inputs), sum-none r (a .rules))
+
 in-asg-is : (s : Section) (a : Asg) → in-asg s a ≡ asg-items s a
 unfolding in-asg in-link in-rule asg-items
-in-asg-is user-groups a = omega (arith, sum-none {v = in-link user-groups} (λ i. refl) (a .inputs), sum-none {v = in-rule user-groups} (λ r. refl) (a .rules))
-in-asg-is host-groups a = omega (arith, sum-none {v = in-link host-groups} (λ i. refl) (a .inputs), sum-none {v = in-rule host-groups} (λ r. refl) (a .rules))
-in-asg-is members a = omega (arith, sum-none {v = in-link members} (λ i. refl) (a .inputs), sum-none {v = in-rule members} (λ r. refl) (a .rules))
-in-asg-is access-groups a = omega (arith, sum-none {v = in-link access-groups} (λ i. refl) (a .inputs), sum-none {v = in-rule access-groups} (λ r. refl) (a .rules))
+in-asg-is user-groups a = no-items user-groups (λ i. refl) (λ r. refl) a
+in-asg-is host-groups a = no-items host-groups (λ i. refl) (λ r. refl) a
+in-asg-is members a = no-items members (λ i. refl) (λ r. refl) a
+in-asg-is access-groups a = no-items access-groups (λ i. refl) (λ r. refl) a
 in-asg-is inputs a = omega (arith, sum-ones {v = in-link inputs} (λ i. refl) (a .inputs), sum-none {v = in-rule inputs} (λ r. refl) (a .rules))
 in-asg-is rules a = omega (arith, sum-none {v = in-link rules} (λ i. refl) (a .inputs), sum-ones {v = in-rule rules} (λ r. refl) (a .rules))
 in-asg-is references a =
@@ -227,9 +232,9 @@ few f k s = go s (file-counts s f) (sum-same (in-asg-is s) (f .asgs))
   where
     references-in : sum (asg-items references) (f .asgs) ≡ length (joined (map named-in (joined (map (λ a. a .rules) (f .asgs)))))
     references-in =
-        sym (
-        length-of named-in (joined (map (λ a. a .rules) (f .asgs)))
-        ∙ (sum-joined (λ r. length (named-in r)) (map (λ a. a .rules) (f .asgs)) ∙ sum-map (sum (λ r. length (named-in r))) (λ a. a .rules) (f .asgs)))
+        let rs = map (λ a. a .rules) (f .asgs) in
+        let n : Rule-text → ℕ = λ r. length (named-in r) in
+        sym (length-of named-in (joined rs) ∙ (sum-joined n rs ∙ sum-map (sum n) (λ a. a .rules) (f .asgs)))
 
     go :
         (s : Section)

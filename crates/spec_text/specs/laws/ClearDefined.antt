@@ -11,21 +11,21 @@ use Rattle.spec_lists.specs.laws.Same.{same-true}
 use Rattle.spec_lists.specs.laws.Every.{every-implies, every-both, every-map}
 use Rattle.spec_rule.specs.Privilege.{here, further}
 use Rattle.spec_grammar.specs.declared.Role.{Role}
-use Rattle.spec_grammar.specs.declared.Role.the-variants.{NoRole, UagName, User, HagName, Host, UagNamed, HagNamed}
+use Rattle.spec_grammar.specs.declared.Role.the-variants.{UagName, User, HagName, Host, UagNamed, HagNamed, CalcWord, Calculation}
 use Rattle.spec_grammar.specs.Codes.{same-role}
 use Rattle.spec_grammar.specs.Sentence.{Tagged}
 use Rattle.spec_file.specs.declared.Refusal.the-variants.{UndefinedGroup}
-use Rattle.spec_file.specs.Contents.{has-role, text, texts, until, clauses, groups, Group, Asg, File, file-of}
+use Rattle.spec_file.specs.Contents.{has-role, text, texts, until, clauses, groups, Group, Rule-text, File, file-of}
 use Rattle.spec_file.specs.Refusal.{Context, contexts, undefined-group, Applies, nowhere-defined}
 use Rattle.spec_file.specs.Defined.{Defined, Names-undefined, uag, hag}
 use Rattle.spec_file.specs.laws.Counted.{every-context}
 use Rattle.spec_file.specs.laws.Defined.{undefined-exactly}
 use Rattle.spec_file.specs.laws.ItemClauses.{group}
 use Rattle.spec_text.specs.laws.Pieces.{said-at, file-pieces}
-use Rattle.spec_text.specs.laws.ClearFaults.{defined-in, Rule-sound, Asg-sound, Sound}
+use Rattle.spec_text.specs.laws.ClearFaults.{defined-in, Sound}
 use Rattle.spec_text.specs.laws.ClearSayings.{saying, strings, rule-sayings, file-sayings, text-says}
 use Rattle.spec_text.specs.laws.ClearContexts.{every-says, texts-says}
-use Rattle.spec_text.specs.laws.ClearRoles.{strings-without, calculation-without, rule-each, file-each, uag-names, hag-names}
+use Rattle.spec_text.specs.laws.ClearRoles.{other, elsewhere, strings-without, calculation-without, rule-each, file-each, uag-names, hag-names}
 
 -- ---- names of groups
 
@@ -55,42 +55,40 @@ defined-alike s gs hs e =
 
 -- ---- what the tokens name
 
--- if a token has the role q, its text is a name of the groups
-abbrev Known : Role → List Group → Role → List ℕ → Type 0
-Known q gs r s = same-role r q ≡ true → defined-in gs s ≡ true
+module _ (q : Role) (gs : List Group) where
+  -- if a token has the role q, its text is a name of the groups
+  abbrev Known : Role → List ℕ → Type 0
+  Known r s = same-role r q ≡ true → defined-in gs s ≡ true
 
-not-said : (q : Role) (gs : List Group) (x : Tagged) → has-role q x ≡ false → Known q gs (x .role) (text x)
-not-said q gs x e h = absurd (false≢true (sym e ∙ h))
+  abbrev Knows : Tagged → Type 0
+  Knows x = Known (x .role) (text x)
 
-strings-known :
-    (q : Role) (gs : List Group) {ss : List (List ℕ)} → Every (λ s. defined-in gs s ≡ true) ss → Every (λ x. Known q gs (x .role) (text x)) (strings q ss)
-strings-known q gs c = every-map (saying q) (every-implies (λ s d h. d) c)
+  not-said : (x : Tagged) → has-role q x ≡ false → Knows x
+  not-said x e h = absurd (false≢true (sym e ∙ h))
 
-uags-known : (f : File) → Sound f → Every (λ x. Known UagNamed (f .uags) (x .role) (text x)) (file-sayings f)
-uags-known f k = file-each UagNamed v refl refl refl refl f (every-implies (λ a s. every-implies rule (s .rules)) (k .each))
-  where
-    v : (x : Tagged) → has-role UagNamed x ≡ false → Known UagNamed (f .uags) (x .role) (text x)
-    v = not-said UagNamed (f .uags)
+  -- the tokens of one role that rules have, whatever it be
+  strings-known : (r : Role) {ss : List (List ℕ)} → (same-role r q ≡ true → Every (λ s. defined-in gs s ≡ true) ss) → Every Knows (strings r ss)
+  strings-known r {ss} c = go (same-role r q) refl
+    where
+      go : (b : Bool) → same-role r q ≡ b → Every Knows (strings r ss)
+      go true e = every-map (saying r) (every-implies (λ s d h. d) (c e))
+      go false e = every-implies not-said (strings-without q r e ss)
 
-    rule : {given : List ℕ} (r : _) → Rule-sound f given r → Every (λ x. Known UagNamed (f .uags) (x .role) (text x)) (rule-sayings r)
-    rule r s =
-        rule-each UagNamed v refl refl r
-        (strings-known UagNamed (f .uags) (s .uags))
-        (every-implies v (strings-without UagNamed HagNamed refl (r .hags)))
-        (every-implies v (calculation-without UagNamed refl refl (r .calculation)))
+  -- the names of a rule that have the role q are known
+  abbrev Rule-knows : Rule-text → Type 0
+  Rule-knows r =
+      (same-role UagNamed q ≡ true → Every (λ s. defined-in gs s ≡ true) (r .uags))
+      × (same-role HagNamed q ≡ true → Every (λ s. defined-in gs s ≡ true) (r .hags))
 
-hags-known : (f : File) → Sound f → Every (λ x. Known HagNamed (f .hags) (x .role) (text x)) (file-sayings f)
-hags-known f k = file-each HagNamed v refl refl refl refl f (every-implies (λ a s. every-implies rule (s .rules)) (k .each))
-  where
-    v : (x : Tagged) → has-role HagNamed x ≡ false → Known HagNamed (f .hags) (x .role) (text x)
-    v = not-said HagNamed (f .hags)
-
-    rule : {given : List ℕ} (r : _) → Rule-sound f given r → Every (λ x. Known HagNamed (f .hags) (x .role) (text x)) (rule-sayings r)
-    rule r s =
-        rule-each HagNamed v refl refl r
-        (every-implies v (strings-without HagNamed UagNamed refl (r .uags)))
-        (strings-known HagNamed (f .hags) (s .hags))
-        (every-implies v (calculation-without HagNamed refl refl (r .calculation)))
+  known :
+      other q elsewhere → other q (CalcWord ∷ Calculation ∷ []) → (f : File) → Every (λ a. Every Rule-knows (a .rules)) (f .asgs)
+      → Every Knows (file-sayings f)
+  known w c f n = file-each q not-said w f (every-implies (λ a m. every-implies rule m) n)
+    where
+      rule : (r : Rule-text) → Rule-knows r → Every Knows (rule-sayings r)
+      rule r h =
+          rule-each q not-said w r (strings-known UagNamed (h .0)) (strings-known HagNamed (h .1))
+          (every-implies not-said (calculation-without q c (r .calculation)))
 
 module _ (f : File) (p : ℕ) where
   abbrev tokens : List Tagged
@@ -101,8 +99,7 @@ module _ (f : File) (p : ℕ) where
       (n m : Role) (gs : List Group) (s : List ℕ) → texts n tokens ≡ map (λ g. g .name) gs → defined-in gs s ≡ true → Defined (groups n m tokens) s
   known-defined n m gs s e h = is-defined s (groups n m tokens) (defined-alike s (groups n m tokens) gs (group-names n m tokens ∙ e) ∙ h)
 
-  all-defined :
-      (x : Tagged) → Known UagNamed (f .uags) (x .role) (text x) → Known HagNamed (f .hags) (x .role) (text x) → Names-undefined (file-of tokens) x → ⊥
+  all-defined : (x : Tagged) → Knows UagNamed (f .uags) x → Knows HagNamed (f .hags) x → Names-undefined (file-of tokens) x → ⊥
   all-defined x u h (uag e n) = n (known-defined UagName User (f .uags) (text x) (texts-says UagName refl (text-says f p) ∙ uag-names f) (u (rw e)))
   all-defined x u h (hag e n) = n (known-defined HagName Host (f .hags) (text x) (texts-says HagName refl (text-says f p) ∙ hag-names f) (h (rw e)))
 
@@ -113,9 +110,19 @@ module _ (f : File) (p : ℕ) where
       (undefined-exactly tokens)
       (every-context []
       (every-both all-defined
-      (every-says (Known UagNamed (f .uags)) (λ s h. absurd (false≢true h)) (text-says f p) (uags-known f k))
-      (every-says (Known HagNamed (f .hags)) (λ s h. absurd (false≢true h)) (text-says f p) (hags-known f k))))
+      (every-says (Known UagNamed (f .uags)) (λ s h. absurd (false≢true h)) (text-says f p) uags)
+      (every-says (Known HagNamed (f .hags)) (λ s h. absurd (false≢true h)) (text-says f p) hags)))
     where
+      uags : Every (Knows UagNamed (f .uags)) (file-sayings f)
+      uags =
+          known UagNamed (f .uags) refl refl f
+          (every-implies (λ a s. every-implies (λ r n. (λ h. n .uags, λ h. absurd (false≢true h))) (s .rules)) (k .each))
+
+      hags : Every (Knows HagNamed (f .hags)) (file-sayings f)
+      hags =
+          known HagNamed (f .hags) refl refl f
+          (every-implies (λ a s. every-implies (λ r n. (λ h. absurd (false≢true h), λ h. n .hags)) (s .rules)) (k .each))
+
       unless : (c : Context) → (Applies c UndefinedGroup → ⊥) → undefined-group c ≡ false
       unless c n = go (undefined-group c) refl
         where

@@ -1,6 +1,6 @@
 -- The causes of 7: no group of the text has the name of another, no ASG has a letter twice, no rule a second CALC.
 use mathlib.Core.Path.{_≡_, refl, sym, ap, ap₂, _∙_}
-use mathlib.Core.Bool.{Bool, true, false, not, _&&_, _||_, false≢true}
+use mathlib.Core.Bool.{Bool, true, false, _&&_, _||_, false≢true}
 use mathlib.Core.List.{List, [], _∷_, _++_, map, append-nil}
 use mathlib.Core.Option.{Option, none, some}
 use Prim.Native.Nat.{ℕ, _+_}
@@ -9,17 +9,17 @@ use native.Mathlib.Omega.{arith}
 use lib.Dec.{eqb}
 use borrow.Author.Tests.{eqb-true, eqb-false, eq-eqb, ne-eqb}
 use Rattle.spec_lists.specs.Text.{same}
-use Rattle.spec_lists.specs.Select.{any, select, prepend-if, keep-if, joined}
+use Rattle.spec_lists.specs.Select.{any, select, prepend-if}
 use Rattle.spec_lists.specs.Every.{Every, nil, cons}
 use Rattle.spec_lists.specs.laws.Any.{any-map, any-same}
 use Rattle.spec_lists.specs.laws.Both.{neither}
-use Rattle.spec_lists.specs.laws.Every.{every, every-implies, every-both, every-append}
+use Rattle.spec_lists.specs.laws.Every.{every, every-implies, every-both}
 use Rattle.spec_lists.specs.laws.Joined.{map-map}
 use Rattle.spec_grammar.specs.declared.Role.{Role}
-use Rattle.spec_grammar.specs.declared.Role.the-variants.{NoRole, UagName, User, HagName, Host, AsgName, Input, RuleWord, UagNamed, HagNamed, CalcWord}
+use Rattle.spec_grammar.specs.declared.Role.the-variants.{NoRole, UagName, HagName, AsgName, Input, RuleWord, UagNamed, HagNamed, CalcWord}
 use Rattle.spec_grammar.specs.Codes.{same-role}
 use Rattle.spec_grammar.specs.Sentence.{Tagged}
-use Rattle.spec_file.specs.Contents.{has-role, text, texts, until, Group, Rule-text, Asg, File}
+use Rattle.spec_file.specs.Contents.{has-role, text, texts, until, Rule-text, Asg, File}
 use Rattle.spec_file.specs.Meaning.{switched-off}
 use Rattle.spec_file.specs.Refusal.{Context, contexts, duplicates, given-again}
 use Rattle.spec_file.specs.laws.Counted.{role-is}
@@ -27,11 +27,11 @@ use Rattle.spec_text.specs.Lines.{link-word}
 use Rattle.spec_text.specs.Faults.{repeated, letters-of}
 use Rattle.spec_text.specs.laws.Pieces.{said-at, file-pieces}
 use Rattle.spec_text.specs.laws.ClearFaults.{any-none, Asg-sound, Sound}
-use Rattle.spec_text.specs.laws.ClearSayings.{Says, saying, strings, group-sayings, link-sayings, calculation-sayings, unknown-sayings, head-sayings}
+use Rattle.spec_text.specs.laws.ClearSayings.{Says, saying, strings, link-sayings, calculation-sayings, head-sayings}
 use Rattle.spec_text.specs.laws.ClearSayings.{predicate-sayings, rule-sayings, links-sayings, rules-sayings, asg-sayings, file-sayings}
 use Rattle.spec_text.specs.laws.ClearContexts.{Onward, end, next, Respects, every-onward, onward-append, onward-joined, in-text}
 use Rattle.spec_text.specs.laws.ClearContexts.{texts-says, until-says}
-use Rattle.spec_text.specs.laws.ClearRoles.{Without, group-without, link-without, body-without, rule-without, strings-without, each-without}
+use Rattle.spec_text.specs.laws.ClearRoles.{file-onward, link-without, body-without, rule-without, strings-without, each-without}
 use Rattle.spec_text.specs.laws.ClearRoles.{unknown-without, asg-without, texts-none, texts-append, texts-each, uag-names, hag-names, asg-names}
 
 -- one of some texts is u
@@ -51,8 +51,9 @@ module _ (q : Role) (part : List Tagged → List Tagged) where
         heard = λ b d x y s e t h. rw (e, t, texts-says q m (f b d s)) h;
       }
 
-  once-without : {xs : List Tagged} → Without q xs → (b : List Tagged) → Onward Once b xs
-  once-without w b = every-onward b (every-implies (λ x e d. rw e) w)
+  -- a token of another role
+  no-once : (x : Tagged) → has-role q x ≡ false → (b : List Tagged) → Once b x
+  no-once x e b = rw e
 
   -- where the part grows with each of the tokens, and neither it nor they have a text twice
   module _ (splits : Tagged → Bool) (grows : (x : Tagged) (b : List Tagged) → splits x ≡ false → part (x ∷ b) ≡ x ∷ part b) where
@@ -85,13 +86,16 @@ module _ (q : Role) (part : List Tagged → List Tagged) where
         go false h n r f = next {b = b} {x = x} (rw h) (f (rw (grown false h) n) r)
 
 -- then it is no duplicate
-once-no-duplicate : (q : Role) (xs : List Tagged) (c : Context) → has-role q (c .here) && given-in (text (c .here)) (texts q xs) ≡ false → duplicates q xs c ≡ false
+once-no-duplicate :
+    (q : Role) (xs : List Tagged) (c : Context) → has-role q (c .here) && given-in (text (c .here)) (texts q xs) ≡ false → duplicates q xs c ≡ false
 once-no-duplicate q xs c = go (has-role q (c .here)) refl
   where
     u : List ℕ
     u = text (c .here)
 
-    over : (ys : List Tagged) → has-role q (c .here) ≡ true → given-in u (texts q ys) ≡ false → any (λ x. has-role (x .role) (c .here) && same (text x) u) ys ≡ false
+    over :
+        (ys : List Tagged) → has-role q (c .here) ≡ true → given-in u (texts q ys) ≡ false
+        → any (λ x. has-role (x .role) (c .here) && same (text x) u) ys ≡ false
     over [] h n = refl
     over (x ∷ ys) h n = step (has-role q x) refl (has-role (x .role) (c .here)) refl n (over ys h)
       where
@@ -120,7 +124,10 @@ whole b = b
 
 names-once : (q : Role) (f : File) (ns : List (List ℕ)) → texts q (file-sayings f) ≡ ns → repeated same ns ≡ false → Onward (Once q whole) [] (file-sayings f)
 names-once q f ns e r =
-    once-each q whole (λ x. false) (λ x b h. refl) [] (file-sayings f) (every (λ x. refl) (file-sayings f)) (every (λ u. refl) (texts q (file-sayings f))) (rw e r)
+    once-each q whole (λ x. false) (λ x b h. refl) [] (file-sayings f)
+    (every (λ x. refl) (file-sayings f))
+    (every (λ u. refl) (texts q (file-sayings f)))
+    (rw e r)
 
 -- ---- letters
 
@@ -161,13 +168,7 @@ asg-once f a k b =
     (rw (asg-letters a, repeated-letters (letters-of a)) (k .letters)))
 
 letters-once : (f : File) → Sound f → Onward (Once Input (until AsgName)) [] (file-sayings f)
-letters-once f k =
-    onward-append
-    (once-without Input (until AsgName) (each-without Input (group-sayings UagName User) (group-without Input UagName User refl) (f .uags)) [])
-    (λ b.
-    onward-append
-    (once-without Input (until AsgName) (each-without Input (group-sayings HagName Host) (group-without Input HagName Host refl) (f .hags)) b)
-    (onward-joined asg-sayings (every-implies (asg-once f) (k .each))))
+letters-once f k = file-onward Input (no-once Input (until AsgName)) refl refl f (every-implies (asg-once f) (k .each))
 
 -- ---- CALC
 
@@ -178,7 +179,9 @@ rule-calcs r =
     (texts-append CalcWord (strings HagNamed (r .hags)) _
     ∙ ap₂ (λ (s t : List (List ℕ)). s ++ t) (texts-none CalcWord (strings-without CalcWord HagNamed refl (r .hags)))
     (texts-append CalcWord (calculation-sayings (r .calculation)) _
-    ∙ (ap (λ (t : List (List ℕ)). texts CalcWord (calculation-sayings (r .calculation)) ++ t) (texts-none CalcWord (unknown-without CalcWord refl (switched-off r)))
+    ∙ (ap
+    (λ (t : List (List ℕ)). texts CalcWord (calculation-sayings (r .calculation)) ++ t)
+    (texts-none CalcWord (unknown-without CalcWord refl (switched-off r)))
     ∙ append-nil (texts CalcWord (calculation-sayings (r .calculation))))))
 
 rule-once : (r : Rule-text) (b : List Tagged) → Onward (Once CalcWord (until RuleWord)) b (rule-sayings r)
@@ -196,17 +199,13 @@ rule-once r b =
 
 calcs-once : (f : File) → Onward (Once CalcWord (until RuleWord)) [] (file-sayings f)
 calcs-once f =
-    onward-append
-    (once-without CalcWord (until RuleWord) (each-without CalcWord (group-sayings UagName User) (group-without CalcWord UagName User refl) (f .uags)) [])
-    (λ b.
-    onward-append
-    (once-without CalcWord (until RuleWord) (each-without CalcWord (group-sayings HagName Host) (group-without CalcWord HagName Host refl) (f .hags)) b)
-    (onward-joined asg-sayings (every (λ a d. next refl (in-asg a (saying AsgName (a .name) ∷ d))) (f .asgs))))
+    file-onward CalcWord (no-once CalcWord (until RuleWord)) refl refl f
+    (every (λ a b. next refl (in-asg a (saying AsgName (a .name) ∷ b))) (f .asgs))
   where
     in-asg : (a : Asg) (b : List Tagged) → Onward (Once CalcWord (until RuleWord)) b (links-sayings a ++ rules-sayings a)
     in-asg a b =
         onward-append
-        (once-without CalcWord (until RuleWord) (each-without CalcWord link-sayings (link-without CalcWord refl) (a .inputs)) b)
+        (every-onward b (every-implies (no-once CalcWord (until RuleWord)) (each-without CalcWord link-sayings (link-without CalcWord refl) (a .inputs))))
         (onward-joined rule-sayings (every rule-once (a .rules)))
 
 -- ---- all of them

@@ -1,6 +1,6 @@
 -- Which roles stand where in what a file says, and the texts of each role.
-use mathlib.Core.Path.{_≡_, refl, sym, ap, ap₂, _∙_}
-use mathlib.Core.Bool.{Bool, true, false, not, _||_, or-true}
+use mathlib.Core.Path.{_≡_, refl, ap, ap₂, _∙_}
+use mathlib.Core.Bool.{Bool, true, false, not, or-true}
 use mathlib.Core.List.{List, [], _∷_, _++_, map, append-nil}
 use mathlib.Core.Option.{Option, none, some}
 use Prim.Native.Nat.{ℕ}
@@ -18,8 +18,8 @@ use Rattle.spec_grammar.specs.laws.Roles.{one-of, one-of-all, rule-roles}
 use Rattle.spec_file.specs.Contents.{has-role, text, texts, Group, Link, Rule-text, Asg, File}
 use Rattle.spec_file.specs.Meaning.{switched-off}
 use Rattle.spec_file.specs.laws.Clauses.{select-none}
-use Rattle.spec_text.specs.Lines.{link-word}
 use Rattle.spec_text.specs.laws.ClearSayings.{saying, strings, group-sayings, link-sayings, calculation-sayings, unknown-sayings, head-sayings}
+use Rattle.spec_text.specs.laws.ClearContexts.{Onward, every-onward, onward-append, onward-joined}
 use Rattle.spec_text.specs.laws.ClearSayings.{predicate-sayings, rule-sayings, links-sayings, rules-sayings, asg-sayings, file-sayings}
 
 -- ---- the roles
@@ -39,26 +39,23 @@ other q rs = all (λ z. not (same-role z q)) rs ≡ true
 without : (q : Role) (rs : List Role) {xs : List Tagged} → other q rs → Among rs xs → Without q xs
 without q rs w c = every-implies (λ x o. not-true (same-role (x .role) q) (one-of-all (λ z. not (same-role z q)) rs (x .role) o w)) c
 
-strings-among : (rs : List Role) (r : Role) → one-of rs r ≡ true → (ss : List (List ℕ)) → Among rs (strings r ss)
-strings-among rs r o ss = every-map (saying r) (every (λ s. o) ss)
+module _ (rs : List Role) where
+  strings-among : (r : Role) → one-of rs r ≡ true → (ss : List (List ℕ)) → Among rs (strings r ss)
+  strings-among r o ss = every-map (saying r) (every (λ s. o) ss)
 
-group-among : (n m : Role) (g : Group) → Among (n ∷ m ∷ []) (group-sayings n m g)
-group-among n m g =
-    cons
-    {x = saying n (g .name)}
-    (rw (eq-eqb (role-number n) (role-number n) refl))
-    (strings-among (n ∷ m ∷ []) m (rw (eq-eqb (role-number m) (role-number m) refl) (or-true (same-role m n))) (g .members))
+  group-among : (n m : Role) → one-of rs n ≡ true → one-of rs m ≡ true → (g : Group) → Among rs (group-sayings n m g)
+  group-among n m v w g = cons v (strings-among m w (g .members))
 
-link-among : (i : Link) → Among (Input ∷ Pvname ∷ []) (link-sayings i)
-link-among i = cons refl (cons refl nil)
+  link-among : one-of rs Input ≡ true → one-of rs Pvname ≡ true → (i : Link) → Among rs (link-sayings i)
+  link-among v w i = cons v (cons w nil)
 
-calculation-among : (o : Option (List ℕ)) → Among rule-roles (calculation-sayings o)
-calculation-among none = nil
-calculation-among (some s) = cons refl (cons refl nil)
+  calculation-among : one-of rs CalcWord ≡ true → one-of rs Calculation ≡ true → (o : Option (List ℕ)) → Among rs (calculation-sayings o)
+  calculation-among v w none = nil
+  calculation-among v w (some s) = cons v (cons w nil)
 
-unknown-among : (b : Bool) → Among rule-roles (unknown-sayings b)
-unknown-among false = nil
-unknown-among true = cons refl nil
+  unknown-among : one-of rs UnknownPredicate ≡ true → (b : Bool) → Among rs (unknown-sayings b)
+  unknown-among w false = nil
+  unknown-among w true = cons w nil
 
 body-among : (r : Rule-text) → Among rule-roles (head-sayings r ++ predicate-sayings r)
 body-among r =
@@ -67,31 +64,39 @@ body-among r =
     (cons refl
     (every-append (strings-among rule-roles UagNamed refl (r .uags))
     (every-append (strings-among rule-roles HagNamed refl (r .hags))
-    (every-append (calculation-among (r .calculation)) (unknown-among (switched-off r)))))))
+    (every-append (calculation-among rule-roles refl refl (r .calculation)) (unknown-among rule-roles refl (switched-off r)))))))
+
+-- what stands anywhere but in the names and the calculation of a rule
+abbrev pub elsewhere : List Role
+elsewhere =
+    UagName ∷ User ∷ HagName ∷ Host ∷ AsgName ∷ Input ∷ Pvname ∷ RuleWord ∷ Level ∷ Permission ∷ LogOption ∷ UnknownPredicate ∷ []
 
 module _ (q : Role) where
+  -- a role that is none of a group's, of an input's, of a rule's
   pub group-without : (n m : Role) → other q (n ∷ m ∷ []) → (g : Group) → Without q (group-sayings n m g)
-  group-without n m w g = without q (n ∷ m ∷ []) w (group-among n m g)
+  group-without n m w g = without q (n ∷ m ∷ []) w (group-among (n ∷ m ∷ []) n m (rw (self n)) (rw (self m) (or-true (same-role m n))) g)
+    where
+      self : (r : Role) → same-role r r ≡ true
+      self r = eq-eqb (role-number r) (role-number r) refl
 
   pub link-without : other q (Input ∷ Pvname ∷ []) → (i : Link) → Without q (link-sayings i)
-  link-without w i = without q (Input ∷ Pvname ∷ []) w (link-among i)
+  link-without w i = without q (Input ∷ Pvname ∷ []) w (link-among (Input ∷ Pvname ∷ []) refl refl i)
 
   pub body-without : other q rule-roles → (r : Rule-text) → Without q (head-sayings r ++ predicate-sayings r)
   body-without w r = without q rule-roles w (body-among r)
 
   pub rule-without : other q (RuleWord ∷ rule-roles) → (r : Rule-text) → Without q (rule-sayings r)
-  rule-without w r = without q (RuleWord ∷ rule-roles) w (cons refl (every-implies (λ x o. rw o (or-true (same-role (x .role) RuleWord))) (body-among r)))
+  rule-without w r =
+      without q (RuleWord ∷ rule-roles) w (cons refl (every-implies (λ x o. rw o (or-true (same-role (x .role) RuleWord))) (body-among r)))
 
   pub strings-without : (r : Role) → same-role r q ≡ false → (ss : List (List ℕ)) → Without q (strings r ss)
   strings-without r w ss = every-map (saying r) (every (λ s. w) ss)
 
-  pub calculation-without : same-role CalcWord q ≡ false → same-role Calculation q ≡ false → (o : Option (List ℕ)) → Without q (calculation-sayings o)
-  calculation-without v w none = nil
-  calculation-without v w (some s) = cons v (cons w nil)
+  pub calculation-without : other q (CalcWord ∷ Calculation ∷ []) → (o : Option (List ℕ)) → Without q (calculation-sayings o)
+  calculation-without w o = without q (CalcWord ∷ Calculation ∷ []) w (calculation-among (CalcWord ∷ Calculation ∷ []) refl refl o)
 
-  pub unknown-without : same-role UnknownPredicate q ≡ false → (b : Bool) → Without q (unknown-sayings b)
-  unknown-without w false = nil
-  unknown-without w true = cons w nil
+  pub unknown-without : other q (UnknownPredicate ∷ []) → (b : Bool) → Without q (unknown-sayings b)
+  unknown-without w b = without q (UnknownPredicate ∷ []) w (unknown-among (UnknownPredicate ∷ []) refl b)
 
   -- of each of a list
   pub each-without : {A : Type 0} (g : A → List Tagged) → ((x : A) → Without q (g x)) → (xs : List A) → Without q (joined (map g xs))
@@ -104,30 +109,47 @@ module _ (q : Role) where
 
   -- ---- what holds of each token
 
-  -- P holds of the tokens that do not say q, which stands in rules only
-  module _ {P : Tagged → Type 0} (v : (x : Tagged) → has-role q x ≡ false → P x) where
-    pub rule-each :
-        other q (RuleWord ∷ Level ∷ Permission ∷ LogOption ∷ []) → same-role UnknownPredicate q ≡ false → (r : Rule-text)
-        → Every P (strings UagNamed (r .uags)) → Every P (strings HagNamed (r .hags)) → Every P (calculation-sayings (r .calculation))
-        → Every P (rule-sayings r)
-    rule-each w k r us hs cs =
-        every-append (every-implies v (without q (RuleWord ∷ Level ∷ Permission ∷ LogOption ∷ []) {xs = saying RuleWord (bytes "RULE") ∷ head-sayings r} w (cons refl (cons refl (cons refl (cons refl nil))))))
-        (every-append us (every-append hs (every-append cs (every-implies v (unknown-without k (switched-off r))))))
+  -- P holds of each token that does not say q, and q stands in the names or in the calculations of rules
+  module _ {P : Tagged → Type 0} (v : (x : Tagged) → has-role q x ≡ false → P x) (w : other q elsewhere) where
+    others : {xs : List Tagged} → Among elsewhere xs → Every P xs
+    others c = every-implies v (without q elsewhere w c)
 
-    pub file-each :
-        other q (UagName ∷ User ∷ []) → other q (HagName ∷ Host ∷ []) → same-role AsgName q ≡ false → other q (Input ∷ Pvname ∷ []) → (f : File)
-        → Every (λ a. Every (λ r. Every P (rule-sayings r)) (a .rules)) (f .asgs)
-        → Every P (file-sayings f)
-    file-each us hs n ls f rs =
-        every-append (every-implies v (each-without (group-sayings UagName User) (group-without UagName User us) (f .uags)))
-        (every-append (every-implies v (each-without (group-sayings HagName Host) (group-without HagName Host hs) (f .hags)))
+    others-each : {A : Type 0} (g : A → List Tagged) → ((x : A) → Among elsewhere (g x)) → (xs : List A) → Every P (joined (map g xs))
+    others-each g c xs = every-joined (every-map g (every (λ x. others (c x)) xs))
+
+    pub rule-each :
+        (r : Rule-text) → Every P (strings UagNamed (r .uags)) → Every P (strings HagNamed (r .hags)) → Every P (calculation-sayings (r .calculation))
+        → Every P (rule-sayings r)
+    rule-each r us hs c =
+        every-append
+        (others {xs = saying RuleWord (bytes "RULE") ∷ head-sayings r} (cons refl (cons refl (cons refl (cons refl nil)))))
+        (every-append us (every-append hs (every-append c (others (unknown-among elsewhere refl (switched-off r))))))
+
+    pub file-each : (f : File) → Every (λ a. Every (λ r. Every P (rule-sayings r)) (a .rules)) (f .asgs) → Every P (file-sayings f)
+    file-each f rs =
+        every-append (others-each (group-sayings UagName User) (group-among elsewhere UagName User refl refl) (f .uags))
+        (every-append (others-each (group-sayings HagName Host) (group-among elsewhere HagName Host refl refl) (f .hags))
         (every-joined (every-map asg-sayings (every-implies asg-each rs))))
       where
         asg-each : (a : Asg) → Every (λ r. Every P (rule-sayings r)) (a .rules) → Every P (asg-sayings a)
         asg-each a rs =
-            cons
-            (v (saying AsgName (a .name)) n)
-            (every-append (every-implies v (each-without link-sayings (link-without ls) (a .inputs))) (every-joined (every-map rule-sayings rs)))
+            every-append
+            (others {xs = saying AsgName (a .name) ∷ []} (cons refl nil))
+            (every-append (others-each link-sayings (link-among elsewhere refl refl) (a .inputs)) (every-joined (every-map rule-sayings rs)))
+
+  -- the same where what is before counts; q stands in ASGs only
+  pub file-onward :
+      {Q : List Tagged → Tagged → Type 0} → ((x : Tagged) → has-role q x ≡ false → (b : List Tagged) → Q b x)
+      → other q (UagName ∷ User ∷ []) → other q (HagName ∷ Host ∷ []) → (f : File)
+      → Every (λ a. (b : List Tagged) → Onward Q b (asg-sayings a)) (f .asgs)
+      → Onward Q [] (file-sayings f)
+  file-onward {Q} v us hs f c =
+      onward-append
+      (every-onward [] (every-implies v (each-without (group-sayings UagName User) (group-without UagName User us) (f .uags))))
+      (λ b. onward-append (every-onward b hosts) (onward-joined asg-sayings c))
+    where
+      hosts : Every (λ x. (d : List Tagged) → Q d x) (joined (map (group-sayings HagName Host) (f .hags)))
+      hosts = every-implies v (each-without (group-sayings HagName Host) (group-without HagName Host hs) (f .hags))
 
   -- ---- the texts
 
@@ -151,12 +173,18 @@ module _ (q : Role) where
   texts-each g t e [] = refl
   texts-each g t e (x ∷ xs) = texts-append (g x) (joined (map g xs)) ∙ ap₂ (λ (a b : List (List ℕ)). a ++ b) (e x) (texts-each g t e xs)
 
--- the names of groups, each by its role
+-- ---- the names of groups
+
+group-name : (n m : Role) → same-role m n ≡ false → (g : Group) → texts n (group-sayings n m g) ≡ g .name ∷ []
+group-name n m w g =
+    rw (eq-eqb (role-number n) (role-number n) refl)
+    (ap (λ (l : List (List ℕ)). g .name ∷ l) (texts-none n (strings-without n m w (g .members))))
+
 pub uag-names : (f : File) → texts UagName (file-sayings f) ≡ map (λ g. g .name) (f .uags)
 uag-names f =
     texts-append UagName (joined (map (group-sayings UagName User) (f .uags))) _
     ∙ (ap₂ (λ (a b : List (List ℕ)). a ++ b)
-    (texts-each UagName (group-sayings UagName User) (λ g. g .name) (λ g. ap (λ (l : List (List ℕ)). g .name ∷ l) (texts-none UagName (strings-without UagName User refl (g .members)))) (f .uags))
+    (texts-each UagName (group-sayings UagName User) (λ g. g .name) (group-name UagName User refl) (f .uags))
     (texts-none UagName
     (every-append
     (each-without UagName (group-sayings HagName Host) (group-without UagName HagName Host refl) (f .hags))
@@ -170,7 +198,7 @@ hag-names f =
     (texts-none HagName (each-without HagName (group-sayings UagName User) (group-without HagName UagName User refl) (f .uags)))
     (texts-append HagName (joined (map (group-sayings HagName Host) (f .hags))) _
     ∙ ap₂ (λ (a b : List (List ℕ)). a ++ b)
-    (texts-each HagName (group-sayings HagName Host) (λ g. g .name) (λ g. ap (λ (l : List (List ℕ)). g .name ∷ l) (texts-none HagName (strings-without HagName Host refl (g .members)))) (f .hags))
+    (texts-each HagName (group-sayings HagName Host) (λ g. g .name) (group-name HagName Host refl) (f .hags))
     (texts-none HagName (each-without HagName asg-sayings (λ a. cons refl (asg-without HagName refl refl a)) (f .asgs))))
     ∙ append-nil (map (λ g. g .name) (f .hags)))
 
@@ -182,4 +210,7 @@ asg-names f =
     (texts-append AsgName (joined (map (group-sayings HagName Host) (f .hags))) _
     ∙ ap₂ (λ (a b : List (List ℕ)). a ++ b)
     (texts-none AsgName (each-without AsgName (group-sayings HagName Host) (group-without AsgName HagName Host refl) (f .hags)))
-    (texts-each AsgName asg-sayings (λ a. a .name) (λ a. ap (λ (l : List (List ℕ)). a .name ∷ l) (texts-none AsgName (asg-without AsgName refl refl a))) (f .asgs)))
+    (texts-each AsgName asg-sayings (λ a. a .name) own (f .asgs)))
+  where
+    own : (a : Asg) → texts AsgName (asg-sayings a) ≡ a .name ∷ []
+    own a = ap (λ (l : List (List ℕ)). a .name ∷ l) (texts-none AsgName (asg-without AsgName refl refl a))

@@ -1,7 +1,7 @@
 -- What the tokens of a file's text say, without those that say nothing: of each its role and its text. The causes look at nothing else.
-use mathlib.Core.Path.{_≡_, refl, sym, ap, ap₂, _∙_}
+use mathlib.Core.Path.{_≡_, refl, ap, ap₂, _∙_}
 use mathlib.Core.Bool.{Bool, true, false, not}
-use mathlib.Core.List.{List, [], _∷_, _++_, map, append-nil, append-assoc}
+use mathlib.Core.List.{List, [], _∷_, _++_, map, append-nil}
 use mathlib.Core.Option.{Option, none, some}
 use Prim.Native.Nat.{ℕ, _+_}
 use lib.ListN.{length}
@@ -9,7 +9,6 @@ use borrow.Author.Tests.{not-false}
 use Rattle.spec_lists.specs.Text.{bytes}
 use Rattle.spec_lists.specs.Select.{joined, prepend-if}
 use Rattle.spec_lists.specs.laws.Joined.{joined-append, map-append}
-use Rattle.spec_lists.specs.laws.Alike.{map-same}
 use Rattle.spec_token.specs.declared.Kind.{Kind}
 use Rattle.spec_token.specs.declared.Kind.the-variants as kind
 use Rattle.spec_grammar.specs.declared.Role.{Role}
@@ -21,7 +20,7 @@ use Rattle.spec_grammar.specs.laws.Roles.{same-role-is}
 use Rattle.spec_file.specs.Contents.{text, Group, Link, Rule-text, Asg, File}
 use Rattle.spec_file.specs.Meaning.{switched-off}
 use Rattle.spec_text.specs.Lines.{link-word, level-word, permission-word, log-word}
-use Rattle.spec_text.specs.laws.Pieces.{Piece, mark, word, string, line-end, tagged, said-at, lp, rp, lb, rb, cm, list-pieces, called-pieces}
+use Rattle.spec_text.specs.laws.Pieces.{Piece, mark, word, string, line-end, tagged, said-at, rp, lb, rb, list-pieces}
 use Rattle.spec_text.specs.laws.Pieces.{headed-pieces, member-pieces, uag-pieces, hag-pieces, link-pieces, head-pieces, reference-pieces}
 use Rattle.spec_text.specs.laws.Pieces.{calculation-pieces, unknown-pieces, predicate-pieces, rule-pieces, asg-pieces, line-pieces, ended-pieces}
 use Rattle.spec_text.specs.laws.Pieces.{file-pieces}

@@ -1,30 +1,32 @@
 -- The causes of 5, 8 and 9, which look at one token: no string of the text is too long, its levels are 0 or 1, its words known.
 use mathlib.Core.Path.{_≡_, refl}
 use mathlib.Core.Bool.{Bool, true, false}
-use mathlib.Core.List.{List, [], _∷_, _++_, map}
-use mathlib.Core.Option.{Option, none, some}
+use mathlib.Core.List.{List, [], _∷_}
+use mathlib.Core.Option.{Option, some}
 use Prim.Native.Nat.{ℕ, zero, suc, _≤_}
 use native.Mathlib.Omega.{arith}
 use lib.ListN.{length}
 use borrow.Author.Tests.{le-ltb}
-use Rattle.spec_lists.specs.Select.{joined, missing}
+use Rattle.spec_lists.specs.Select.{missing}
 use Rattle.spec_lists.specs.Every.{Every, nil, cons}
+use Rattle.spec_lists.specs.laws.Both.{neither}
 use Rattle.spec_lists.specs.laws.Every.{every-append, every-implies, every-both, every-map, every-joined}
 use Rattle.spec_grammar.specs.declared.Role.{Role}
 use Rattle.spec_grammar.specs.declared.Role.the-variants.{UagName, User, HagName, Host, AsgName, Pvname, Level, Permission, LogOption, UagNamed, HagNamed}
-use Rattle.spec_grammar.specs.declared.Role.the-variants.{Calculation}
+use Rattle.spec_grammar.specs.Codes.{same-role}
 use Rattle.spec_grammar.specs.Sentence.{Tagged}
+use Rattle.spec_grammar.specs.laws.Roles.{one-of}
 use Rattle.spec_rule.specs.declared.Access.{Access}
 use Rattle.spec_rule.specs.declared.Access.the-variants as access
 use Rattle.spec_rule.specs.Answering.{greatest-level}
 use Rattle.spec_file.specs.Limit.{longest, longest-name, longest-calculation}
-use Rattle.spec_file.specs.Contents.{text, level-of, permission-of, log-of, Group, Link, Rule-text, Asg, File}
+use Rattle.spec_file.specs.Contents.{level-of, permission-of, log-of, Group, Link, Rule-text, Asg, File}
 use Rattle.spec_file.specs.Meaning.{switched-off}
 use Rattle.spec_file.specs.Refusal.{Context, too-long, bad-level, unknown-word}
 use Rattle.spec_text.specs.Lines.{level-word, permission-word, log-word}
 use Rattle.spec_text.specs.laws.Keeps.{Calculation-of, without, with, Group-of, Rule-of, Asg-of, Short-name, Short-calculation, Asg-named, Keeps}
 use Rattle.spec_text.specs.laws.ClearSayings.{saying, strings, group-sayings, link-sayings, calculation-sayings, unknown-sayings, head-sayings}
-use Rattle.spec_text.specs.laws.ClearSayings.{predicate-sayings, rule-sayings, links-sayings, rules-sayings, asg-sayings, file-sayings}
+use Rattle.spec_text.specs.laws.ClearSayings.{rule-sayings, asg-sayings, file-sayings}
 use Rattle.spec_text.specs.laws.ClearContexts.{Respects}
 
 -- a token in no context
@@ -66,34 +68,25 @@ log-known true = refl
 -- ---- the tokens
 
 -- the roles of names
-data Name : Role → Type 0 where
-  uag-name : Name UagName
-  user : Name User
-  hag-name : Name HagName
-  host : Name Host
-  asg-name : Name AsgName
-  pv-name : Name Pvname
-  uag-named : Name UagNamed
-  hag-named : Name HagNamed
+abbrev Name : Role → Type 0
+Name r = (longest r ≡ some longest-name) × (one-of (Level ∷ Permission ∷ LogOption ∷ []) r ≡ false)
 
-name-plain : {r : Role} → Name r → (s : List ℕ) → Short-name s → Plain-always (saying r s)
-name-plain uag-name s l b = record { short = le-ltb longest-name (length s) l; level = refl; word = refl }
-name-plain user s l b = record { short = le-ltb longest-name (length s) l; level = refl; word = refl }
-name-plain hag-name s l b = record { short = le-ltb longest-name (length s) l; level = refl; word = refl }
-name-plain host s l b = record { short = le-ltb longest-name (length s) l; level = refl; word = refl }
-name-plain asg-name s l b = record { short = le-ltb longest-name (length s) l; level = refl; word = refl }
-name-plain pv-name s l b = record { short = le-ltb longest-name (length s) l; level = refl; word = refl }
-name-plain uag-named s l b = record { short = le-ltb longest-name (length s) l; level = refl; word = refl }
-name-plain hag-named s l b = record { short = le-ltb longest-name (length s) l; level = refl; word = refl }
+module _ (r : Role) (n : Name r) where
+  name-plain : (s : List ℕ) → Short-name s → Plain-always (saying r s)
+  name-plain s l b =
+      let v = neither (same-role r Level) _ (n .1) in
+      let w = neither (same-role r Permission) _ (v .1) in
+      let u = neither (same-role r LogOption) false (w .1) in
+      record { short = rw (n .0) (le-ltb longest-name (length s) l); level = rw (v .0); word = rw (w .0, u .0) }
 
-names-plain : {r : Role} → Name r → {ss : List (List ℕ)} → Every Short-name ss → Every Plain-always (strings r ss)
-names-plain {r} n c = every-map (saying r) (every-implies (name-plain n) c)
+  names-plain : {ss : List (List ℕ)} → Every Short-name ss → Every Plain-always (strings r ss)
+  names-plain c = every-map (saying r) (every-implies name-plain c)
 
-group-plain : {n m : Role} → Name n → Name m → (g : Group) → Group-of Short-name Short-calculation g → Every Plain-always (group-sayings n m g)
-group-plain n m g k = cons (name-plain n (g .name) (k .name)) (names-plain m (k .members))
+group-plain : (n m : Role) → Name n → Name m → (g : Group) → Group-of Short-name Short-calculation g → Every Plain-always (group-sayings n m g)
+group-plain n m v w g k = cons (name-plain n v (g .name) (k .name)) (names-plain m w (k .members))
 
 link-plain : (i : Link) → Short-name (i .name) → Every Plain-always (link-sayings i)
-link-plain i l = cons (λ b. record { short = refl; level = refl; word = refl }) (cons (name-plain pv-name (i .name) l) nil)
+link-plain i l = cons (λ b. record { short = refl; level = refl; word = refl }) (cons (name-plain Pvname (refl, refl) (i .name) l) nil)
 
 calculation-plain : {o : Option (List ℕ)} → Calculation-of Short-name Short-calculation o → Every Plain-always (calculation-sayings o)
 calculation-plain without = nil
@@ -118,12 +111,12 @@ rule-plain : (r : Rule-text) → Rule-of Short-name Short-calculation r → r .l
 rule-plain r k l =
     cons (λ b. record { short = refl; level = refl; word = refl })
     (every-append (head-plain r l)
-    (every-append (names-plain uag-named (k .uags))
-    (every-append (names-plain hag-named (k .hags)) (every-append (calculation-plain (k .calculation)) (unknown-plain (switched-off r))))))
+    (every-append (names-plain UagNamed (refl, refl) (k .uags))
+    (every-append (names-plain HagNamed (refl, refl) (k .hags)) (every-append (calculation-plain (k .calculation)) (unknown-plain (switched-off r))))))
 
 asg-plain : (a : Asg) → Asg-of Short-name Short-calculation a → Asg-named a → Every Plain-always (asg-sayings a)
 asg-plain a k n =
-    cons (name-plain asg-name (a .name) (k .name))
+    cons (name-plain AsgName (refl, refl) (a .name) (k .name))
     (every-append
     (every-joined (every-map link-sayings (every-implies link-plain (k .inputs))))
     (every-joined (every-map rule-sayings (every-both rule-plain (k .rules) (n .levels)))))
@@ -131,7 +124,7 @@ asg-plain a k n =
 pub file-plain : (f : File) → Keeps f → Every Plain-always (file-sayings f)
 file-plain f k =
     every-append
-    (every-joined (every-map (group-sayings UagName User) (every-implies (group-plain uag-name user) (k .short .uags))))
+    (every-joined (every-map (group-sayings UagName User) (every-implies (group-plain UagName User (refl, refl) (refl, refl)) (k .short .uags))))
     (every-append
-    (every-joined (every-map (group-sayings HagName Host) (every-implies (group-plain hag-name host) (k .short .hags))))
+    (every-joined (every-map (group-sayings HagName Host) (every-implies (group-plain HagName Host (refl, refl) (refl, refl)) (k .short .hags))))
     (every-joined (every-map asg-sayings (every-both asg-plain (k .short .asgs) (k .named)))))
