@@ -6,3 +6,4 @@ pub mod Bound
 pub mod QuotesBack
 pub mod Unwritable
 pub mod Back
+pub mod Answer

@@ -36,5 +36,6 @@ pub use Rattle.spec_places.specs.laws.Follows.{follows, refused-leaves}
 pub use Rattle.spec_places.specs.laws.Short.{short-right, too-short}
 pub use Rattle.spec_demand.specs.laws.Register.{register-on-table, register-behind, reload-elsewhere, never-more-to-clients}
 pub use Rattle.spec_demand.specs.laws.Rooms.{in-rooms, turns-sized, turns-fit, never-more-in-rooms}
-pub use Rattle.spec_demand.specs.laws.Export.{exported-not-table, exported-unwritable, exported-no-room, exported-text, unwritable-or-not, exactly-27}
-pub use Rattle.spec_demand.specs.laws.Export.{text-short, refused-export, loaded-unwritable, comes-back}
+pub use Rattle.spec_export.specs.laws.Answer.{exported-not-table, exported-unwritable, exported-no-room, exported-text, unwritable-or-not, exactly-27}
+pub use Rattle.spec_export.specs.laws.Answer.{text-short, refused-export}
+pub use Rattle.spec_demand.specs.laws.Export.{loaded-unwritable, comes-back}

@@ -1,18 +1,14 @@
 -- The text of a file's table is accepted, and its table is the file's, byte for byte.
 use mathlib.Core.Path.{_≡_, sym, ap, subst, _∙_}
 use mathlib.Core.Bool.{Bool, true, false, not, _||_}
-use mathlib.Core.List.{List, map}
-use Prim.Native.Nat.{ℕ, _≤_}
+use mathlib.Core.List.{map}
+use Prim.Native.Nat.{_≤_}
 use lib.ListN.{length}
 use Rattle.spec_lists.specs.Select.{all}
 use Rattle.spec_lists.specs.laws.Both.{neither}
-use Rattle.spec_file.specs.declared.Refusal.{Refusal}
 use Rattle.spec_file.specs.Limit.{most-bytes}
 use Rattle.spec_file.specs.Contents.{File, file-of}
-use Rattle.spec_file.specs.Refusal.{contexts}
-use Rattle.spec_file.specs.Acceptance.{Nowhere, Acceptable}
-use Rattle.spec_table.specs.Layout.{Content}
-use Rattle.spec_table.specs.Check.{well-formed}
+use Rattle.spec_file.specs.Acceptance.{Acceptable}
 use Rattle.spec_table.specs.Written.{content, table-of}
 use Rattle.spec_table.specs.laws.Fits.{Fits}
 use Rattle.spec_table.specs.laws.Stands.{content-stands}
@@ -20,7 +16,7 @@ use Rattle.spec_text.specs.Lines.{text-of}
 use Rattle.spec_text.specs.Faults.{quotable, defines-nothing, faulty}
 use Rattle.spec_text.specs.laws.Pieces.{said-at, file-pieces}
 use Rattle.spec_text.specs.laws.Keeps.{Quotable, Keeps}
-use Rattle.spec_text.specs.laws.Unplaced.{lowered-group, unplaced, kept}
+use Rattle.spec_text.specs.laws.Unplaced.{lowered-group, kept}
 use Rattle.spec_text.specs.laws.KeptText.{same-faults, same-definitions, quotable-kept}
 use Rattle.spec_text.specs.laws.Read.{text-reads, shallow}
 use Rattle.spec_text.specs.laws.Says.{says}

@@ -1,25 +1,25 @@
 -- A well-formed table's records name no string that the file which it says does not have: if all of that file's can be quoted, all of the table's can.
-use mathlib.Core.Path.{_≡_, refl, sym, ap, subst, _∙_}
+use mathlib.Core.Path.{_≡_, refl, sym, subst}
 use mathlib.Core.Bool.{Bool, true, false, cond}
-use mathlib.Core.List.{List, [], _∷_, _++_, map}
-use mathlib.Core.Option.{Option, none, some}
+use mathlib.Core.List.{List, [], _∷_, map}
+use mathlib.Core.Option.{none, some}
 use Prim.Native.Nat.{ℕ}
 use lib.Dec.{eqb}
 use lib.ListN.{take, drop}
 use borrow.Author.Tests.{eqb-true}
-use Rattle.spec_lists.specs.Select.{all, joined}
+use Rattle.spec_lists.specs.Select.{all}
 use Rattle.spec_lists.specs.Every.{Every, nil, cons}
 use Rattle.spec_lists.specs.laws.Both.{both}
 use Rattle.spec_lists.specs.laws.Every.{every-append, every-map, every-implies, every-joined, every-all}
 use Rattle.spec_token.specs.Token.{Between-quotes, nothing}
-use Rattle.spec_file.specs.Limit.{user-groups, host-groups, members, access-groups, inputs, rules, references}
-use Rattle.spec_file.specs.Contents.{Link, Rule-text, Asg}
+use Rattle.spec_file.specs.Limit.{user-groups, host-groups, members, access-groups, inputs, rules}
+use Rattle.spec_file.specs.Contents.{Link, Asg}
 use Rattle.spec_table.specs.Layout.{Content, sections}
 use Rattle.spec_table.specs.Table.{calculation-run, no-calculation}
 use Rattle.spec_table.specs.Policy.{string, name, members-of, rule-of}
 use Rattle.spec_table.specs.Check.{well-formed}
 use Rattle.spec_text.specs.Faults.{quotable}
-use Rattle.spec_text.specs.laws.Keeps.{Calculation-of, without, with, Group-of, Rule-of, Asg-of, Quotable, named-in}
+use Rattle.spec_text.specs.laws.Keeps.{Calculation-of, without, with, Rule-of, Quotable, named-in}
 use Rattle.spec_text.specs.laws.Quotable.{quotable-complete}
 use Rattle.spec_export.specs.Says.{group-in, link-in, rule-text-in, asg-in, file-in}
 use Rattle.spec_export.specs.Unwritable.{strings-in}

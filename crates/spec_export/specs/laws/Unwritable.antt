@@ -1,25 +1,21 @@
 -- The machine finds 27 exactly where the ticket's words ask for it: of every well-formed table.
 use mathlib.Core.Path.{_≡_, refl, sym, ap, subst, _∙_}
 use mathlib.Core.Bool.{Bool, true, false, not, _&&_, _||_, false≢true}
-use mathlib.Core.List.{List, [], _∷_, map}
+use mathlib.Core.List.{List, [], _∷_}
 use mathlib.Core.Logic.{_↔_}
 use mathlib.Core.Option.{Option, none, some}
 use Prim.Native.Nat.{ℕ}
 use native.Mathlib.Omega.{arith}
-use lib.ListN.{length}
 use Rattle.spec_lists.specs.Select.{all}
-use Rattle.spec_lists.specs.Every.{Every, nil, cons}
-use Rattle.spec_lists.specs.laws.Every.{all-every}
 use Rattle.spec_lists.specs.laws.Both.{both}
 use Rattle.spec_token.specs.Token.{Between-quotes}
-use Rattle.spec_token.specs.Scanner.{scanned}
 use Rattle.spec_rule.specs.Privilege.{Some, here, further}
 use Rattle.spec_file.specs.declared.Refusal.{Refusal}
 use Rattle.spec_file.specs.declared.Refusal.the-variants.{Ungrammatical}
 use Rattle.spec_file.specs.Contents.{File, file-of}
 use Rattle.spec_file.specs.Refusal.{contexts}
-use Rattle.spec_file.specs.Acceptance.{Nowhere, Has-cause, for-cause}
-use Rattle.spec_file.specs.Load.{Refusal-at, causes, refused-by, refuse, accept, by-tokens}
+use Rattle.spec_file.specs.Acceptance.{Has-cause, for-cause}
+use Rattle.spec_file.specs.Load.{Refusal-at, causes, refused-by}
 use Rattle.spec_file.specs.laws.Causes.{nowhere, caused-by}
 use Rattle.spec_file.specs.laws.Theorem.{free-is, cause-is}
 use Rattle.spec_table.specs.Layout.{Content}
@@ -28,7 +24,6 @@ use Rattle.spec_text.specs.Lines.{text-of}
 use Rattle.spec_text.specs.Faults.{quotable, defines-nothing, faulty}
 use Rattle.spec_text.specs.laws.Pieces.{said-at, file-pieces}
 use Rattle.spec_text.specs.laws.Keeps.{Quotable, Keeps}
-use Rattle.spec_text.specs.laws.Unplaced.{unplaced}
 use Rattle.spec_text.specs.laws.KeptText.{unplaced-faults, unplaced-definitions}
 use Rattle.spec_text.specs.laws.Quotable.{quotable-sound, quotable-complete}
 use Rattle.spec_text.specs.laws.Read.{text-reads, shallow, empty, empty-cause}
@@ -36,7 +31,7 @@ use Rattle.spec_text.specs.laws.Says.{says}
 use Rattle.spec_text.specs.laws.Clear.{uncaused}
 use Rattle.spec_text.specs.laws.Accepted.{faultless}
 use Rattle.spec_export.specs.Says.{file-in}
-use Rattle.spec_export.specs.Unwritable.{text-in, strings-in, Unwritable, unquotable, caused, unwritable}
+use Rattle.spec_export.specs.Unwritable.{strings-in, Unwritable, unquotable, caused, unwritable}
 use Rattle.spec_export.specs.laws.Quotes.{strings-quotable}
 use Rattle.spec_export.specs.laws.Limits.{keeps}
 

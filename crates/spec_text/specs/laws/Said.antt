@@ -1,30 +1,24 @@
 -- What the text of a file says is the file, the places of its unknown predicates aside.
 use mathlib.Core.Path.{_≡_, refl, sym, ap, ap₂, subst, _∙_}
-use mathlib.Core.Bool.{Bool, true, false, cond, not}
+use mathlib.Core.Bool.{Bool, true, false, not}
 use mathlib.Core.List.{List, [], _∷_, _++_, map, append-nil, append-assoc}
-use mathlib.Core.Option.{Option, none, some}
-use Prim.Native.Nat.{ℕ, zero, suc, _+_, _≤_}
-use native.Mathlib.Omega.{arith}
+use mathlib.Core.Option.{none, some}
+use Prim.Native.Nat.{ℕ, _+_}
 use lib.ListN.{length}
-use Rattle.spec_lists.specs.Text.{bytes}
-use Rattle.spec_lists.specs.Select.{select, prepend-if, joined, nonempty, all}
+use Rattle.spec_lists.specs.Select.{prepend-if, joined, all}
 use Rattle.spec_lists.specs.Every.{Every, nil, cons}
-use Rattle.spec_lists.specs.laws.Every.{every-append, every-implies}
-use Rattle.spec_lists.specs.laws.Joined.{joined-append, map-append, map-map}
-use Rattle.spec_token.specs.declared.Kind.{Kind}
+use Rattle.spec_lists.specs.laws.Every.{every-append}
+use Rattle.spec_lists.specs.laws.Joined.{joined-append, map-append}
 use Rattle.spec_token.specs.declared.Kind.the-variants as kind
 use Rattle.spec_grammar.specs.declared.Role.{Role}
-use Rattle.spec_grammar.specs.declared.Role.the-variants.{NoRole, UagName, User, HagName, Host, AsgName, Input, Pvname, RuleWord, Level, Permission}
-use Rattle.spec_grammar.specs.declared.Role.the-variants.{LogOption, UagNamed, HagNamed, CalcWord, Calculation, UnknownPredicate}
+use Rattle.spec_grammar.specs.declared.Role.the-variants.{NoRole}
 use Rattle.spec_grammar.specs.Codes.{same-role}
 use Rattle.spec_grammar.specs.Sentence.{Tagged}
-use Rattle.spec_grammar.specs.laws.Roles.{one-of, rule-roles, asg-roles}
-use Rattle.spec_grammar.specs.laws.Items.{roles, Headed, before, head}
-use Rattle.spec_file.specs.Contents.{text, texts, Clause, clauses, Group, Link, Rule-text, Asg, File, groups, links, rule-text, asg, file-of}
-use Rattle.spec_file.specs.Meaning.{switched-off}
+use Rattle.spec_grammar.specs.laws.Roles.{one-of}
+use Rattle.spec_grammar.specs.laws.Items.{roles, Headed, head}
+use Rattle.spec_file.specs.Contents.{text, texts, Clause, clauses}
 use Rattle.spec_file.specs.laws.Clauses.{Looks-at, Behind, behind-append, behind-none, clauses-append, clauses-none, says-nothing, headed-behind, other-clauses, own-clause, apart, behind-test}
-use Rattle.spec_file.specs.laws.ItemClauses.{group, link, rule-of, rule-texts, group-looks, link-looks, rule-looks, asg-looks}
-use Rattle.spec_text.specs.laws.Pieces.{Piece, mark, word, string, line-end, said-at, tagged, lp, rp, lb, rb, cm, list-pieces, called-pieces, headed-pieces}
+use Rattle.spec_text.specs.laws.Pieces.{Piece, mark, word, string, line-end, said-at, tagged, lb, rb, cm, headed-pieces}
 use Rattle.spec_text.specs.laws.Pieces.{ended-pieces}
 
 -- ---- what pieces say, wherever they stand

@@ -23,7 +23,7 @@ use Rattle.spec_rule.specs.declared.Access.{Access}
 use Rattle.spec_rule.specs.declared.Access.the-variants as access
 use Rattle.spec_rule.specs.Answering.{greatest-level}
 use Rattle.spec_file.specs.Contents.{head-of, value-of, level-of, permission-of, log-of, has-role, place}
-use Rattle.spec_file.specs.Contents.{text, texts, Clause, clauses, Group, Link, Rule-text, Asg, File, groups, links, rule-text, asg, file-of}
+use Rattle.spec_file.specs.Contents.{text, Clause, clauses, Group, Link, Rule-text, Asg, File, asg, file-of}
 use Rattle.spec_token.specs.Word.{link-letter}
 use Rattle.spec_file.specs.Meaning.{switched-off}
 use Rattle.spec_file.specs.laws.Clauses.{Looks-at, apart, behind-test}
@@ -31,10 +31,10 @@ use Rattle.spec_file.specs.laws.ItemClauses.{group, link, rule-of, group-looks,
 use Rattle.spec_text.specs.Lines.{link-word, level-word, permission-word, log-word}
 use Rattle.spec_text.specs.laws.Pieces.{Piece, word, string, line-end, said-at, lp, rp, cm, list-pieces, called-pieces, headed-pieces, member-pieces, uag-pieces}
 use Rattle.spec_text.specs.laws.Pieces.{hag-pieces, link-pieces, head-pieces, reference-pieces, calculation-pieces, unknown-pieces, predicate-pieces}
-use Rattle.spec_text.specs.laws.Pieces.{rule-pieces, asg-pieces, line-pieces, ended-pieces, file-pieces}
+use Rattle.spec_text.specs.laws.Pieces.{rule-pieces, asg-pieces, ended-pieces, file-pieces}
 use Rattle.spec_text.specs.laws.Said.{piece-roles, roles-both, said, said-texts, said-both, body, ended-append, ended-joined, headed-is, said-body, every-body}
 use Rattle.spec_text.specs.laws.Said.{unsaid, said-list, said-other, every-list, said-ended, every-ended, Makes, makes-both, makes-joined, makes-none, makes-one}
-use Rattle.spec_text.specs.laws.Said.{makes-silent, makes-body, makes-none-of}
+use Rattle.spec_text.specs.laws.Said.{makes-body, makes-none-of}
 use Rattle.spec_text.specs.laws.Keeps.{Asg-named}
 use Rattle.spec_text.specs.laws.Unplaced.{unplaced-rule, unplaced-asg, unplaced}
 
