@@ -1,16 +1,11 @@
 use Rattle.spec_lists.specs.laws.Both.{or-false}
 use mathlib.Core.Path.{sym}
-use borrow.Author.Needs.{needs}
 use Rattle.text_quote.proofs.is_escape.Statement.{statement}
 use Rattle.text_quote.proofs.is_escape.Tie as tie
-use Rattle.text_quote.proofs.is_escape.Reads as reads
-use Rattle.text_quote.proofs.is_escape.Lts as lts
 
--- src/lib.rt:19:1
 returns : tie.Need-returns
 returns c = rw (c .if1 .taken) (sym (or-false _))
 
--- src/lib.rt:19:1
 returns-2 : tie.Need-returns-2
 returns-2 c = rw (c .if1 .left)
 
