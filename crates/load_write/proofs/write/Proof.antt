@@ -1,6 +1,7 @@
 use mathlib.Core.Logic.{⊎-elim}
 use borrow.Author.Needs.{needs}
-use Rattle.load_write.specs.laws.Table.{by-length, by-measure, no-room, room, room-length}
+use Rattle.byte_write.specs.laws.Room.{by-length, by-measure, room-length}
+use Rattle.load_write.specs.laws.Table.{no-room, room}
 use Rattle.load_write.proofs.write.Statement.{statement}
 use Rattle.load_write.proofs.write.Tie as tie
 

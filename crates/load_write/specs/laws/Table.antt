@@ -1,15 +1,15 @@
 -- The whole table from its parts, and what a write answers and leaves.
-use mathlib.Core.List.{List, _++_, [], _∷_}
-use mathlib.Core.Path.{_≡_, _∙_, refl, ap, subst}
-use Prim.Native.Nat.{ℕ, _-_, _<_, _≤_, _+_}
+use mathlib.Core.List.{List, _++_, []}
+use mathlib.Core.Path.{_≡_, refl, ap, subst}
+use Prim.Native.Nat.{ℕ, _-_, _<_, _+_}
 use native.Mathlib.Omega.{arith}
-use lib.ListN.{length, drop}
-use lib.Seq.{sets-eq}
+use lib.ListN.{length}
 use borrow.Author.Tests.{lt-leb, le-leb}
 use Rattle.spec_lists.specs.Words.{spelled-out}
 use Rattle.spec_grammar.specs.Sentence.{Tagged}
 use Rattle.byte_write.specs.Put.{Put}
-use Rattle.byte_write.specs.laws.Puts.{put-as, put-before, put-length, put-put}
+use Rattle.byte_write.specs.laws.Puts.{put-as, put-before, put-put}
+use Rattle.byte_write.specs.laws.Room.{measured, too-long, Has-room, room-written}
 use Rattle.load_records.specs.declared.Cursor.{Cursor}
 use Rattle.load_records.specs.Cursor.{cursor}
 use Rattle.load_sections.specs.declared.AccessSections.{AccessSections}
@@ -59,42 +59,14 @@ table-put us hs xs {b₀} {b₁} {b₂} {b₃} {b₄} {b₅} {b₆} {f} {m} {k} 
     let first : Put b₅ b₆ 0 (spelled-out (header-words us hs xs)) 36 = record { bytes = put-as header (ap spelled-out words-are) refl .bytes; end = refl } in
     put-before {ws = spelled-out (header-words us hs xs)} laid first
 
--- measuring writes nothing
-measured : {t x : List ℕ} {k : ℕ} (b : List ℕ) → Put [] x 0 t k → (x ++ b ≡ b) × (k ≡ length t)
-measured {x = []} b p = (refl, omega (arith, p .end))
-measured {x = v ∷ x} b p = absurd (omega (arith, put-length p))
-
 pub no-room : {t b x : List ℕ} {k : ℕ} → Put [] x 0 t k → length (x ++ b) < k → Wrote t b (x ++ b) (NoRoom k)
 no-room {t} {b} {x} {k} p h =
     let m = measured b p in
-    let less : length b < length t = omega (arith, ap length (m .0), m .1) in
-    let no = lt-leb (length t) (length b) less in
+    let no = lt-leb (length t) (length b) (too-long b p h) in
     record { answered = rw no (ap NoRoom (m .1)); leaves = rw no (m .0) }
 
--- there is room for t in what is lent, and nothing is changed there yet
-pub record Has-room (t lent now : List ℕ) : Type 0 where
-  pub fits : length t ≤ length lent
-  pub as-lent : now ≡ lent
-
--- t was measured
-pub by-measure : {t b x l : List ℕ} {k : ℕ} → Put [] x 0 t k → k ≤ length (x ++ b) → l ≡ x ++ b → Has-room t b l
-by-measure {t} {b} {x} {l} p h e =
-    let m = measured b p in
-    record { fits = omega (arith, ap length (m .0), m .1); as-lent = e ∙ m .0 }
-
--- n is as long as any
-pub by-length : {t b l : List ℕ} {n : ℕ} → length t ≤ n → n ≤ length b → l ≡ b → Has-room t b l
-by-length f h e = record { fits = omega arith; as-lent = e }
-
-pub room-length : {t b c l : List ℕ} {r : ℕ} → Has-room t b l → Put l c 0 t r → length c ≡ length b
-room-length w p = put-length p ∙ ap length (w .as-lent)
-
 pub room : {t b c l : List ℕ} {r : ℕ} → Has-room t b l → Put l c 0 t r → Wrote t b c (Done r)
-room {t} {b} {c} {l} {r} w p =
+room {t} {b} w p =
     let yes = le-leb (length t) (length b) (w .fits) in
-    let z : 0 + length t ≡ length t = omega arith in
-    let put : Put b c 0 t r = rw (w .as-lent) at p in
-    record {
-      answered = rw yes (ap Done (put .end ∙ z));
-      leaves = rw yes (put .bytes ∙ sets-eq t b 0 (omega (arith, w .fits)) ∙ ap (λ (k : ℕ). t ++ drop k b) z);
-    }
+    let k = room-written w p in
+    record { answered = rw yes (ap Done (k .1)); leaves = rw yes (k .0) }
