@@ -65,7 +65,7 @@ fn stands_again(table: &[u8], s: Section, i: usize) -> bool
     let mut j = i + 1;
     while j < n {
         if byte_compare::equal(name, table_read::name_of(table, s, j)) {
-            return true;
+            return true; // one name twice
         }
         j += 1;
     }
