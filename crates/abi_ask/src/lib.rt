@@ -23,7 +23,7 @@ pub extern "C" fn hrazvanut_abi_decide_letter(
 {
     let rs = calc_readings::readings(states, values, 0);
     let answer = ask::decide(table, group, user, host, roles, lengths, level, rs);
-    api_numbers::answer_number(answer)
+    api_answers::answer_number(answer)
 }
 
 // Asks of its caller: hrazvanut_abi_is_table has said 1 of the same bytes, or an accepted load left them.
@@ -47,5 +47,5 @@ pub extern "C" fn hrazvanut_abi_decide_letter_checked(
 {
     let rs = calc_readings::readings(states, values, 0);
     let answer = ask_checked::decide_checked(table, group, user, host, roles, lengths, level, rs);
-    api_numbers::answer_number(answer)
+    api_answers::answer_number(answer)
 }

@@ -1,13 +1,11 @@
-// The answers as numbers, for callers in C: include/hrazvanut.h takes them apart again.
-use spec_decision::Answer;
-use spec_decision::Found;
+// The answers of a load as numbers, for callers in C: include/hrazvanut.h takes them apart again.
 use spec_file::Refusal;
 use spec_load::Listed;
 use spec_load::Loaded;
 ghost use mathlib.Core.Path.{_≡_};
 ghost use Prim.Native.Nat.{_<_, min};
 ghost use Rattle.spec_file.specs.Refusal as refusal;
-ghost use Rattle.api_numbers.specs.Numbers.{packed, load-number, listed-number, answer-number, found-number};
+ghost use Rattle.api_numbers.specs.Numbers.{packed, load-number, listed-number};
 
 fn at_most(n: usize, most: u32) -> u64
     ensures { λ r. ⌜ r ≡ min n most ⌝ }
@@ -16,7 +14,7 @@ fn at_most(n: usize, most: u32) -> u64
     if n < m { n as u64 } else { most as u64 }
 }
 
-// 32 bits, 16 bits, and a refusal's number. Inner: api_register and the functions here call it, with numbers of refusals.
+// 32 bits, 16 bits, and a refusal's number. Inner: api_answers, api_register and the functions here call it, with numbers of refusals.
 pub fn packed(first: usize, second: usize, number: u64) -> u64
     requires { ⌜ number < 256 ⌝ }
     ensures { λ r. ⌜ r ≡ packed first second number ⌝ }
@@ -66,29 +64,5 @@ pub fn listed_number(l: Listed) -> u64
     match l {
         Listed::Warnings(n) => packed(n, 0, 0),
         Listed::Refused { refusal, place } => packed(place, 0, refusal_number(refusal)),
-    }
-}
-
-pub fn answer_number(a: Answer) -> u64
-    ensures { λ r. ⌜ r ≡ answer-number a ⌝ }
-{
-    match a {
-        Answer::Answered(d) => {
-            let decided = ask_number::number(d);
-            packed(decided as usize, 0, 0)
-        }
-        Answer::NotTable => packed(0, 0, 20),
-        Answer::BadLevel => packed(0, 0, 21),
-        Answer::BadRoles => packed(0, 0, 26),
-    }
-}
-
-pub fn found_number(f: Found) -> u64
-    ensures { λ r. ⌜ r ≡ found-number f ⌝ }
-{
-    match f {
-        Found::Part { at, length } => packed(at, length, 0),
-        Found::NotTable => packed(0, 0, 20),
-        Found::NoInput => packed(0, 0, 22),
     }
 }

@@ -1,23 +1,13 @@
 -- The checker's lines in lent bytes.
 use mathlib.Core.Path.{_≡_}
-use mathlib.Core.List.{List, [], _∷_, _++_}
+use mathlib.Core.List.{List}
 use Prim.Native.Nat.{ℕ, _*_, _≤_}
 use lib.ListN.{length, take}
 use Rattle.io.specs.Counts.{Counts}
 use Rattle.spec_file.specs.Limit.{most-bytes}
 use Rattle.prog_text.specs.Put.{Put}
-use Rattle.prog_report.specs.Report.{warning-line}
+use Rattle.prog_warnings.specs.Lines.{longest-line}
 use Rattle.prog_check.specs.Checked.{checked}
-
--- the lines of warnings whose numbers and places stand in two lists
-abbrev pub lines-by : List ℕ → List ℕ → List ℕ
-lines-by [] ps = []
-lines-by (n ∷ ns) [] = []
-lines-by (n ∷ ns) (p ∷ ps) = warning-line n p ++ lines-by ns ps
-
--- the most bytes of a line: a number of 3 digits and a place of 5
-abbrev pub longest-line : ℕ
-longest-line = 21
 
 -- no file has more warnings than bytes, so that its lines have room in these
 abbrev pub most-printed : ℕ

@@ -16,7 +16,7 @@ fn answer_line(table: &[u8], line: &[u8], out: &mut [u8], at: usize) -> usize
     ensures { λ r. ⌜ Put (answered (now (table .entry)) (asks (now (line .entry)))) (now (out .entry)) at (now (out .exit)) r ⌝ }
 {
     match prog_line::question(line) {
-        Line::Refused => prog_words::refused_text(out, at),
+        Line::Refused => prog_answer::refused_text(out, at),
         Line::Question {
             user,
             host,
@@ -29,7 +29,7 @@ fn answer_line(table: &[u8], line: &[u8], out: &mut [u8], at: usize) -> usize
             let mut allowed = false;
             let rs = prog_line::readings(line, level_at + 1, &mut allowed);
             let answer = decide_checked(table, group, user_name, host_name, b"", b"", level, rs);
-            prog_words::answer_text(answer, out, at)
+            prog_answer::answer_text(answer, out, at)
         }
     }
 }

@@ -70,7 +70,7 @@ pub fn serve(table: &[u8], fd: i32, size: usize)
             prog_output::put(&out[..n]);
         }
         Ended::Cut(count) => {
-            let n = prog_end::cut(count, &mut out);
+            let n = prog_cut::cut(count, &mut out);
             prog_output::put(&out[..n]);
         }
         Ended::Unwritten => {}

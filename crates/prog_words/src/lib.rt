@@ -1,4 +1,4 @@
-// What the asker prints for an answer, written into lent bytes. 01, "Two programs".
+// The words that the asker prints for an answer, written into lent bytes. 01, "Two programs".
 // Each function writes from an offset on, as far as there is room, and answers the offset behind what it wrote.
 // Callers begin at 0 or behind another text, which ends within (prog_text: laws/Put: put-within).
 ghost use Prim.Native.Nat.{_≤_};
@@ -6,14 +6,13 @@ ghost use lib.ListN.{length};
 ghost use mathlib.Core.List.{_++_};
 ghost use Rattle.spec_lists.specs.Text.{bytes};
 ghost use Rattle.prog_text.specs.Put.{Put};
-ghost use Rattle.prog_words.specs.Words.{access-word, log-word, letter-word, answer-text, refused-line};
+ghost use Rattle.prog_words.specs.Words.{access-word, log-word, letter-word};
 use ask_number::letter_number;
 use prog_text::put;
-use spec_decision::Answer;
 use spec_rule::Access;
 use spec_rule::Stop;
 
-fn put_access(a: Access, out: &mut [u8], at: usize) -> usize
+pub fn put_access(a: Access, out: &mut [u8], at: usize) -> usize
     requires { ⌜ at ≤ length (now out) ⌝ }
     ensures { λ r. ⌜ Put (access-word a) (now (out .entry)) at (now (out .exit)) r ⌝ }
 {
@@ -24,7 +23,7 @@ fn put_access(a: Access, out: &mut [u8], at: usize) -> usize
     }
 }
 
-fn put_trap(trap: bool, out: &mut [u8], at: usize) -> usize
+pub fn put_trap(trap: bool, out: &mut [u8], at: usize) -> usize
     requires { ⌜ at ≤ length (now out) ⌝ }
     ensures { λ r. ⌜ Put (bytes " " ++ log-word trap) (now (out .entry)) at (now (out .exit)) r ⌝ }
 {
@@ -34,38 +33,11 @@ fn put_trap(trap: bool, out: &mut [u8], at: usize) -> usize
     put(b" NOTRAPWRITE", out, at)
 }
 
-fn put_letter(letter: Stop, out: &mut [u8], at: usize) -> usize
+pub fn put_letter(letter: Stop, out: &mut [u8], at: usize) -> usize
     requires { ⌜ at ≤ length (now out) ⌝ }
     ensures { λ r. ⌜ Put (bytes " " ++ letter-word letter) (now (out .entry)) at (now (out .exit)) r ⌝ }
 {
     let words = b"-ABCDEFGHIJKLMNOPQRSTU";
     let n = letter_number(letter);
     put(&[b' ', words[n as usize]], out, at)
-}
-
-// What is printed for an answer. Callers begin at 0 or behind another text, which ends within.
-pub fn answer_text(a: Answer, out: &mut [u8], at: usize) -> usize
-    requires { ⌜ at ≤ length (now out) ⌝ }
-    ensures { λ r. ⌜ Put (answer-text a) (now (out .entry)) at (now (out .exit)) r ⌝ }
-{
-    match a {
-        Answer::Answered(d) => {
-            let access = d.access;
-            let letter = d.letter;
-            let next = put_access(access, out, at);
-            let last = put_trap(d.trap, out, next);
-            put_letter(letter, out, last)
-        }
-        Answer::NotTable => put(b"refused 20", out, at),
-        Answer::BadLevel => put(b"refused 21", out, at),
-        Answer::BadRoles => put(b"refused 26", out, at),
-    }
-}
-
-// For a line that is refused. Callers begin at 0 or behind another text, which ends within.
-pub fn refused_text(out: &mut [u8], at: usize) -> usize
-    requires { ⌜ at ≤ length (now out) ⌝ }
-    ensures { λ r. ⌜ Put refused-line (now (out .entry)) at (now (out .exit)) r ⌝ }
-{
-    put(b"refused line", out, at)
 }

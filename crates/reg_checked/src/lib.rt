@@ -35,7 +35,7 @@ pub fn add_checked(
     match reg_refuse::room_to_add(places, states, values, group, user, host, level) {
         Room::At(p) => Added::At {
             place: p,
-            changed: reg_enter::enter_checked(
+            changed: reg_client::enter_checked(
                 places,
                 states,
                 values,
@@ -78,7 +78,7 @@ pub fn change_checked(
         (client-of (now (group .entry)) level (now (user .entry)) (now (host .entry))) ⌝ }
 {
     match reg_refuse::room_to_change(places, states, values, place, group, user, host, level) {
-        Room::At(p) => Changed::Places(reg_enter::enter_checked(
+        Room::At(p) => Changed::Places(reg_client::enter_checked(
             places,
             states,
             values,

@@ -1,15 +1,12 @@
 // A client entered into its place, or a place made free, and whether its right has changed by that.
 use reg_kept::Kept;
 ghost use mathlib.Core.Path.{_≡_};
-ghost use mathlib.Core.Bool.{true};
 ghost use Prim.Native.Nat.{_*_, _<_, _^_};
 ghost use Rattle.spec_rule.specs.Kept.{bit};
-ghost use Rattle.spec_table.specs.Check.{is-table};
 ghost use Rattle.spec_register.specs.Register.{most-clients, client-of};
 ghost use Rattle.spec_register.specs.Right.{differ};
 ghost use Rattle.spec_rule.specs.Number.{decision-from};
-ghost use Rattle.spec_places.specs.Storage.{readings-in};
-ghost use Rattle.spec_places.specs.Writing.{entered, freed};
+ghost use Rattle.spec_places.specs.Writing.{freed};
 ghost use Rattle.spec_places.specs.laws.Fits.{Fits};
 ghost use Rattle.reg_bytes.specs.Placed.{Placed};
 ghost use Rattle.reg_kept.specs.Kept.{kept-bytes, Keeps};
@@ -26,8 +23,8 @@ fn changed_bit(p: usize, before: u8, after: u8) -> u64
     0
 }
 
-// A client and what is kept of it.
-fn enter_kept(
+// A client and what is kept of it. Inner: reg_client calls it, with a place that reg_refuse has given.
+pub fn enter_kept(
     places: &mut [u8],
     p: usize,
     group: &[u8],
@@ -54,77 +51,6 @@ fn enter_kept(
     reg_write::put_client(places, p, group, user, host, level);
     reg_write::put_kept(places, p, k.number, after, &flags, k.count);
     changed_bit(p, before, after)
-}
-
-// A client over a table that was checked. Inner: reg_checked calls it, with a place that reg_refuse has given.
-pub fn enter_checked(
-    places: &mut [u8],
-    states: &[u8],
-    values: &[f64],
-    table: &[u8],
-    p: usize,
-    group: &[u8],
-    user: &[u8],
-    host: &[u8],
-    level: u32,
-) -> u64
-    requires { ⌜ is-table (now table) ≡ true ⌝ }
-    requires { ⌜ Placed (now places) p ⌝ }
-    requires { ⌜ Fits (client-of (now group) level (now user) (now host)) ⌝ }
-    ensures { λ r.
-        ⌜ Left
-        (now (places .entry))
-        (entered
-        (now (table .entry))
-        (readings-in (now (states .entry)) (now (values .entry)))
-        (now (places .entry))
-        p
-        (client-of (now (group .entry)) level (now (user .entry)) (now (host .entry))))
-        (now (places .exit))
-        r ⌝ }
-{
-    let k = reg_kept::kept_checked(table, group, user, host, level, states, values);
-    enter_kept(places, p, group, user, host, level, k)
-}
-
-// A client over any bytes. Inner: register calls it, with a place that reg_refuse has given.
-pub fn enter(
-    places: &mut [u8],
-    states: &[u8],
-    values: &[f64],
-    table: &[u8],
-    p: usize,
-    group: &[u8],
-    user: &[u8],
-    host: &[u8],
-    level: u32,
-) -> u64
-    requires { ⌜ Placed (now places) p ⌝ }
-    requires { ⌜ Fits (client-of (now group) level (now user) (now host)) ⌝ }
-    ensures { λ r.
-        ⌜ Left
-        (now (places .entry))
-        (entered
-        (now (table .entry))
-        (readings-in (now (states .entry)) (now (values .entry)))
-        (now (places .entry))
-        p
-        (client-of (now (group .entry)) level (now (user .entry)) (now (host .entry))))
-        (now (places .exit))
-        r ⌝ }
-{
-    if table::is_table(table) {
-        return enter_checked(places, states, values, table, p, group, user, host, level);
-    }
-    enter_kept(
-        places,
-        p,
-        group,
-        user,
-        host,
-        level,
-        reg_kept::nothing_kept(),
-    )
 }
 
 // A place made free. Inner: place calls it, with a place that reg_refuse has given.

@@ -3,10 +3,9 @@ ghost use mathlib.Core.Path.{_≡_};
 ghost use Prim.Native.Nat.{_≤_};
 ghost use lib.ListN.{length};
 ghost use Rattle.spec_file.specs.Limit.{access-groups, rules, most};
-ghost use Rattle.spec_places.specs.Storage.{readings-in};
 ghost use Rattle.table_read.specs.Stored.{Stored};
 ghost use Rattle.reg_bytes.specs.Placed.{Placed};
-ghost use Rattle.reg_renew.specs.Renew.{Renews-place, Renews-all, All-renewed};
+ghost use Rattle.reg_renew.specs.Renew.{Renews-place, Renews-all};
 
 fn wide(n: u8) -> usize
     ensures { λ r. ⌜ r ≡ n ⌝ }
@@ -30,7 +29,8 @@ fn renew_place(places: &mut [u8], p: usize, table: &[u8], group: usize, outcomes
     reg_right::changed(before, after)
 }
 
-fn renew_by(places: &mut [u8], table: &[u8], group: usize, outcomes: &[u8; 256]) -> u64
+// Renews the rights of all places that an access group answers for, by what its calculations come to. Inner: reg_group calls it.
+pub fn renew_by(places: &mut [u8], table: &[u8], group: usize, outcomes: &[u8; 256]) -> u64
     requires { ⌜ Placed (now places) 0 ⌝ }
     requires { ⌜ Stored (now table) access-groups group × (most rules ≤ length (now outcomes)) ⌝ }
     ensures { λ r. ⌜ Renews-all (now (table .entry)) group (now (outcomes .entry)) (now (places .entry)) (now (places .exit)) r ⌝ }
@@ -42,16 +42,4 @@ fn renew_by(places: &mut [u8], table: &[u8], group: usize, outcomes: &[u8; 256])
         m = renew_place(places, p, table, group, outcomes) + 2 * m;
     }
     m
-}
-
-// Renews the rights of all places that an access group answers for, and says by bits which have changed; each calculation is run once.
-// Inner: reg_set calls it, with a group that it has found in a checked table.
-pub fn renew(places: &mut [u8], states: &[u8], values: &[f64], table: &[u8], group: usize) -> u64
-    requires { ⌜ Placed (now places) 0 ⌝ }
-    requires { ⌜ Stored (now table) access-groups group ⌝ }
-    ensures { λ r.
-        ⌜ All-renewed (now (table .entry)) group (readings-in (now (states .entry)) (now (values .entry)) group) (now (places .entry)) (now (places .exit)) r ⌝ }
-{
-    let outcomes = reg_kept::outcomes_of(table, group, states, values);
-    renew_by(places, table, group, &outcomes)
 }

@@ -69,7 +69,7 @@ fn set_reading(
     let at = i * 21 + wide(letter);
     states[at] = state_of(r);
     values[at] = calc_inputs::value_of(r);
-    reg_renew::renew(places, states, values, table, i)
+    reg_group::renew(places, states, values, table, i)
 }
 
 // Sets one reading of the access group of a name, and says which rights have changed. Refused: 34, 22. Inner: callers have asked is_table.

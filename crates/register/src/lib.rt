@@ -32,7 +32,7 @@ pub fn add(
     match reg_refuse::room_to_add(places, states, values, group, user, host, level) {
         Room::At(p) => Added::At {
             place: p,
-            changed: reg_enter::enter(places, states, values, table, p, group, user, host, level),
+            changed: reg_client::enter(places, states, values, table, p, group, user, host, level),
         },
         Room::Refused(x) => Added::Refused(x),
     }
@@ -64,7 +64,7 @@ pub fn change(
         (client-of (now (group .entry)) level (now (user .entry)) (now (host .entry))) ⌝ }
 {
     match reg_refuse::room_to_change(places, states, values, place, group, user, host, level) {
-        Room::At(p) => Changed::Places(reg_enter::enter(
+        Room::At(p) => Changed::Places(reg_client::enter(
             places,
             states,
             values,

@@ -39,7 +39,7 @@ fn listed<'a>(s: &'a [u8]) -> &'a [u8] {
 
 fn put_answer(a: Answer) {
     let mut out = [0u8; 32];
-    let n = prog_words::answer_text(a, &mut out, 0);
+    let n = prog_answer::answer_text(a, &mut out, 0);
     put(&out[..n]);
     put(b"\n");
 }

@@ -16,7 +16,8 @@ use Rattle.prog_report.specs.Report.{refusal-line}
 use Rattle.prog_text.specs.Put.{Stands}
 use Rattle.prog_text.specs.laws.Put.{put-within, put-as, put-whole}
 use Rattle.prog_check.specs.Checked.{told, checked}
-use Rattle.prog_check.specs.Lines.{lines-by, most-printed, Prints}
+use Rattle.prog_warnings.specs.Lines.{lines-by}
+use Rattle.prog_check.specs.Lines.{most-printed, Prints}
 use Rattle.prog_check.specs.laws.Few.{length-map, few-warnings}
 use Rattle.prog_check.specs.laws.Lines.{lines-of}
 

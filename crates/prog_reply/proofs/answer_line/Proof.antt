@@ -11,8 +11,8 @@ use Rattle.prog_line.proofs.group.Reads as group-reads
 use Rattle.prog_line.proofs.part.Reads as part-reads
 use Rattle.prog_line.proofs.question.Reads as question-reads
 use Rattle.prog_line.proofs.readings.Reads as readings-reads
-use Rattle.prog_words.proofs.answer_text.Reads as answer-text-reads
-use Rattle.prog_words.proofs.refused_text.Reads as refused-text-reads
+use Rattle.prog_answer.proofs.answer_text.Reads as answer-text-reads
+use Rattle.prog_answer.proofs.refused_text.Reads as refused-text-reads
 
 question-requires : tie.Need-question-requires
 question-requires c κs = search needs
