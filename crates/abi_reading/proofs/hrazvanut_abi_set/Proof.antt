@@ -1,4 +1,5 @@
-use Rattle.abi_reading.specs.laws.Answers.{gives}
+use Rattle.abi_reading.specs.laws.Answers.{sets}
+use Rattle.spec_places.specs.Storage.{lent}
 use borrow.Author.Needs.{needs}
 use Rattle.abi_reading.proofs.hrazvanut_abi_set.Statement.{statement}
 use Rattle.abi_reading.proofs.hrazvanut_abi_set.Tie as tie
@@ -25,7 +26,9 @@ same-length-4 : tie.Need-same-length-4
 same-length-4 c = search needs
 
 returns : tie.Need-returns
-returns c = rw (c .before .before .before .before .before .before .before .before .before .before .before .before .before .before .reading .ensures) at (gives (c .before .before .before .before .before .before .before .before .before .before .set .ensures) (c .before .before .tell-changed .ensures))
+returns c =
+    let a = c .before .before .before .before .before .before .before .before .before .before .before .before .before .before .before .before .before .before .before .before .before .args in
+    sets (lent (a .table .now) (a .places .now) (a .states .now) (a .values .now)) (a .group .now) (a .letter) (c .before .before .before .before .before .before .before .before .before .before .before .before .before .before .reading .ensures) (c .before .before .before .before .before .before .before .before .before .before .set .ensures) (c .before .before .tell-changed .ensures)
 
 pub hrazvanut-abi-set-spec : {M : Type 1} → statement M
 hrazvanut-abi-set-spec =
