@@ -7,10 +7,12 @@
 //! document 02's first request, `script` its calls as lines; its second, roles,
 //! is part of `question`, its third, bad arithmetic, of `calculation`, its fourth,
 //! undefined groups, of `file`, its fifth, the stopping letter, of `calculation`
-//! and `question`. `walk` tells which groups and inputs a table has.
+//! and `question`; its sixth is `export`. `walk` tells which groups and inputs a
+//! table has.
 #![forbid(unsafe_code)]
 
 pub mod calculation;
+pub mod export;
 pub mod file;
 pub mod grammar;
 pub mod programs;
@@ -22,6 +24,7 @@ pub mod text;
 pub mod walk;
 
 pub use calculation::{allowed, Reading, Readings};
+pub use export::{export, text_of};
 pub use question::{decide, decide_checked, find_input, Access, Answer, Question};
 pub use register::{Client, Register};
 pub use table::is_table;
@@ -76,6 +79,11 @@ pub fn read(text: &[u8]) -> Result<file::File<'_>, Refusal> {
     if text.len() > FILE_BYTES {
         return Err(Refusal { number: 1, place: 0 });
     }
+    read_any_length(text)
+}
+
+/// Refusals 2 to 10 and 12, or the file, whatever the text's length.
+pub fn read_any_length(text: &[u8]) -> Result<file::File<'_>, Refusal> {
     let tokens = text::tokens(text).map_err(|place| Refusal { number: 2, place })?;
     if let Some(place) = text::brace_too_many(&tokens) {
         return Err(Refusal { number: 3, place });

@@ -289,6 +289,12 @@ impl<'a> View<'a> {
         names
     }
 
+    /// The strings that records name.
+    pub fn named_strings(&self) -> Vec<Text> {
+        let calculations = self.rules().into_iter().map(|rule| rule.calculation);
+        self.names().into_iter().chain(calculations).collect()
+    }
+
     fn rules(&self) -> Vec<StoredRule> {
         (0..self.count(RULES)).map(|n| self.rule(n)).collect()
     }
