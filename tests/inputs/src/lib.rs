@@ -1,10 +1,11 @@
-//! Inputs made from a seed: files, tables, questions, roles, letters, calculations,
-//! lines, calls on a register.
+//! Inputs made from a seed: files, tables, tables to be written back, questions,
+//! roles, letters, calculations, lines, calls on a register.
 #![forbid(unsafe_code)]
 
 mod arithmetic;
 pub mod calculation;
 pub mod every;
+pub mod export;
 pub mod file;
 pub mod letters;
 pub mod lines;
