@@ -7,6 +7,7 @@
 //! difference, or if there are no vectors.
 
 mod calculations;
+mod exports;
 mod files;
 mod questions;
 mod registers;
@@ -35,6 +36,7 @@ fn run(kind: &str, path: &Path, bench: &mut Bench, score: &mut Score) {
         "decide" => questions::run(path, score),
         "asker" | "ask" => questions::asker(path, bench, score),
         "register" => registers::run(path, score),
+        "export" => exports::run(path, score),
         _ => score.stray(path, "a kind of vectors that is not known"),
     }
 }
