@@ -1,9 +1,10 @@
-// The answers to a question and to a look-up as numbers, for callers in C: include/hrazvanut.h takes them apart again.
+// The answers to a question, to a look-up and of an export as numbers, for callers in C: include/hrazvanut.h takes them apart again.
 use api_numbers::packed;
 use spec_decision::Answer;
 use spec_decision::Found;
+use spec_export::Exported;
 ghost use mathlib.Core.Path.{_≡_};
-ghost use Rattle.api_numbers.specs.Numbers.{answer-number, found-number};
+ghost use Rattle.api_numbers.specs.Numbers.{answer-number, found-number, exported-number};
 
 pub fn answer_number(a: Answer) -> u64
     ensures { λ r. ⌜ r ≡ answer-number a ⌝ }
@@ -26,5 +27,16 @@ pub fn found_number(f: Found) -> u64
         Found::Part { at, length } => packed(at, length, 0),
         Found::NotTable => packed(0, 0, 20),
         Found::NoInput => packed(0, 0, 22),
+    }
+}
+
+pub fn exported_number(e: Exported) -> u64
+    ensures { λ r. ⌜ r ≡ exported-number e ⌝ }
+{
+    match e {
+        Exported::Written(n) => packed(n, 0, 0),
+        Exported::NotTable => packed(0, 0, 20),
+        Exported::Unwritable => packed(0, 0, 27),
+        Exported::NoRoom(n) => packed(n, 0, 28),
     }
 }

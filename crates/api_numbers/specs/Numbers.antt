@@ -13,6 +13,8 @@ use Rattle.spec_decision.specs.declared.Found.{Found}
 use Rattle.spec_decision.specs.declared.Found.the-variants as found
 use Rattle.spec_decision.specs.Decision as decision
 use Rattle.spec_decision.specs.LookUp as look-up
+use Rattle.spec_export.specs.declared.Exported.{Exported}
+use Rattle.spec_export.specs.Export as export
 
 -- a first number in bits 0 to 31, a second in bits 32 to 47, a refusal's number above them. Greater numbers do not come: no place and
 -- no length of a text or a table needs more than 32 bits, no number of warnings and no length of a name more than 16.
@@ -52,6 +54,10 @@ length-in found.NoInput = 0
 -- a look-up: these, and the refusal
 abbrev pub found-number : Found → ℕ
 found-number f = packed (at-in f) (length-in f) (or-zero (look-up.number f))
+
+-- an export: the text's length, or with 28 the bytes needed, and the refusal
+abbrev pub exported-number : Exported → ℕ
+exported-number e = packed (export.bytes-in e) 0 (or-zero (export.number e))
 
 -- yes or no
 abbrev pub yes : Bool → ℕ

@@ -15,7 +15,9 @@ use Rattle.spec_decision.specs.declared.Answer.{Answer}
 use Rattle.spec_decision.specs.declared.Answer.the-variants as answer
 use Rattle.spec_decision.specs.declared.Found.{Found}
 use Rattle.spec_decision.specs.declared.Found.the-variants as found
-use Rattle.api_numbers.specs.Numbers.{packed, load-number, listed-number, answer-number, found-number}
+use Rattle.spec_export.specs.declared.Exported.{Exported}
+use Rattle.spec_export.specs.declared.Exported.the-variants as exported
+use Rattle.api_numbers.specs.Numbers.{packed, load-number, listed-number, answer-number, found-number, exported-number}
 
 pub refusal-small : (k : Refusal) → refusal.number k < 256
 refusal-small k = omega (arith, number-small k)
@@ -37,3 +39,9 @@ answered-is e = sym (ap answer-number e)
 
 pub found-is : {x : Found} {at n : ℕ} → x ≡ found.Part at n → packed at n 0 ≡ found-number x
 found-is e = sym (ap found-number e)
+
+pub written-is : {x : Exported} {n : ℕ} → x ≡ exported.Written n → packed n 0 0 ≡ exported-number x
+written-is e = sym (ap exported-number e)
+
+pub no-room-is : {x : Exported} {n : ℕ} → x ≡ exported.NoRoom n → packed n 0 28 ≡ exported-number x
+no-room-is e = sym (ap exported-number e)
