@@ -327,7 +327,8 @@ impl Layout<'_> {
     }
 }
 
-/// As many of everything as a table has, all names of this length, at least 3.
+/// As many of everything as a table has, all names of this length, at least 3. With 60
+/// no text is longer than that of this one.
 pub fn crowded(length: usize) -> Vec<u8> {
     let named =
         |kind: char, number: usize| format!("{kind}{number:0width$}", width = length - 1).into_bytes();
@@ -353,15 +354,6 @@ pub fn crowded(length: usize) -> Vec<u8> {
     let site = Site { users: groups('u', users), hosts: groups('h', hosts), access };
     laid_out(&mut Random::of_case(0, 0), &site, 100)
 }
-
-/// The length of the longest text, which is that of `crowded(60)`: 02 and 01's limits
-/// allow no longer one. A definition's head is 72 bytes with its name, its braces and
-/// its line ends (an ASG's 71, for its body has lines of its own); a name in a list 63,
-/// with its quotes and a comma but for the first of a line; an input 69; a rule's head
-/// 29; the words around its UAG's and its HAG's names 6 each; its calculation 88;
-/// `UNKNOWN()` 10.
-pub const LONGEST: usize =
-    128 * 72 + (1024 * 63 - 128) + 64 * 71 + 512 * 69 + 256 * (29 + 6 + 6 + 88 + 10) + (1024 * 63 - 512);
 
 /// A file whose table has a text of this length, which is near 16,384.
 pub fn of_text_length(length: usize) -> Vec<u8> {

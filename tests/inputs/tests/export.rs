@@ -2,7 +2,7 @@
 
 use inputs::random::Random;
 use inputs::{export, file, letters, table};
-use paper::{load, text_of, FILE_BYTES, TABLE_BYTES};
+use paper::{load, text_of, FILE_BYTES, TABLE_BYTES, TEXT_BYTES};
 use std::collections::BTreeMap;
 
 fn table_of(text: &[u8]) -> Option<Vec<u8>> {
@@ -69,11 +69,11 @@ fn tables_that_no_load_makes() {
 /// No text is longer.
 #[test]
 fn the_longest() {
-    assert_eq!(export::LONGEST, 213_056);
-    assert_eq!(text_of(&export::crowded(60)).map(|text| text.len()), Ok(export::LONGEST));
+    assert_eq!(TEXT_BYTES, 213_056);
+    assert_eq!(text_of(&export::crowded(60)).map(|text| text.len()), Ok(TEXT_BYTES));
     for length in [3, 30, 59] {
         let text = text_of(&export::crowded(length)).expect("it can be written");
-        assert!((FILE_BYTES..export::LONGEST).contains(&text.len()));
+        assert!((FILE_BYTES..TEXT_BYTES).contains(&text.len()));
     }
 }
 

@@ -2,7 +2,20 @@
 
 use crate::table::{is_table, Run, StoredRule, Text, View, ACCESS_GROUPS, HOST_GROUPS, USER_GROUPS};
 use crate::text::{tokens, Kind, Token};
-use crate::{read_any_length, Refusal};
+use crate::{read_any_length, Refusal, CALCULATION_BYTES, MOST, NAME_BYTES};
+
+/// No text is longer: as many of everything as a table has, each with a body, every
+/// name and calculation as long as they may be. The first name of a list has no comma.
+pub const TEXT_BYTES: usize = {
+    let [users, hosts, members, access, inputs, rules, references, _] = MOST;
+    let name = "\"\"".len() + NAME_BYTES;
+    let listed = name + ",".len();
+    let groups = (users + hosts) * ("UAG(){\n\n}\n".len() + name) + members * listed - (users + hosts);
+    let heads = access * ("ASG(){\n}\n".len() + name) + inputs * ("INPA()\n".len() + name);
+    let rule =
+        "RULE(1,WRITE,NOTRAPWRITE){\nUAG()\nHAG()\nCALC(\"\")\nUNKNOWN()\n}\n".len() + CALCULATION_BYTES;
+    groups + heads + rules * rule + references * listed - 2 * rules
+};
 
 /// Write a table's text at the start of a lent buffer; the answer is its length. Or
 /// refusal 20, then 27, then 28, whose place is the bytes needed: nothing is written.

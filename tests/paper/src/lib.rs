@@ -24,7 +24,7 @@ pub mod text;
 pub mod walk;
 
 pub use calculation::{allowed, Reading, Readings};
-pub use export::{export, text_of};
+pub use export::{export, text_of, TEXT_BYTES};
 pub use question::{decide, decide_checked, find_input, Access, Answer, Question};
 pub use register::{Client, Register};
 pub use table::is_table;
