@@ -77,7 +77,7 @@ fn judge_all(s: &[u8]) {
 }
 
 fn main() {
-    let mut buf = [0u8; 540672];
+    let mut buf = [0u8; 614400];
     let n = prog_input::read(b"calc", &mut buf);
     judge_all(&buf[..n]);
 }
