@@ -29,7 +29,7 @@ pub fn export(table: &[u8], lent: &mut [u8]) -> Result<usize, Refusal> {
 /// A table's text, of any length, or refusal 20, then 27.
 pub fn text_of(table: &[u8]) -> Result<Vec<u8>, u8> {
     let view = View::open(table).filter(|_| is_table(table)).ok_or(20)?;
-    let text = file(&view);
+    let text = unjudged(&view);
     let can_be_quoted = view.named_strings().into_iter().all(|string| can_be_quoted(view.string(string)));
     if can_be_quoted && read_any_length(&text).is_ok() {
         Ok(text)
@@ -39,14 +39,14 @@ pub fn text_of(table: &[u8]) -> Result<Vec<u8>, u8> {
 }
 
 /// Whether a string, put between quotes, is one STRING that says the same.
-fn can_be_quoted(string: &[u8]) -> bool {
+pub fn can_be_quoted(string: &[u8]) -> bool {
     let quoted = [b"\"", string, b"\""].concat();
     tokens(&quoted) == Ok(vec![Token { kind: Kind::String, place: 0, text: string }])
 }
 
 /// The sections in their order: user groups, host groups, access groups, each with
-/// what belongs to it.
-fn file(view: &View) -> Vec<u8> {
+/// what belongs to it. Nobody has asked yet what its strings hold.
+pub fn unjudged(view: &View) -> Vec<u8> {
     let mut text = Vec::new();
     for n in 0..view.count(USER_GROUPS) {
         text.extend(group(view, "UAG", view.user_group(n)));

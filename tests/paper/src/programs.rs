@@ -1,8 +1,8 @@
-//! The two programs: what they print for what they read.
+//! The programs: what they print for what they read.
 
 use crate::calculation::{capital, number, Reading, Readings};
 use crate::question::{decide, Access, Question};
-use crate::{load, read, Refusal, LETTERS, TABLE_BYTES};
+use crate::{load, read, text_of, Refusal, LETTERS, TABLE_BYTES};
 
 const LINE_BYTES: usize = 255;
 
@@ -19,6 +19,16 @@ pub fn check(text: &[u8]) -> String {
 
 fn refusal_line(refusal: Refusal) -> String {
     format!("refusal {} at {}\n", refusal.number, refusal.place)
+}
+
+/// What `export` prints, given `rules.acf` (empty if missing): its text, or why there
+/// is none.
+pub fn export(rules: &[u8]) -> Vec<u8> {
+    let mut table = vec![0; TABLE_BYTES];
+    match load(rules, &mut table) {
+        Err(refusal) => refusal_line(refusal).into_bytes(),
+        Ok(_) => text_of(&table).unwrap_or_else(|number| format!("refused {number}\n").into_bytes()),
+    }
 }
 
 /// What the asker prints, given `rules.acf` (empty if missing) and its lines.

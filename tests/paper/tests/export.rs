@@ -1,7 +1,7 @@
 //! A table written back as text: document 02's sixth request.
 
 use paper::table::{ACCESS_GROUPS, INPUTS, MEMBERS, REFERENCES, STRINGS, UNDEFINED, USER_GROUPS, WIDTHS};
-use paper::{export, is_table, load, text_of, Refusal, FILE_BYTES, TABLE_BYTES};
+use paper::{export, is_table, load, programs, text_of, Refusal, FILE_BYTES, TABLE_BYTES};
 
 fn table_of(file: &str) -> Vec<u8> {
     let mut table = vec![0; TABLE_BYTES];
@@ -47,6 +47,16 @@ fn every_line() {
         RULE(1,NONE,TRAPWRITE){\nCALC(\"0\")\n}\n}\n";
     assert_eq!(exported(&table_of(file)), Ok(text.to_string()));
     assert_eq!(table_of(text), table_of(file));
+}
+
+/// The program: the text, the loader's refusal, or the export's.
+#[test]
+fn what_is_printed() {
+    let printed = |rules: &str| String::from_utf8(programs::export(rules.as_bytes())).expect("it is ASCII");
+    assert_eq!(printed("UAG(a)# a comment"), "UAG(\"a\")\n");
+    assert_eq!(printed(""), "refusal 4 at 0\n");
+    assert_eq!(printed("UAG(a)UAG(a)"), "refusal 7 at 10\n");
+    assert_eq!(printed("FOO()"), "refused 27\n");
 }
 
 #[test]
