@@ -1,6 +1,6 @@
 /* Verified access security for EPICS gateways: the proved library, for C (C99 or later) and C++ (C++11 or later).
  *
- * A gateway calls hrazvanut_load, hrazvanut_list_warnings, hrazvanut_is_table, hrazvanut_decide, hrazvanut_find_input,
+ * A gateway calls hrazvanut_load, hrazvanut_list_warnings, hrazvanut_is_table, hrazvanut_export, hrazvanut_decide, hrazvanut_find_input,
  * hrazvanut_stopping_input, hrazvanut_group_at, hrazvanut_next_input and hrazvanut_allowed; or it lends a register that holds its clients,
  * and calls hrazvanut_reload, hrazvanut_add_client, hrazvanut_change_client, hrazvanut_remove_client, hrazvanut_set_reading and
  * hrazvanut_right_of. Those that take a table that was checked before have names that end in _checked. All stand at the end of this file,
@@ -11,8 +11,8 @@
  * question, a register, a client and a walk's input are not NULL.
  *
  * - A pointer is good for the length beside it. With a length of 0 it may be any pointer, NULL too.
- * - What is lent to be written (the room of a load, the array of warnings, a register) overlaps nothing else that is lent to the same call.
- *   What is only read may overlap.
+ * - What is lent to be written (the room of a load or of an export, the array of warnings, a register) overlaps nothing else that is lent to
+ *   the same call. What is only read may overlap.
  * - Bytes need no alignment; structs and arrays of them have that of their type, as the compiler lays them.
  * - Nothing is kept between calls but what stands in a register: no heap, no static storage, no pointer. Any thread may call, as long as
  *   nobody writes what another call reads or writes.
@@ -43,13 +43,16 @@
  * a header does not link with a library that it cannot talk to. Where the rules change and the form does not, as in 5.0 and 6.0, MAJOR
  * grows and the names stay. In 7.0 a right has a letter, so `changed` tells of more, and three names are new. */
 #define HRAZVANUT_VERSION_MAJOR 7
-#define HRAZVANUT_VERSION_MINOR 1
+#define HRAZVANUT_VERSION_MINOR 2
 #define HRAZVANUT_VERSION (HRAZVANUT_VERSION_MAJOR * 1000 + HRAZVANUT_VERSION_MINOR)
 
 /* No file is longer, no table is longer, so many readings has a question: those of the letters A to U. */
 #define HRAZVANUT_FILE 16384
 #define HRAZVANUT_TABLE 35108
 #define HRAZVANUT_READINGS 21
+
+/* No text that is written back from a table is longer, and some are as long. */
+#define HRAZVANUT_TEXT 213056
 
 /* So many roles has a question at most, and so many bytes each of them. */
 #define HRAZVANUT_ROLES 16
@@ -85,6 +88,12 @@ struct hrazvanut_table {
 /* Lent bytes for a table to be written into. */
 struct hrazvanut_room {
     uint8_t *start;
+    size_t length;
+};
+
+/* Lent bytes for a text to be written into. */
+struct hrazvanut_text_room {
+    char *start;
     size_t length;
 };
 
@@ -149,7 +158,7 @@ enum hrazvanut_refusal HRAZVANUT_ENUM_TYPE {
     HRAZVANUT_REFUSED_UNKNOWN_WORD = 9,
     HRAZVANUT_REFUSED_CALCULATION = 10,
     HRAZVANUT_REFUSED_NO_ROOM = 11,
-    /* of a question, of a look-up, and of a register's calls */
+    /* of a question, of a look-up, and of a register's calls; 20 of an export too */
     HRAZVANUT_REFUSED_NOT_TABLE = 20,
     HRAZVANUT_REFUSED_LEVEL = 21,
     HRAZVANUT_REFUSED_NO_INPUT = 22, /* or no such group */
@@ -159,6 +168,9 @@ enum hrazvanut_refusal HRAZVANUT_ENUM_TYPE {
     HRAZVANUT_REFUSED_NO_CLIENT = 25,
     /* of a question */
     HRAZVANUT_REFUSED_ROLES = 26,
+    /* of an export */
+    HRAZVANUT_REFUSED_UNWRITABLE = 27,
+    HRAZVANUT_REFUSED_NO_ROOM_FOR_TEXT = 28,
     /* of a register's calls by the proved functions alone, for no struct is too short */
     HRAZVANUT_REFUSED_NOT_REGISTER = 34
 };
@@ -201,6 +213,13 @@ struct hrazvanut_listed {
     size_t place;   /* of a refusal */
     size_t count;   /* how many warnings there are in all */
     size_t written; /* how many of them were written */
+};
+
+/* Of an export. */
+struct hrazvanut_exported {
+    enum hrazvanut_refusal refusal;
+    size_t needed;              /* of refusal 28: the bytes that the text needs */
+    struct hrazvanut_text text; /* where it was written; no bytes if refused */
 };
 
 /* Of a question. */
@@ -261,8 +280,9 @@ extern "C" {
 
 /* No pointer may be NULL. `values` is aligned as double, `places` as uint16_t. An answer of 64 bits holds a first number in bits 0 to 31, a
  * second in bits 32 to 47, and the refusal above them: of a load the length and the number of warnings, or the place; of a list of warnings
- * their number, or the place; of a question the right; of a look-up and of a group the place and the length. A right has the access in
- * bits 0 and 1, the trap flag in bit 2 and the letter in bits 3 to 7: 0 for none, 1 for A up to 21 for U.
+ * their number, or the place; of an export the length, or with 28 the bytes needed; of a question the right; of a look-up and of a group the
+ * place and the length. A right has the access in bits 0 and 1, the trap flag in bit 2 and the letter in bits 3 to 7: 0 for none, 1 for A up
+ * to 21 for U.
  * Any other answer of 8 bits than a right is 1 or 0. The letter i has states[i] and values[i]: past the end of states it was never heard,
  * past the end of values it is not a number. The role i is the next lengths[i] bytes of roles, in which all stand one behind the other;
  * what is left behind the last is not looked at, and lengths that go past the end are refused as too many roles are.
@@ -275,6 +295,7 @@ uint64_t hrazvanut_abi_load(const uint8_t *text, size_t text_length, uint8_t *ta
 uint64_t hrazvanut_abi_list_warnings(const uint8_t *text, size_t text_length, size_t skip, uint8_t *numbers, size_t numbers_length,
                                      uint16_t *places, size_t places_length);
 uint8_t hrazvanut_abi_is_table(const uint8_t *table, size_t table_length);
+uint64_t hrazvanut_abi_export(const uint8_t *table, size_t table_length, uint8_t *text, size_t text_length);
 typedef uint64_t hrazvanut_abi_question(const uint8_t *table, size_t table_length, const uint8_t *group, size_t group_length,
                                         const uint8_t *user, size_t user_length, const uint8_t *host, size_t host_length,
                                         const uint8_t *roles, size_t roles_length, const uint8_t *lengths, size_t lengths_length,
@@ -534,6 +555,8 @@ static inline const char *hrazvanut_refusal_words(enum hrazvanut_refusal refusal
     case HRAZVANUT_REFUSED_NO_PLACE: return "all 64 places taken";
     case HRAZVANUT_REFUSED_NO_CLIENT: return "no client at the place";
     case HRAZVANUT_REFUSED_ROLES: return "more than 16 roles, or one over 60 bytes";
+    case HRAZVANUT_REFUSED_UNWRITABLE: return "string that cannot be quoted, or text that would be refused";
+    case HRAZVANUT_REFUSED_NO_ROOM_FOR_TEXT: return "text longer than the lent buffer";
     case HRAZVANUT_REFUSED_NOT_REGISTER: return "not a register";
     }
     return "unknown refusal";
@@ -587,6 +610,33 @@ static inline struct hrazvanut_listed hrazvanut_list_warnings(struct hrazvanut_t
 static inline bool hrazvanut_is_table(struct hrazvanut_table table)
 {
     return hrazvanut_abi_is_table(hrazvanut_abi_bytes(table.start, table.length), table.length) == 1;
+}
+
+/* ---- an export */
+
+/* Writes the rules of a table back as the text of an access security file, at the start of the room. Written: those bytes are the text that
+ * 02 lays down, and every byte behind it is as it was. Refused: every byte of the room is as it was.
+ *
+ * The groups stand in the table's order, user groups first, then host groups, then access groups. Each definition, list of members, input,
+ * rule and condition of a rule has a line of its own; names and calculations are quoted. Comments and unknown items are lost, for a table
+ * does not keep them; hosts are in lower case, as stored; a rule that is switched off says UNKNOWN(). If a load wrote the table, a text of
+ * at most HRAZVANUT_FILE bytes loads again, its table answers every question alike, and the export of that one gives the same text. A text
+ * that is longer than a file may be is written all the same: it can pass 65,535 bytes.
+ *
+ * Refused: 20 not a table; then 27 a name or calculation that cannot be quoted, for it has a bare quote or a bare newline, or ends in half
+ * an escape, or a text with a cause for a load's refusal but 1 and 11; then 28 a text longer than the room. Of the tables that a load
+ * writes, 27 refuses those without any definition and no others. */
+static inline struct hrazvanut_exported hrazvanut_export(struct hrazvanut_table table, struct hrazvanut_text_room room)
+{
+    uint8_t none = 0;
+    uint64_t answer = hrazvanut_abi_export(hrazvanut_abi_bytes(table.start, table.length), table.length,
+                                           room.length == 0 ? &none : (uint8_t *)room.start, room.length);
+    struct hrazvanut_exported exported;
+    exported.refusal = hrazvanut_abi_refusal(answer);
+    exported.needed = exported.refusal == HRAZVANUT_REFUSED_NO_ROOM_FOR_TEXT ? hrazvanut_abi_first(answer) : 0;
+    exported.text.start = exported.refusal == HRAZVANUT_NOT_REFUSED ? room.start : NULL;
+    exported.text.length = exported.refusal == HRAZVANUT_NOT_REFUSED ? hrazvanut_abi_first(answer) : 0;
+    return exported;
 }
 
 /* ---- a question */

@@ -13,7 +13,8 @@
 void check(bool good, const char *what, int line);
 #define CHECK(what) check((what), #what, __LINE__)
 
-/* The parts: walk.c, passed.c and register.c. */
+/* The parts: export.c, walk.c, passed.c and register.c. */
+void exports(void);
 void walks(void);
 void passed(void);
 void registers(void);

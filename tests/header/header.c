@@ -1,5 +1,5 @@
-/* Every function of include/hrazvanut.h, as a caller has it; those of a walk stand in walk.c, what they pass on in passed.c, those of a
- * register in register.c. Compiled as C99, C11, C++11 and C++17. */
+/* Every function of include/hrazvanut.h, as a caller has it; an export stands in export.c, those of a walk in walk.c, what they pass on in
+ * passed.c, those of a register in register.c. Compiled as C99, C11, C++11 and C++17. */
 #include <math.h>
 #include <stdio.h>
 #include <stdlib.h>
@@ -47,10 +47,10 @@ static bool is_text(struct hrazvanut_text text, const char *s)
 
 static void words(void)
 {
-    static const int known[] = {0, 1, 2, 3, 4, 5, 6, 7, 8, 9, 10, 11, 12, 20, 21, 22, 23, 24, 25, 26, 34};
+    static const int known[] = {0, 1, 2, 3, 4, 5, 6, 7, 8, 9, 10, 11, 12, 20, 21, 22, 23, 24, 25, 26, 27, 28, 34};
     size_t k = 0;
     int n;
-    CHECK(HRAZVANUT_VERSION == 7001 && HRAZVANUT_VERSION / 1000 == HRAZVANUT_VERSION_MAJOR);
+    CHECK(HRAZVANUT_VERSION == 7002 && HRAZVANUT_VERSION / 1000 == HRAZVANUT_VERSION_MAJOR);
     CHECK(hrazvanut_version() == HRAZVANUT_VERSION && hrazvanut_abi_version() == HRAZVANUT_VERSION);
     CHECK(HRAZVANUT_ROLES == 16 && HRAZVANUT_ROLE_LENGTH == 60);
     CHECK(hrazvanut_abi_bytes(NULL, 0) != NULL);
@@ -70,6 +70,8 @@ static void words(void)
     CHECK(strcmp(hrazvanut_refusal_words((enum hrazvanut_refusal)24), "all 64 places taken") == 0);
     CHECK(strcmp(hrazvanut_refusal_words((enum hrazvanut_refusal)25), "no client at the place") == 0);
     CHECK(strcmp(hrazvanut_refusal_words((enum hrazvanut_refusal)26), "more than 16 roles, or one over 60 bytes") == 0);
+    CHECK(strcmp(hrazvanut_refusal_words((enum hrazvanut_refusal)27), "string that cannot be quoted, or text that would be refused") == 0);
+    CHECK(strcmp(hrazvanut_refusal_words((enum hrazvanut_refusal)28), "text longer than the lent buffer") == 0);
     CHECK(strcmp(hrazvanut_refusal_words((enum hrazvanut_refusal)34), "not a register") == 0);
 }
 
@@ -716,6 +718,7 @@ int main(void)
     look_ups();
     stopping();
     calculations();
+    exports();
     walks();
     passed();
     registers();

@@ -1,6 +1,7 @@
-/* What the functions of look-ups, groups, walks and the version pass on to the proved ones, and what they make of each answer: functions of
+/* What the functions of an export, look-ups, groups, walks and the version pass on to the proved ones, and what they make of each answer: functions of
  * this file stand in for those of the library, which answer for tables alone, and alike with the check and without it. */
 #define hrazvanut_abi_is_table is_table_here
+#define hrazvanut_abi_export export_here
 #define hrazvanut_abi_group_at group_at_here
 #define hrazvanut_abi_group_at_checked group_at_checked_here
 #define hrazvanut_abi_find_input find_input_here
@@ -10,17 +11,24 @@
 
 /* What was last asked, how often, with the check and without it, and the next answers. */
 static struct {
-    const uint8_t *table, *group;
-    size_t table_length, number, group_length, tables, groups, groups_checked, inputs, inputs_checked;
+    const uint8_t *table, *group, *text;
+    size_t table_length, text_length, number, group_length, tables, groups, groups_checked, inputs, inputs_checked;
     uint32_t letter;
 } asked;
-static uint64_t group_answer, input_answer;
+static uint64_t group_answer, input_answer, export_answer;
 static uint8_t table_answer;
 
 uint8_t is_table_here(const uint8_t *table, size_t table_length)
 {
     asked.table = table, asked.table_length = table_length, asked.tables++;
     return table_answer;
+}
+
+uint64_t export_here(const uint8_t *table, size_t table_length, uint8_t *text, size_t text_length)
+{
+    asked.table = table, asked.table_length = table_length;
+    asked.text = text, asked.text_length = text_length;
+    return export_answer;
 }
 
 static uint64_t name_group(const uint8_t *table, size_t table_length, size_t number)
@@ -72,6 +80,29 @@ static bool were_asked(size_t tables, size_t groups, size_t groups_checked, size
 }
 
 static uint8_t bytes[HRAZVANUT_TABLE];
+
+/* Lengths whole, pointers that are not NULL; an answer's bytes whole, as the length or as what is needed. */
+static void exported(struct hrazvanut_table table)
+{
+    static char page[1];
+    struct hrazvanut_text_room room = ZERO, nowhere = ZERO;
+    struct hrazvanut_table none = ZERO;
+    struct hrazvanut_exported done;
+    room.start = page;
+    room.length = SIZE_MAX; /* nobody writes there */
+    export_answer = UINT64_C(0xfedcba98);
+    done = hrazvanut_export(table, room);
+    CHECK(asked.table == bytes && asked.table_length == sizeof bytes);
+    CHECK(asked.text == (const uint8_t *)page && asked.text_length == SIZE_MAX);
+    CHECK(done.refusal == HRAZVANUT_NOT_REFUSED && done.needed == 0 && done.text.start == page && done.text.length == 0xfedcba98u);
+    export_answer = UINT64_C(0xfedcba98) | UINT64_C(28) << 48;
+    done = hrazvanut_export(none, nowhere);
+    CHECK(asked.table != NULL && asked.table_length == 0 && asked.text != NULL && asked.text_length == 0);
+    CHECK(done.refusal == 28 && done.needed == 0xfedcba98u && done.text.start == NULL && done.text.length == 0);
+    export_answer = UINT64_C(9999) << 48; /* of a later version */
+    done = hrazvanut_export(table, room);
+    CHECK((int)done.refusal == 9999 && done.needed == 0 && done.text.start == NULL && done.text.length == 0);
+}
 
 /* A number whole, a pointer that is not NULL; an answer's place and length whole. */
 static void groups(struct hrazvanut_found (*group_at)(struct hrazvanut_table, size_t), struct hrazvanut_table table)
@@ -152,6 +183,7 @@ void passed(void)
     table.start = bytes;
     table.length = sizeof bytes;
     CHECK(hrazvanut_version() == UINT32_C(0xfedcba98));
+    exported(table);
     groups(hrazvanut_group_at, table);
     CHECK(were_asked(0, 10, 0, 0, 0));
     groups(hrazvanut_group_at_checked, table);

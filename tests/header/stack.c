@@ -23,6 +23,7 @@ struct input {
 };
 
 static uint8_t lent[HRAZVANUT_TABLE];
+static char page[HRAZVANUT_TEXT];
 static uint8_t *stack;
 
 /* ---- the calls */
@@ -43,6 +44,14 @@ static void call_list_warnings(const struct input *in)
 }
 
 static void call_is_table(const struct input *in) { hrazvanut_is_table(in->table); }
+
+static void call_export(const struct input *in)
+{
+    struct hrazvanut_text_room room = {.start = page, .length = sizeof page};
+    hrazvanut_export(in->table, room);
+    room.length = 0;
+    hrazvanut_export(in->table, room);
+}
 
 /* The longest name that a client, or a role, can have. */
 static struct hrazvanut_text name_of(const struct input *in)
@@ -185,6 +194,7 @@ static const struct call {
     {"hrazvanut_load", call_load},
     {"hrazvanut_list_warnings", call_list_warnings},
     {"hrazvanut_is_table", call_is_table},
+    {"hrazvanut_export", call_export},
     {"hrazvanut_decide", call_decide},
     {"hrazvanut_decide_checked", call_decide_checked},
     {"hrazvanut_find_input", call_find_input},

@@ -4,6 +4,7 @@
 static struct hrazvanut_text text;
 static struct hrazvanut_table table;
 static struct hrazvanut_room room;
+static struct hrazvanut_text_room page;
 static struct hrazvanut_question question;
 static struct hrazvanut_warnings warnings;
 static struct hrazvanut_register reg;
@@ -23,7 +24,8 @@ int main(void)
            (int)hrazvanut_group_at(table, 0).refusal + hrazvanut_next_input(table, &input) + (int)hrazvanut_version() +
            (int)hrazvanut_find_input(table, input.group, input.letter).refusal +
            (int)hrazvanut_find_input_checked(table, input.group, input.letter).refusal +
-           (int)hrazvanut_group_at_checked(table, 0).refusal + hrazvanut_next_input_checked(table, &input);
+           (int)hrazvanut_group_at_checked(table, 0).refusal + hrazvanut_next_input_checked(table, &input) +
+           (int)hrazvanut_export(table, page).refusal;
 #elif WRONG == 1
     return (int)hrazvanut_load(room, text).refusal;
 #elif WRONG == 2
@@ -95,5 +97,13 @@ int main(void)
     return hrazvanut_next_input_checked(&input, table);
 #elif WRONG == 34
     return hrazvanut_next_input_checked(room, &input);
+#elif WRONG == 35
+    return (int)hrazvanut_export(page, table).refusal;
+#elif WRONG == 36
+    return (int)hrazvanut_export(table, room).refusal;
+#elif WRONG == 37
+    return (int)hrazvanut_export(text, page).refusal;
+#elif WRONG == 38
+    return (int)hrazvanut_load(text, page).refusal;
 #endif
 }

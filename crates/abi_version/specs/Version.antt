@@ -5,7 +5,7 @@ abbrev pub major : ℕ
 major = 7
 
 abbrev pub minor : ℕ
-minor = 1
+minor = 2
 
 abbrev pub version : ℕ
 version = major * 1000 + minor

@@ -6,5 +6,5 @@ ghost use Rattle.abi_version.specs.Version.{version};
 pub extern "C" fn hrazvanut_abi_version() -> u32
     ensures { λ r. ⌜ r ≡ version ⌝ }
 {
-    7001
+    7002
 }
