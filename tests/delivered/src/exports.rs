@@ -48,5 +48,13 @@ fn one(folder: &Path, line: &str) -> Verdict {
         Err(refusal) => format!("refused {} {}", refusal.number, refusal.place),
     };
     same("paper", &answer, &said)?;
-    same("paper's bytes", true, expected == by_paper)
+    same("paper's bytes", true, expected == by_paper)?;
+    let (mut stored, mut by_library) = (table.clone(), vec![PATTERN; lent]);
+    let export = library::export(&mut stored, &mut by_library);
+    let said = match export.refusal {
+        0 => format!("ok {}", export.length),
+        number => format!("refused {number} {}", export.needed),
+    };
+    same("library", (&answer, true), (&said, export.agrees))?;
+    same("library's bytes", true, expected == by_library && stored == table)
 }

@@ -4,13 +4,13 @@ use crate::compare::{Comparison, Go};
 use crate::{register, stray};
 use inputs::question::{all_good, Names, Owned};
 use inputs::random::Random;
-use inputs::{calculation, file, letters, question, table};
+use inputs::{calculation, export, file, letters, question, table};
 use paper::calculation::{parse, value};
-use paper::{LETTERS, TABLE_BYTES};
+use paper::{text_of, FILE_BYTES, LETTERS, TABLE_BYTES, TEXT_BYTES};
 
 /// One case, of a kind chosen at random.
 pub fn run(random: &mut Random, comparison: &mut Comparison) -> Go {
-    match random.below(31) {
+    match random.below(34) {
         0..=11 => of_file(random, comparison),
         12..=15 => of_table(random, comparison),
         16 | 17 => of_calculation(random, comparison),
@@ -18,6 +18,7 @@ pub fn run(random: &mut Random, comparison: &mut Comparison) -> Go {
         22 | 23 => of_roles(random, comparison),
         24..=27 => of_letters(random, comparison),
         28 | 29 => of_walk(random, comparison),
+        30..=32 => of_export(random, comparison),
         _ => of_register(random, comparison),
     }
 }
@@ -117,12 +118,15 @@ fn of_table(random: &mut Random, comparison: &mut Comparison) -> Go {
     of_slice(random, comparison, &slice, 3)
 }
 
-/// The check, questions, look-ups, groups by number, and a walk.
+/// The check, questions, look-ups, groups by number, a walk, and an export.
 fn of_slice(random: &mut Random, comparison: &mut Comparison, slice: &[u8], questions: usize) -> Go {
     comparison.is_table(slice)?;
     comparison.groups(random, slice)?;
     if random.percent(25) {
         comparison.walk(random, slice)?;
+    }
+    if random.percent(15) {
+        exported(random, comparison, slice)?;
     }
     let names = Names::of(slice);
     for _ in 0..questions {
@@ -174,6 +178,46 @@ fn of_walk(random: &mut Random, comparison: &mut Comparison) -> Go {
     comparison.is_table(&table)?;
     comparison.groups(random, &table)?;
     comparison.walk(random, &table)
+}
+
+/// A table to be written back: one that no load makes, damaged or not, or one that a
+/// load made, which must come back.
+fn of_export(random: &mut Random, comparison: &mut Comparison) -> Go {
+    if random.percent(60) {
+        let mut slice = export::table(random);
+        if random.percent(20) {
+            table::damage(random, &mut slice);
+        }
+        comparison.is_table(&slice)?;
+        return exported(random, comparison, &slice);
+    }
+    let text = match random.below(20) {
+        0 => export::of_text_length(random.between(FILE_BYTES - 3, FILE_BYTES + 3)),
+        1..=4 => letters::text(random),
+        5..=8 => inputs::register::text(random),
+        9..=11 => file::any(random),
+        _ => file::right(random),
+    };
+    let Some(table) = table_of(&text) else { return Ok(()) };
+    comparison.round_trip(&table)?;
+    exported(random, comparison, &table)
+}
+
+/// Into buffers of several lengths.
+fn exported(random: &mut Random, comparison: &mut Comparison, slice: &[u8]) -> Go {
+    let needed = text_of(slice).map_or(random.below(200), |text| text.len());
+    for _ in 0..2 {
+        let length = match random.below(10) {
+            0..=2 => needed,
+            3 => needed.saturating_sub(1),
+            4 => needed + 1,
+            5 => random.below(needed + 1),
+            6 => *random.pick(&[0, FILE_BYTES, 65_535, 65_536, TEXT_BYTES]),
+            _ => needed + random.below(300),
+        };
+        comparison.export(random, slice, length)?;
+    }
+    Ok(())
 }
 
 /// A file with one rule of this calculation, and all inputs.

@@ -3,9 +3,9 @@
 
 use inputs::question::Owned;
 use inputs::random::Random;
-use library::{Asked, Decision, Found, List, Load, Pool};
-use paper::table::{View, ACCESS_GROUPS, INPUTS};
-use paper::{Access, Answer};
+use library::{Asked, Decision, Export, Found, List, Load, Pool};
+use paper::table::{View, ACCESS_GROUPS, HOST_GROUPS, INPUTS, USER_GROUPS};
+use paper::{Access, Answer, FILE_BYTES, TABLE_BYTES, TEXT_BYTES};
 use std::collections::BTreeMap;
 use std::fmt::Debug;
 
@@ -120,6 +120,49 @@ impl Comparison {
         let undefined = paper && View::open(slice).is_some_and(|view| view.has_undefined());
         self.count(format!("table {paper}{}", if undefined { " with undefined groups" } else { "" }));
         self.same(paper, library::is_table(slice), || format!("is_table\n{}", hex(slice)))
+    }
+
+    /// Export into a buffer of this length. Both answers, both buffers, and the table's
+    /// bytes, which stay.
+    pub fn export(&mut self, random: &mut Random, table: &[u8], length: usize) -> Go {
+        let mut ours = Lent::new(random, length);
+        let mut theirs = Lent { whole: ours.whole.clone() };
+        let stored = Lent::of(random, table);
+        let mut lent = Lent { whole: stored.whole.clone() };
+        let paper = match paper::export(table, ours.part()) {
+            Ok(length) => Export { refusal: 0, needed: 0, length: length as u64, agrees: true },
+            Err(r) => Export { refusal: r.number.into(), needed: r.place as u64, length: 0, agrees: true },
+        };
+        self.count(format!("export {:2}{}", paper.refusal, size(paper.length + paper.needed)));
+        let library = library::export(lent.part(), theirs.part());
+        let written = first_difference(&ours.whole, &theirs.whole);
+        let changed = first_difference(&stored.whole, &lent.whole);
+        self.same((paper, written, changed), (library, None, None), || {
+            format!("export into {length} bytes of\n{}", hex(table))
+        })
+    }
+
+    /// Of a table that a load made: its text loads to the same bytes, by the library and
+    /// by `paper`, if it is no longer than a file may be. One that has no text defines
+    /// nothing.
+    pub fn round_trip(&mut self, table: &[u8]) -> Go {
+        let mut text = vec![0; TEXT_BYTES];
+        let answer = library::export(&mut table.to_vec(), &mut text);
+        text.truncate(answer.length as usize);
+        let loaded = |load: &dyn Fn(&[u8], &mut [u8]) -> u64| {
+            let mut lent = vec![0; TABLE_BYTES];
+            let length = load(&text, &mut lent);
+            lent.truncate(length as usize);
+            lent
+        };
+        let by_library = loaded(&|text, lent| library::load(text, lent).length);
+        let by_paper = loaded(&|text, lent| paper::load(text, lent).map_or(0, |l| l.length as u64));
+        let fits = answer.refusal == 0 && text.len() <= FILE_BYTES;
+        let back = if fits { table.to_vec() } else { Vec::new() };
+        let refusal = if defines_nothing(table) { 27 } else { 0 };
+        self.count(format!("round trip {:2}{}", answer.refusal, size(text.len() as u64)));
+        let input = || format!("round trip of\n{}", hex(table));
+        self.same((refusal, &back, &back), (answer.refusal, &by_library, &by_paper), input)
     }
 
     /// The question by `decide`, and by `decide_checked` if it is a table.
@@ -240,6 +283,7 @@ impl Comparison {
             paper::FILE_BYTES,
             paper::TABLE_BYTES,
             paper::LETTERS,
+            paper::TEXT_BYTES,
             paper::ROLES,
             paper::ROLE_BYTES,
             paper::PLACES,
@@ -254,6 +298,21 @@ impl Comparison {
         self.count(format!("allowed {paper}"));
         self.same(paper, library::allowed(text), || format!("allowed\n{}", hex(text)))
     }
+}
+
+/// For the count of answers: what is too long for a file, and for 16 bits.
+fn size(bytes: u64) -> &'static str {
+    match bytes {
+        0..=16_384 => "",
+        16_385..=65_535 => " over 16,384 bytes",
+        _ => " over 65,535 bytes",
+    }
+}
+
+/// Whether a table has neither user groups nor host groups nor access groups.
+fn defines_nothing(table: &[u8]) -> bool {
+    View::open(table)
+        .is_some_and(|view| [USER_GROUPS, HOST_GROUPS, ACCESS_GROUPS].iter().all(|s| view.count(*s) == 0))
 }
 
 /// Whether a call without the check may be made.

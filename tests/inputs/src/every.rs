@@ -38,6 +38,13 @@ pub fn warned_file() -> Vec<u8> {
     b"F()".repeat(5_461)
 }
 
+/// A file whose text is far longer: it says in few bytes what a text says in many.
+pub fn lengthened_file() -> Vec<u8> {
+    let members = ["x"; 1024].join(",");
+    let rules = "RULE(1,READ){UAG(u)HAG(h)F()}".repeat(256);
+    format!("UAG(u){{{members}}}HAG(h)ASG(a){{{rules}}}").into_bytes()
+}
+
 /// Two files of which the first defines what its rule names and the second not.
 pub fn spelt_files() -> [Vec<u8>; 2] {
     ["lift", "Lift"].map(|name| {

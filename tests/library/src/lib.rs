@@ -39,6 +39,19 @@ pub struct List {
     pub agrees: bool,
 }
 
+/// What an export answers.
+#[derive(Clone, Copy, Debug, PartialEq, Eq)]
+pub struct Export {
+    /// 20, 27, 28, or 0 if written.
+    pub refusal: u64,
+    /// The bytes that refusal 28 needs.
+    pub needed: u64,
+    pub length: u64,
+    /// The text starts where it was to be, or nowhere if refused, and the proved
+    /// function's number says the same.
+    pub agrees: bool,
+}
+
 #[derive(Clone, Copy, Debug, PartialEq, Eq)]
 pub struct Decision {
     /// 20, 21, 26, or 0 if answered.
@@ -134,6 +147,8 @@ calls! {
         text: In, text_length: usize, skip: usize, numbers: *mut u8, numbers_length: usize, places: *mut u16,
         places_length: usize, out: *mut u64,
     );
+    fn library_export(table: In, table_length: usize, text: *mut u8, text_length: usize, out: *mut u64);
+    fn library_export_number(table: In, table_length: usize, text: *mut u8, text_length: usize) -> u64;
     fn library_is_table(table: In, table_length: usize) -> c_int;
     fn library_question(
         group: In, group_length: usize, user: In, user_length: usize, host: In, host_length: usize,
@@ -196,6 +211,24 @@ pub fn list_warnings(text: &[u8], skip: usize, numbers: &mut [u8], places: &mut 
     }
     let [refusal, place, count, agrees] = out;
     List { refusal, place, count, agrees: agrees != 0 }
+}
+
+/// By the header, and by the number of the proved function on a copy of the lent
+/// bytes, which it must leave alike. A table is lent here as something that can be
+/// written, so that it is seen if it is.
+pub fn export(table: &mut [u8], text: &mut [u8]) -> Export {
+    let start = table.as_mut_ptr().cast_const();
+    let mut copy = text.to_vec();
+    let mut out = [0; 4];
+    // SAFETY: as above; an export may be asked of any bytes. A pointer of a slice is
+    // never NULL.
+    let number = unsafe {
+        calls::library_export(start, table.len(), text.as_mut_ptr(), text.len(), out.as_mut_ptr());
+        calls::library_export_number(start, table.len(), copy.as_mut_ptr(), copy.len())
+    };
+    let [refusal, needed, length, agrees] = out;
+    let packed = needed + length | refusal << 48;
+    Export { refusal, needed, length, agrees: agrees != 0 && packed == number && copy == text }
 }
 
 pub fn is_table(table: &[u8]) -> bool {
@@ -442,11 +475,11 @@ pub fn version() -> [u32; 3] {
     out
 }
 
-/// The header's numbers: bytes of a file and of a table, readings, roles, bytes of a
-/// role, places, access groups, inputs.
-pub fn limits() -> [u64; 8] {
-    let mut out = [0; 8];
-    // SAFETY: eight numbers are written.
+/// The header's numbers: bytes of a file and of a table, readings, bytes of a text,
+/// roles, bytes of a role, places, access groups, inputs.
+pub fn limits() -> [u64; 9] {
+    let mut out = [0; 9];
+    // SAFETY: nine numbers are written.
     unsafe { calls::library_limits(out.as_mut_ptr()) };
     out
 }

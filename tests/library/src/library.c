@@ -54,6 +54,23 @@ void library_list_warnings(const uint8_t *text, size_t text_length, size_t skip,
     out[3] = (uint64_t)same;
 }
 
+/* refusal, bytes needed, length of the text; whether the text is where it was to be */
+void library_export(const uint8_t *table, size_t table_length, uint8_t *text, size_t text_length, uint64_t out[4])
+{
+    struct hrazvanut_text_room room = {.start = (char *)text, .length = text_length};
+    struct hrazvanut_exported exported = hrazvanut_export(table_of(table, table_length), room);
+    out[0] = exported.refusal;
+    out[1] = exported.needed;
+    out[2] = exported.text.length;
+    out[3] = exported.text.start == (exported.refusal ? NULL : (const char *)text);
+}
+
+/* The proved function's number. */
+uint64_t library_export_number(const uint8_t *table, size_t table_length, uint8_t *text, size_t text_length)
+{
+    return hrazvanut_abi_export(table, table_length, text, text_length);
+}
+
 int library_is_table(const uint8_t *table, size_t table_length) { return hrazvanut_is_table(table_of(table, table_length)); }
 
 /* A question for as long as it is asked. As the arrays say it: never heard past the end of the states, not a number past the end of the
@@ -185,16 +202,17 @@ void library_version(uint32_t out[3])
 }
 
 /* in the order in which the header has them */
-void library_limits(uint64_t out[8])
+void library_limits(uint64_t out[9])
 {
     out[0] = HRAZVANUT_FILE;
     out[1] = HRAZVANUT_TABLE;
     out[2] = HRAZVANUT_READINGS;
-    out[3] = HRAZVANUT_ROLES;
-    out[4] = HRAZVANUT_ROLE_LENGTH;
-    out[5] = HRAZVANUT_PLACES;
-    out[6] = HRAZVANUT_GROUPS;
-    out[7] = HRAZVANUT_INPUTS;
+    out[3] = HRAZVANUT_TEXT;
+    out[4] = HRAZVANUT_ROLES;
+    out[5] = HRAZVANUT_ROLE_LENGTH;
+    out[6] = HRAZVANUT_PLACES;
+    out[7] = HRAZVANUT_GROUPS;
+    out[8] = HRAZVANUT_INPUTS;
 }
 
 int library_allowed(const uint8_t *text, size_t text_length) { return hrazvanut_allowed(text_of(text, text_length)); }

@@ -4,6 +4,7 @@
 #![allow(clippy::too_many_arguments, clippy::missing_safety_doc)]
 
 pub mod arithmetic;
+mod export;
 mod exports;
 pub mod groups;
 mod letters;
@@ -25,7 +26,8 @@ use std::sync::OnceLock;
 /// the asker's, 153 to 185 of the library's letters, 186 to 194 of its register's,
 /// 195 to 199 of the asker's, 200 to 219 of the library's groups by number and its
 /// version, 220 to 226 of its register's loads into another room, 227 to 237 of the
-/// library's look-ups without the check.
+/// library's look-ups without the check, 238 to 266 of its export, 267 to
+/// 274 of the program `export`.
 pub fn fault(number: u32) -> bool {
     static CHOSEN: OnceLock<u32> = OnceLock::new();
     let chosen = CHOSEN.get_or_init(|| {

@@ -6,7 +6,7 @@ use paper::table::{View, ACCESS_GROUPS, USER_GROUPS};
 pub use paper::walk::Part;
 
 /// The header's HRAZVANUT_VERSION.
-const VERSION: u32 = 7001;
+const VERSION: u32 = 7002;
 
 #[no_mangle]
 pub unsafe extern "C" fn hrazvanut_abi_group_at(table: *const u8, table_len: usize, number: usize) -> u64 {
