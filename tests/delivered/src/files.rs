@@ -1,4 +1,4 @@
-//! `check`: loads, warnings, the checker. `table`: the check of a slice.
+//! `check`: loads, warnings, the checker, and `export`, held to `paper`. `table`: the check of a slice.
 
 use crate::score::{bytes, entries, has_extension, of_extension, same, text, Score, Verdict};
 use paper::{programs, TABLE_BYTES};
@@ -18,6 +18,7 @@ fn check_one(path: &Path, bench: &mut Bench) -> Verdict {
     let (file, output) = (bytes(path)?, text(&path.with_extension("out"))?);
     same("paper", &output, &programs::check(&file))?;
     bench.check(&file, &How::Pipe, output.as_bytes()).map_err(|Difference(what)| what)?;
+    bench.export(Some(&file), &programs::export(&file)).map_err(|Difference(what)| what)?;
     same("warnings", &output, &listed(&file))?;
     let stored = path.with_extension("table");
     let table = if stored.exists() { Some(bytes(&stored)?) } else { None };

@@ -1,8 +1,8 @@
-//! Holds the library, `paper` and the two programs to a folder of vectors.
+//! Holds the library, `paper` and the programs to a folder of vectors.
 //!
 //!     delivered BIN FOLDER
 //!
-//! BIN is the folder of `checker` and `asker`. Each kind of vectors that the
+//! BIN is the folder of `checker`, `asker` and `export`. Each kind of vectors that the
 //! folder has is tried; one that is not known is a difference. Exit code 1 at a
 //! difference, or if there are no vectors.
 

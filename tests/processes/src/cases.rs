@@ -1,9 +1,10 @@
-//! The cases: a file for the checker, or rules and lines for the asker.
+//! The cases: a file for the checker or for `export`, or rules and lines for the
+//! asker.
 
 use inputs::question::Names;
 use inputs::random::Random;
-use inputs::{every, file, lines};
-use paper::{programs, TABLE_BYTES};
+use inputs::{every, export, file, lines};
+use paper::{programs, FILE_BYTES, TABLE_BYTES};
 use processes::compare::{Bench, Go, Rules};
 use processes::process::How;
 
@@ -14,7 +15,7 @@ const RULES: &[u8] =
 const QUESTION: &[u8] = b"- ann pc1 1 A:0.25\n";
 
 /// How many cases are the same for each seed.
-pub const FIXED: u64 = 7;
+pub const FIXED: u64 = 8;
 
 /// The first cases are the same for each seed; the others are made.
 pub fn run(case: u64, random: &mut Random, bench: &mut Bench) -> Go {
@@ -26,11 +27,29 @@ pub fn run(case: u64, random: &mut Random, bench: &mut Bench) -> Go {
         4 => checked(&every::warned_file(), &How::Pipe, bench),
         5 => spelt(bench),
         6 => asked(Some(RULES), b"", bench),
+        7 => exports(bench),
         _ => made(random, bench),
     }
 }
 
-/// Both programs on a group that is defined, and on one that is not.
+/// No rules, none that can be written, rules that are too long, and some whose text is
+/// about as long as a file may be.
+fn exports(bench: &mut Bench) -> Go {
+    bench.export(None, &programs::export(b""))?;
+    for file in [RULES, b"FOO()", &every::long_file(), &every::warned_file()] {
+        exported(file, bench)?;
+    }
+    for length in FILE_BYTES - 1..=FILE_BYTES + 1 {
+        exported(&export::of_text_length(length), bench)?;
+    }
+    exported(&every::lengthened_file(), bench)
+}
+
+fn exported(rules: &[u8], bench: &mut Bench) -> Go {
+    bench.export(Some(rules), &programs::export(rules))
+}
+
+/// The checker and the asker on a group that is defined, and on one that is not.
 fn spelt(bench: &mut Bench) -> Go {
     for file in every::spelt_files() {
         checked(&file, &How::Pipe, bench)?;
@@ -48,12 +67,12 @@ fn checked(text: &[u8], how: &How, bench: &mut Bench) -> Go {
     bench.check(text, how, programs::check(text).as_bytes())
 }
 
-/// A run of the asker takes many lines, so there are more of the checker.
+/// A run of the asker takes many lines, so there are more of the others.
 fn made(random: &mut Random, bench: &mut Bench) -> Go {
-    if random.percent(12) {
-        of_lines(random, bench)
-    } else {
-        of_file(random, bench)
+    match random.below(100) {
+        0..=11 => of_lines(random, bench),
+        12..=29 => exported(&inputs::register::text(random), bench),
+        _ => of_file(random, bench),
     }
 }
 

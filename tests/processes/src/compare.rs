@@ -5,7 +5,7 @@ use std::collections::BTreeMap;
 use std::fs;
 use std::path::{Path, PathBuf};
 
-/// The two programs, a folder to run them in, and how much was compared.
+/// The programs, a folder to run them in, and how much was compared.
 pub struct Bench {
     bin: PathBuf,
     pub folder: PathBuf,
@@ -30,7 +30,7 @@ fn sure<T>(result: std::io::Result<T>, what: &Path) -> T {
 
 impl Bench {
     pub fn new(bin: PathBuf) -> Bench {
-        for name in ["checker", "asker"] {
+        for name in ["checker", "asker", "export"] {
             let program = bin.join(name);
             sure(fs::metadata(&program), &program);
         }
@@ -52,6 +52,15 @@ impl Bench {
         self.same("asker", Some(rules), input, how, expected)?;
         self.lines += output_lines(expected).len() as u64;
         self.count("asker", expected);
+        Ok(())
+    }
+
+    /// `export` on its rules. It reads no input.
+    pub fn export(&mut self, rules: Option<&[u8]>, expected: &[u8]) -> Go {
+        self.same("export", Some(Rules::Text(rules)), b"", &How::Pipe, expected)?;
+        self.files += 1;
+        let refused = expected.starts_with(b"refus");
+        self.count("export", if refused { expected } else { b"a text" });
         Ok(())
     }
 
@@ -104,7 +113,7 @@ impl Bench {
     }
 }
 
-/// Where the asker finds its rules.
+/// Where a program finds its rules.
 pub enum Rules<'a> {
     Text(Option<&'a [u8]>),
     In(&'a Path),

@@ -1,4 +1,4 @@
-//! The two programs as processes: one run, and what it prints held against what
+//! The programs as processes: one run, and what it prints held against what
 //! it should.
 
 pub mod compare;

@@ -4,7 +4,7 @@
 //!     processes [-v] BIN SEED COUNT [CASE]                until COUNT lines are compared, and all fixed cases
 //!     processes [-v] BIN vectors FOLDER [AMENDED ...]     on a folder of vectors
 //!
-//! BIN is the folder of `checker` and `asker`. Exit code 0 and one line if all
+//! BIN is the folder of `checker`, `asker` and `export`. Exit code 0 and one line if all
 //! agree; 1 and the first difference if not. With CASE only that case of the
 //! seed is run; -v prints how often each line was to be printed.
 
