@@ -5,8 +5,8 @@ use spec_load::Loaded;
 ghost use Prim.Native.Nat.{_≤_};
 ghost use lib.ListN.{length};
 
-// What lent bytes hold before a load.
-const BEFORE: u8 = 0xA5;
+// What lent bytes hold before a call.
+pub const BEFORE: u8 = 0xA5;
 
 fn put_pair(word: &[u8], a: usize, b: usize) {
     put(word);
@@ -28,7 +28,7 @@ fn put_answer(a: Loaded) {
     }
 }
 
-// Whether the bytes from an offset on are as they were before the load.
+// Whether the bytes from an offset on are as they were before the call.
 fn untouched(lent: &[u8], from: usize) -> bool {
     let mut i = from;
     while i < lent.len() {
@@ -48,8 +48,8 @@ fn written(a: Loaded) -> usize {
     }
 }
 
-// Whether a load left all but its table as it was.
-fn put_rest(lent: &[u8], from: usize) {
+// Whether a call left all but what it wrote as it was.
+pub fn put_rest(lent: &[u8], from: usize) {
     if untouched(lent, from) {
         put(b"rest untouched\n");
     } else {
@@ -85,7 +85,7 @@ fn load(text: &[u8], lent: &mut [u8], room: usize, path: &[u8])
     put_rest(lent, length);
 }
 
-fn at_most(n: usize, most: usize) -> usize
+pub fn at_most(n: usize, most: usize) -> usize
     ensures { λ r. ⌜ r ≤ most ⌝ }
 {
     if n < most { n } else { most }
