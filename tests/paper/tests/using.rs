@@ -59,3 +59,20 @@ fn three_lines() {
     let mended = three.replace("UAG(b)", "UAG(a)");
     assert_eq!(programs::check(mended.as_bytes()), indented("is accepted, and it prints"));
 }
+
+/// The indented blocks of a section: a command, a file, and what `export` prints for it.
+#[test]
+fn exports() {
+    let section =
+        USING.split("\n## ").find(|section| section.starts_with("The export\n")).expect("it is there");
+    let mut blocks = vec![String::new()];
+    for line in section.lines() {
+        match line.strip_prefix("    ") {
+            Some(text) => *blocks.last_mut().expect("there is one") += &format!("{text}\n"),
+            None => blocks.push(String::new()),
+        }
+    }
+    blocks.retain(|block| !block.is_empty());
+    let [_, file, printed] = &blocks[..] else { panic!("{blocks:?}") };
+    assert_eq!(programs::export(file.as_bytes()), printed.as_bytes());
+}
