@@ -16,7 +16,7 @@ use epics::clients::Clients;
 use epics::{Asked, Epics};
 use files::Sample;
 use measure::{times, Time, Timed};
-use paper::{Access, Answer, Question, Reading, LETTERS, TABLE_BYTES};
+use paper::{Access, Answer, Question, Reading, LETTERS, NAME_BYTES, TABLE_BYTES, TEXT_BYTES};
 use ratios::{Kind, Ratios};
 use std::ffi::CString;
 use std::hint::black_box;
@@ -168,6 +168,12 @@ impl Prepared<'_> {
         self.row("check of the table", "", timed);
     }
 
+    /// The table written back, to be seen beside its load.
+    fn exports(&self) {
+        let times = times(&mut exports(&self.table), self.rounds);
+        line("export", "", times[0], times.get(1), None);
+    }
+
     fn questions(&self, ratios: &mut Ratios) {
         let mut timed = self.checked_questions(&self.asked(), Self::question);
         timed.extend(self.epics_question());
@@ -221,6 +227,30 @@ impl Prepared<'_> {
             }),
         ]
     }
+}
+
+/// An export of a table, by the library and by `paper`, which must say the same.
+fn exports(table: &[u8]) -> Vec<Timed<'_>> {
+    let (mut one, mut two) = (vec![0; TEXT_BYTES], vec![0; TEXT_BYTES]);
+    let length = paper::export(table, &mut two).expect("it can be written");
+    assert_eq!(library::export_number(table, &mut one), length as u64);
+    assert_eq!(one, two);
+    vec![
+        Timed::new(move || {
+            black_box(library::export_number(black_box(table), &mut one));
+        }),
+        Timed::new(move || {
+            let _ = black_box(paper::export(black_box(table), &mut two));
+        }),
+    ]
+}
+
+/// Of a table that no load makes: as many of everything as there can be, at its longest.
+fn longest_text(rounds: usize) {
+    let table = inputs::export::crowded(NAME_BYTES);
+    println!("\nthe longest text, {TEXT_BYTES} bytes, of a table of {} bytes", table.len());
+    let times = times(&mut exports(&table), rounds);
+    line("export", "", times[0], times.get(1), None);
 }
 
 /// As C has it.
@@ -281,9 +311,11 @@ fn main() {
         println!("{head}{beside}");
         prepared.loads(&mut ratios);
         prepared.checks();
+        prepared.exports();
         prepared.questions(&mut ratios);
         prepared.register(&mut ratios);
     }
+    longest_text(rounds);
     if epics.is_some() {
         println!("\n{ratios}");
     }

@@ -220,15 +220,18 @@ pub fn export(table: &mut [u8], text: &mut [u8]) -> Export {
     let start = table.as_mut_ptr().cast_const();
     let mut copy = text.to_vec();
     let mut out = [0; 4];
-    // SAFETY: as above; an export may be asked of any bytes. A pointer of a slice is
-    // never NULL.
-    let number = unsafe {
-        calls::library_export(start, table.len(), text.as_mut_ptr(), text.len(), out.as_mut_ptr());
-        calls::library_export_number(start, table.len(), copy.as_mut_ptr(), copy.len())
-    };
+    // SAFETY: as above; an export may be asked of any bytes.
+    unsafe { calls::library_export(start, table.len(), text.as_mut_ptr(), text.len(), out.as_mut_ptr()) };
+    let number = export_number(table, &mut copy);
     let [refusal, needed, length, agrees] = out;
     let packed = needed + length | refusal << 48;
     Export { refusal, needed, length, agrees: agrees != 0 && packed == number && copy == text }
+}
+
+/// The number of the proved function.
+pub fn export_number(table: &[u8], text: &mut [u8]) -> u64 {
+    // SAFETY: as above. A pointer of a slice is never NULL.
+    unsafe { calls::library_export_number(table.as_ptr(), table.len(), text.as_mut_ptr(), text.len()) }
 }
 
 pub fn is_table(table: &[u8]) -> bool {
