@@ -7,3 +7,4 @@ pub mod QuotesBack
 pub mod Unwritable
 pub mod Back
 pub mod Answer
+pub mod Length
