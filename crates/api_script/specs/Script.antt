@@ -8,7 +8,7 @@ use Rattle.spec_calc.specs.declared.Reading.{Reading}
 use Rattle.spec_calc.specs.States.{readings}
 use Rattle.load_tokens.specs.Arrays.{between}
 use Rattle.spec_demand.specs.Calls.{Call, load-text, list-warnings, check-table, ask, ask-checked, find-input, find-input-checked, look-up-name, find-group}
-use Rattle.spec_demand.specs.Calls.{allow, calculate, hold}
+use Rattle.spec_demand.specs.Calls.{export-text, allow, calculate, hold}
 
 -- The words are 16 for each call:
 --   0        what is called: see call-of
@@ -23,11 +23,13 @@ pub record Script : Type 0 where
   pub levels : List ℕ
   pub states : List ℕ
   pub values : List Float
+  -- how many bytes are lent for a text
+  pub room : ℕ
 
-abbrev pub script-of : List ℕ → List ℕ → List ℕ → List ℕ → List Float → Script
-script-of ws p ls ss vs = record { words = ws; pool = p; levels = ls; states = ss; values = vs }
+abbrev pub script-of : List ℕ → List ℕ → List ℕ → List ℕ → List Float → ℕ → Script
+script-of ws p ls ss vs room = record { words = ws; pool = p; levels = ls; states = ss; values = vs; room = room }
 
--- the calls from number 2 on, of three texts, roles and their lengths, a group's number, a level or letter, and readings: none of them writes
+-- the calls from number 3 on, of three texts, roles and their lengths, a group's number, a level or letter, and readings: none of them writes
 abbrev pub reading-calls : List ℕ → List ℕ → List ℕ → List ℕ → List ℕ → ℕ → ℕ → List Reading → List Call
 reading-calls a b c roles lengths number n rs =
     check-table
@@ -41,9 +43,11 @@ reading-calls a b c roles lengths number n rs =
     ∷ calculate a rs
     ∷ []
 
--- what a number calls: 0 a load, 1 a list of warnings behind so many, and so on; 11 and more a calculation's truth
-abbrev pub call-of : ℕ → List ℕ → List ℕ → List ℕ → List ℕ → List ℕ → ℕ → ℕ → List Reading → Call
-call-of what a b c roles lengths skip n rs = getD (load-text a ∷ list-warnings a skip ∷ reading-calls a b c roles lengths skip n rs) what (hold a rs)
+-- what a number calls. Those that write come first: 0 a load, 1 a list of warnings behind so many, 2 an export; then the others, 3 to 11; 12 and more a
+-- calculation's truth
+abbrev pub call-of : ℕ → List ℕ → List ℕ → List ℕ → List ℕ → List ℕ → ℕ → ℕ → List Reading → ℕ → Call
+call-of what a b c roles lengths skip n rs room =
+    getD (load-text a ∷ list-warnings a skip ∷ export-text room ∷ reading-calls a b c roles lengths skip n rs) what (hold a rs)
 
 -- the j-th word of the i-th call
 abbrev pub word : List ℕ → ℕ → ℕ → ℕ
@@ -66,6 +70,7 @@ call-at s i =
     (word (s .words) i 7)
     (getD (s .levels) i 0)
     (readings (s .states) (s .values) (word (s .words) i 8))
+    (s .room)
 
 -- n calls from the i-th on
 unfoldable pub calls-from : Script → ℕ → ℕ → List Call

@@ -2,6 +2,7 @@
 use spec_calc::Worth;
 use spec_decision::Answer;
 use spec_decision::Found;
+use spec_export::Exported;
 use spec_load::Listed;
 use spec_load::Loaded;
 ghost use mathlib.Core.Path.{_≡_};
@@ -20,6 +21,7 @@ pub struct Asked {
 pub enum Reply {
     Loaded(Loaded),
     Listed(Listed),
+    Exported(Exported),
     Checked(bool),
     Answered(Answer),
     Found(Found),

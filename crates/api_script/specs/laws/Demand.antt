@@ -8,7 +8,7 @@ use Rattle.spec_load.specs.Load.{Result, load}
 use Rattle.spec_decision.specs.declared.Answer.{Answer}
 use Rattle.spec_decision.specs.Decision.{access-in, decide}
 use Rattle.spec_demand.specs.Calls.{Call, load-text, list-warnings, check-table, ask, ask-checked, find-input, find-input-checked, look-up-name, find-group}
-use Rattle.spec_demand.specs.Calls.{allow, calculate, hold, after-call, after-calls, is-accepted}
+use Rattle.spec_demand.specs.Calls.{export-text, allow, calculate, hold, after-call, after-calls, is-accepted}
 use Rattle.spec_demand.specs.laws.Later.{never-above, exactly-equal}
 use Rattle.api_script.specs.Replies.{Lent, lent-of, left-by, left-by-calls}
 use Rattle.api_script.specs.Demand.{Never-more}
@@ -24,6 +24,7 @@ table-left l (find-input g letter) = refl
 table-left l (find-input-checked g letter) = refl
 table-left l (look-up-name g letter) = refl
 table-left l (find-group n) = refl
+table-left l (export-text n) = refl
 table-left l (allow s) = refl
 table-left l (calculate s rs) = refl
 table-left l (hold s rs) = refl
@@ -33,13 +34,13 @@ tables-left l [] = refl
 tables-left l (c ∷ cs) = tables-left (left-by l c) cs ∙ ap (λ (b : List ℕ). after-calls b cs) (table-left l c)
 
 pub asked-is :
-    {table numbers places s left : List ℕ} {after : Lent} {cs : List Call} {q : Question} {r : Loaded} {a : Answer}
-    → record { answer = r; bytes = left } ≡ load table s → after ≡ left-by-calls (lent-of left numbers places) cs → a ≡ decide (after .table) q
-    → Never-more (lent-of table numbers places) s cs q after (record { loaded = r; answer = a })
-asked-is {table} {numbers} {places} {s} {left} {after} {cs} {q} {r} {a} l f d =
+    {table numbers places text s left : List ℕ} {after : Lent} {cs : List Call} {q : Question} {r : Loaded} {a : Answer}
+    → record { answer = r; bytes = left } ≡ load table s → after ≡ left-by-calls (lent-of left numbers places text) cs → a ≡ decide (after .table) q
+    → Never-more (lent-of table numbers places text) s cs q after (record { loaded = r; answer = a })
+asked-is {table} {numbers} {places} {text} {s} {left} {after} {cs} {q} {r} {a} l f d =
     let answered = ap (λ (o : Result). o .answer) l in
-    let start = lent-of (load table s .bytes) numbers places in
-    let all : after ≡ left-by-calls start cs = f ∙ ap (λ (o : Result). left-by-calls (lent-of (o .bytes) numbers places) cs) l in
+    let start = lent-of (load table s .bytes) numbers places text in
+    let all : after ≡ left-by-calls start cs = f ∙ ap (λ (o : Result). left-by-calls (lent-of (o .bytes) numbers places text) cs) l in
     let bytes : after .table ≡ after-calls (load table s .bytes) cs = ap (λ (x : Lent). x .table) all ∙ tables-left start cs in
     let asked : a ≡ decide (after-calls (load table s .bytes) cs) q = d ∙ ap (λ (b : List ℕ). decide b q) bytes in
     record {

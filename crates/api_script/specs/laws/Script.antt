@@ -15,7 +15,10 @@ use Rattle.spec_load.specs.declared.Loaded.{Loaded}
 use Rattle.spec_load.specs.declared.Listed.{Listed}
 use Rattle.spec_load.specs.Load.{Result, load}
 use Rattle.spec_load.specs.Listing.{Listing, listed-by, listing}
-use Rattle.spec_demand.specs.Calls.{load-text, list-warnings, hold}
+use Rattle.spec_export.specs.declared.Exported.{Exported}
+use Rattle.spec_export.specs.Export.{export}
+use Rattle.spec_export.specs.Export as export
+use Rattle.spec_demand.specs.Calls.{load-text, list-warnings, export-text, hold}
 use Rattle.spec_calc.specs.States.{readings}
 use Rattle.api_script.specs.declared.Reply.{Reply}
 use Rattle.api_script.specs.declared.Reply.the-variants as reply
@@ -45,55 +48,70 @@ listed-alike skip numbers places s = by (verdict s)
     by (refuse n p) = refl
     by (accept xs) = refl
 
--- a number from 2 on calls what writes nothing
+-- a number from 3 on calls what writes nothing
 pub others-leave :
-    (m : ℕ) (a b c roles lengths : List ℕ) (k n : ℕ) (rs : List Reading) (lent : Lent) → 1 < m
-    → lent ≡ left-by lent (call-of m a b c roles lengths k n rs)
-others-leave zero a b c roles lengths k n rs lent h = absurd (omega arith)
-others-leave (suc zero) a b c roles lengths k n rs lent h = absurd (omega arith)
-others-leave (suc (suc m)) a b c roles lengths k n rs lent h =
+    (m : ℕ) (a b c roles lengths : List ℕ) (k n : ℕ) (rs : List Reading) (room : ℕ) (lent : Lent) → 2 < m
+    → lent ≡ left-by lent (call-of m a b c roles lengths k n rs room)
+others-leave zero a b c roles lengths k n rs room lent h = absurd (omega arith)
+others-leave (suc zero) a b c roles lengths k n rs room lent h = absurd (omega arith)
+others-leave (suc (suc zero)) a b c roles lengths k n rs room lent h = absurd (omega arith)
+others-leave (suc (suc (suc m))) a b c roles lengths k n rs room lent h =
     let leave : Every (λ x. lent ≡ left-by lent x) (reading-calls a b c roles lengths k n rs) =
     cons refl (cons refl (cons refl (cons refl (cons refl (cons refl (cons refl (cons refl (cons refl nil)))))))) in
     every-at m (hold a rs) refl leave
 
--- a number over 10 asks whether a calculation is true
-pub truth-called : (m : ℕ) (a b c roles lengths : List ℕ) (k n : ℕ) (rs : List Reading) → 10 < m → hold a rs ≡ call-of m a b c roles lengths k n rs
-truth-called m a b c roles lengths k n rs h = sym (List·getD-eq-default (load-text a ∷ list-warnings a k ∷ reading-calls a b c roles lengths k n rs) (hold a rs) h)
+-- a number over 11 asks whether a calculation is true
+pub truth-called :
+    (m : ℕ) (a b c roles lengths : List ℕ) (k n : ℕ) (rs : List Reading) (room : ℕ) → 11 < m
+    → hold a rs ≡ call-of m a b c roles lengths k n rs room
+truth-called m a b c roles lengths k n rs room h =
+    sym (List·getD-eq-default (load-text a ∷ list-warnings a k ∷ export-text room ∷ reading-calls a b c roles lengths k n rs) (hold a rs) h)
 
-module _ (s : Script) (i : ℕ) (lent : Lent) {w : ℕ} (what : w ≡ word (s .words) i 0) {t : List ℕ} (text : t ≡ text-at (s .words) (s .pool) i 1) where
-  pub load-made :
-      {after : List ℕ} {r : Loaded} → w ≡ 0 → record { answer = r; bytes = after } ≡ load (lent .table) t
-      → Made lent (call-at s i) (lent-of after (lent .numbers) (lent .places)) (reply.Loaded r)
-  load-made z l =
+module _ (s : Script) (i : ℕ) (lent : Lent) {w : ℕ} (what : w ≡ word (s .words) i 0) where
+  pub export-made :
+      {after : List ℕ} {r : Exported} → w ≡ 2 → s .room ≡ length (lent .text) → record { answer = r; bytes = after } ≡ export (lent .text) (lent .table)
+      → Made lent (call-at s i) (lent-of (lent .table) (lent .numbers) (lent .places) after) (reply.Exported r)
+  export-made z n x =
       let first = sym what ∙ z in
       record {
-        answer = ap (λ (o : Result). reply.Loaded (o .answer)) l ∙ rw (text, first);
-        left = ap (λ (o : Result). lent-of (o .bytes) (lent .numbers) (lent .places)) l ∙ rw (text, first);
+        answer = ap (λ (o : export.Result). reply.Exported (o .answer)) x ∙ rw (first, n);
+        left = ap (λ (o : export.Result). lent-of (lent .table) (lent .numbers) (lent .places) (o .bytes)) x ∙ rw (first, n);
       }
 
-  pub list-made :
-      {numbers places : List ℕ} {k : ℕ} {r : Listed} → w ≡ 1 → k ≡ word (s .words) i 7
-      → record { answer = r; numbers = numbers; places = places } ≡ listing k (lent .numbers) (lent .places) t
-      → Made lent (call-at s i) (lent-of (lent .table) numbers places) (reply.Listed r)
-  list-made {k = k} z e l =
-      let first = sym what ∙ z in
-      record {
-        answer = ap (λ (o : Listing). reply.Listed (o .answer)) l ∙ ap reply.Listed (listed-alike k (lent .numbers) (lent .places) t) ∙ rw (text, e, first);
-        left = ap (λ (o : Listing). lent-of (lent .table) (o .numbers) (o .places)) l ∙ rw (text, e, first);
-      }
+  module _ {t : List ℕ} (text : t ≡ text-at (s .words) (s .pool) i 1) where
+    pub load-made :
+        {after : List ℕ} {r : Loaded} → w ≡ 0 → record { answer = r; bytes = after } ≡ load (lent .table) t
+        → Made lent (call-at s i) (lent-of after (lent .numbers) (lent .places) (lent .text)) (reply.Loaded r)
+    load-made z l =
+        let first = sym what ∙ z in
+        record {
+          answer = ap (λ (o : Result). reply.Loaded (o .answer)) l ∙ rw (text, first);
+          left = ap (λ (o : Result). lent-of (o .bytes) (lent .numbers) (lent .places) (lent .text)) l ∙ rw (text, first);
+        }
 
-  pub other-made :
-      {b c roles lengths : List ℕ} {k n at : ℕ} {rs : List Reading} {r : Reply} → 1 < w
-      → b ≡ text-at (s .words) (s .pool) i 3 → c ≡ text-at (s .words) (s .pool) i 5
-      → roles ≡ text-at (s .words) (s .pool) i 9 → lengths ≡ text-at (s .words) (s .pool) i 11 → k ≡ word (s .words) i 7 → n ≡ getD (s .levels) i 0
-      → at ≡ word (s .words) i 8 → rs ≡ readings (s .states) (s .values) at
-      → r ≡ answer-to (lent .table) (call-of w t b c roles lengths k n rs) → Made lent (call-at s i) lent r
-  other-made {b} {c} {roles} {lengths} {k} {n} {at} {rs} z eb ec eo el ek en ea er h =
-      let same : call-of w t b c roles lengths k n rs ≡ call-at s i = rw (text, eb, ec, eo, el, ek, en, er, ea, what) in
-      record {
-        answer = h ∙ ap (answer-to (lent .table)) same;
-        left = others-leave w t b c roles lengths k n rs lent z ∙ ap (left-by lent) same;
-      }
+    pub list-made :
+        {numbers places : List ℕ} {k : ℕ} {r : Listed} → w ≡ 1 → k ≡ word (s .words) i 7
+        → record { answer = r; numbers = numbers; places = places } ≡ listing k (lent .numbers) (lent .places) t
+        → Made lent (call-at s i) (lent-of (lent .table) numbers places (lent .text)) (reply.Listed r)
+    list-made {k = k} z e l =
+        let first = sym what ∙ z in
+        record {
+          answer = ap (λ (o : Listing). reply.Listed (o .answer)) l ∙ ap reply.Listed (listed-alike k (lent .numbers) (lent .places) t) ∙ rw (text, e, first);
+          left = ap (λ (o : Listing). lent-of (lent .table) (o .numbers) (o .places) (lent .text)) l ∙ rw (text, e, first);
+        }
+
+    pub other-made :
+        {b c roles lengths : List ℕ} {k n at : ℕ} {rs : List Reading} {r : Reply} → 2 < w
+        → b ≡ text-at (s .words) (s .pool) i 3 → c ≡ text-at (s .words) (s .pool) i 5
+        → roles ≡ text-at (s .words) (s .pool) i 9 → lengths ≡ text-at (s .words) (s .pool) i 11 → k ≡ word (s .words) i 7 → n ≡ getD (s .levels) i 0
+        → at ≡ word (s .words) i 8 → rs ≡ readings (s .states) (s .values) at
+        → ((room : ℕ) → r ≡ answer-to (lent .table) (call-of w t b c roles lengths k n rs room)) → Made lent (call-at s i) lent r
+    other-made {b} {c} {roles} {lengths} {k} {n} {at} {rs} z eb ec eo el ek en ea er h =
+        let same : call-of w t b c roles lengths k n rs (s .room) ≡ call-at s i = rw (text, eb, ec, eo, el, ek, en, er, ea, what) in
+        record {
+          answer = h (s .room) ∙ ap (answer-to (lent .table)) same;
+          left = others-leave w t b c roles lengths k n rs (s .room) lent z ∙ ap (left-by lent) same;
+        }
 
 -- ---- scripts
 
