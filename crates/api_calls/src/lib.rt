@@ -4,7 +4,7 @@ use spec_calc::Reading;
 use spec_decision::Answer;
 use spec_decision::Found;
 ghost use mathlib.Core.Path.{_≡_};
-ghost use Prim.Native.Nat.{_<_};
+ghost use Prim.Native.Nat.{ℕ, _<_};
 ghost use Rattle.spec_rule.specs.Question.{lent-question};
 ghost use Rattle.spec_decision.specs.Decision.{decide};
 ghost use Rattle.spec_decision.specs.LookUp.{look-up};
@@ -55,25 +55,25 @@ fn call_on_table(
     rs: [Reading; 21],
     lent: &[u8],
 ) -> Reply
-    requires { ⌜ (1 < what) × (what < 9) ⌝ }
-    ensures { λ r. ⌜ r ≡ answer-to (now (lent .entry)) (call-of what (now (a .entry)) (now (b .entry)) (now (c .entry)) (now (roles .entry)) (now (lengths .entry)) skip n rs) ⌝ }
+    requires { ⌜ (2 < what) × (what < 10) ⌝ }
+    ensures { λ r. ⌜ ((room : ℕ) → r ≡ answer-to (now (lent .entry)) (call-of what (now (a .entry)) (now (b .entry)) (now (c .entry)) (now (roles .entry)) (now (lengths .entry)) skip n rs room)) ⌝ }
 {
-    if what == 2 {
+    if what == 3 {
         return Reply::Checked(table::is_table(lent));
     }
-    if what == 3 {
+    if what == 4 {
         return Reply::Answered(ask::decide(lent, a, b, c, roles, lengths, n, rs));
     }
-    if what == 4 {
+    if what == 5 {
         return Reply::Answered(ask_checked(lent, a, b, c, roles, lengths, n, rs));
     }
-    if what == 5 {
+    if what == 6 {
         return Reply::Found(ask::find_input(lent, a, n));
     }
-    if what == 6 {
+    if what == 7 {
         return Reply::Found(find_checked(lent, a, n));
     }
-    if what == 7 {
+    if what == 8 {
         let name = ask::look_up(lent, a, n);
         return Reply::Named(name.len());
     }
@@ -93,19 +93,20 @@ fn call_on_text(
     rs: [Reading; 21],
     lent: &[u8],
 ) -> Reply
-    requires { ⌜ 8 < what ⌝ }
-    ensures { λ r. ⌜ r ≡ answer-to (now (lent .entry)) (call-of what (now (a .entry)) (now (b .entry)) (now (c .entry)) (now (roles .entry)) (now (lengths .entry)) skip n rs) ⌝ }
+    requires { ⌜ 9 < what ⌝ }
+    ensures { λ r. ⌜ ((room : ℕ) → r ≡ answer-to (now (lent .entry)) (call-of what (now (a .entry)) (now (b .entry)) (now (c .entry)) (now (roles .entry)) (now (lengths .entry)) skip n rs room)) ⌝ }
 {
-    if what == 9 {
+    if what == 10 {
         return Reply::Allowed(calc::allowed(a));
     }
-    if what == 10 {
+    if what == 11 {
         return Reply::Valued(calc::value(a, rs));
     }
     Reply::Holds(calc::holds(a, rs))
 }
 
-// A call that only reads: it is given the table as &[u8]. Its caller, api_call, has made loads and lists of warnings itself.
+// A call that only reads: it is given the table as &[u8]. Its caller, api_call, has made the calls that write itself.
+// Whatever room is lent for a text, the others answer the same.
 pub fn call_reading(
     what: usize,
     a: &[u8],
@@ -118,10 +119,10 @@ pub fn call_reading(
     rs: [Reading; 21],
     lent: &[u8],
 ) -> Reply
-    requires { ⌜ 1 < what ⌝ }
-    ensures { λ r. ⌜ r ≡ answer-to (now (lent .entry)) (call-of what (now (a .entry)) (now (b .entry)) (now (c .entry)) (now (roles .entry)) (now (lengths .entry)) skip n rs) ⌝ }
+    requires { ⌜ 2 < what ⌝ }
+    ensures { λ r. ⌜ ((room : ℕ) → r ≡ answer-to (now (lent .entry)) (call-of what (now (a .entry)) (now (b .entry)) (now (c .entry)) (now (roles .entry)) (now (lengths .entry)) skip n rs room)) ⌝ }
 {
-    if what < 9 {
+    if what < 10 {
         call_on_table(what, a, b, c, roles, lengths, skip, n, rs, lent)
     } else {
         call_on_text(what, a, b, c, roles, lengths, skip, n, rs, lent)

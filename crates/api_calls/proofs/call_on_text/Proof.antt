@@ -11,24 +11,24 @@ allowed-requires : tie.Need-allowed-requires
 allowed-requires c κs = search needs
 
 returns : tie.Need-returns
-returns c = rw (c .before .if1 .taken) (ap reply.Allowed (c .allowed .ensures))
+returns c room = rw (c .before .if1 .taken) (ap reply.Allowed (c .allowed .ensures))
 
 value-requires : tie.Need-value-requires
 value-requires c κs = search needs
 
 returns-2 : tie.Need-returns-2
-returns-2 c = rw (c .before .if2 .taken) (ap reply.Valued (c .value .ensures))
+returns-2 c room = rw (c .before .if2 .taken) (ap reply.Valued (c .value .ensures))
 
 holds-requires : tie.Need-holds-requires
 holds-requires c κs = search needs
 
 returns-3 : tie.Need-returns-3
-returns-3 c =
+returns-3 c room =
     let at-start = c .before .before .before .before .before .before .before .before .before in
     let a = at-start .args in
     let over = at-start .pre in
     ap reply.Holds (c .holds .ensures)
-    ∙ ap (answer-to (a .lent .now)) (truth-called (a .what) (a .a .now) (a .b .now) (a .c .now) (a .roles .now) (a .lengths .now) (a .skip) (a .n) (a .rs) (omega arith))
+    ∙ ap (answer-to (a .lent .now)) (truth-called (a .what) (a .a .now) (a .b .now) (a .c .now) (a .roles .now) (a .lengths .now) (a .skip) (a .n) (a .rs) room (omega arith))
 
 pub call-on-text-spec : {M : Type 1} → statement M
 call-on-text-spec =
