@@ -1,5 +1,5 @@
 -- Laws of scripts and of their calls.
-use mathlib.Core.Path.{_≡_, refl, sym, ap, _∙_}
+use mathlib.Core.Path.{_≡_, refl, sym, ap, subst, _∙_}
 use mathlib.Core.List.{List, [], _∷_}
 use Prim.Native.Nat.{ℕ, zero, suc, _+_, _*_, _-_, _/_, _≤_, _<_}
 use native.Mathlib.Nat.{div-add-mod'}
@@ -22,7 +22,7 @@ use Rattle.spec_demand.specs.Calls.{load-text, list-warnings, export-text, hold
 use Rattle.spec_calc.specs.States.{readings}
 use Rattle.api_script.specs.declared.Reply.{Reply}
 use Rattle.api_script.specs.declared.Reply.the-variants as reply
-use Rattle.api_script.specs.Script.{Script, word, text-at, reading-calls, call-of, call-at, calls-from}
+use Rattle.api_script.specs.Script.{Script, script-of, word, text-at, reading-calls, call-of, call-at, calls-from}
 use Rattle.api_script.specs.Replies.{answer-to, Lent, lent-of, left-by, left-by-calls, Made}
 
 -- ---- parts of a text
@@ -130,11 +130,15 @@ module _ (s : Script) (n : ℕ) (start : Lent) where
       let z : n - 0 ≡ n = omega arith in
       record { within = omega arith; comes = rw z }
 
-  pub followed-more : {lent after : Lent} {i : ℕ} → Followed lent i → i < n → after ≡ left-by lent (call-at s i) → Followed after (i + 1)
+  pub followed-more :
+      {lent after : Lent} {i : ℕ} → Followed lent i → i < n → length (lent .text) ≡ s .room
+      → after ≡ left-by lent (call-at (script-of (s .words) (s .pool) (s .levels) (s .states) (s .values) (length (lent .text))) i) → Followed after (i + 1)
   unfolding calls-from
-  followed-more {lent} {after} {i} h l e =
+  followed-more {lent} {after} {i} h l r e =
       let m : n - i ≡ suc (n - (i + 1)) = omega arith in
-      record { within = omega arith; comes = rw e (rw m at (h .comes)) }
+      let made : after ≡ left-by lent (call-at s i) =
+      subst (λ room. after ≡ left-by lent (call-at (script-of (s .words) (s .pool) (s .levels) (s .states) (s .values) room) i)) r e in
+      record { within = omega arith; comes = rw made (rw m at (h .comes)) }
 
   pub followed-all : {lent : Lent} {i : ℕ} → Followed lent i → n ≤ i → lent ≡ left-by-calls start (calls-from s 0 n)
   unfolding calls-from
