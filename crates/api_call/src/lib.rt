@@ -5,7 +5,8 @@ ghost use lib.ListN.{length};
 ghost use Rattle.api_script.specs.Script.{script-of, call-at};
 ghost use Rattle.api_script.specs.Replies.{lent-of, Made};
 
-// Makes the i-th call of a script. A list of warnings is written into arrays of its own: the table is lent to no call but a load for writing.
+// Makes the i-th call of a script. A list of warnings is written into arrays of its own, an exported text into bytes of its own: the table is lent to no
+// call but a load for writing.
 // The caller, sequence, asks for calls that stand in the script whole.
 pub fn call(
     script: &[usize],
@@ -17,12 +18,13 @@ pub fn call(
     lent: &mut [u8],
     numbers: &mut [u8],
     places: &mut [u16],
+    text: &mut [u8],
 ) -> Reply
     requires { ⌜ i * 16 + 16 ≤ length (now script) ⌝ }
     ensures { λ r. ⌜
-        Made (lent-of (now (lent .entry)) (now (numbers .entry)) (now (places .entry)))
-        (call-at (script-of (now (script .entry)) (now (pool .entry)) (now (levels .entry)) (now (states .entry)) (now (values .entry))) i)
-        (lent-of (now (lent .exit)) (now (numbers .exit)) (now (places .exit))) r
+        Made (lent-of (now (lent .entry)) (now (numbers .entry)) (now (places .entry)) (now (text .entry)))
+        (call-at (script-of (now (script .entry)) (now (pool .entry)) (now (levels .entry)) (now (states .entry)) (now (values .entry)) (length (now (text .entry)))) i)
+        (lent-of (now (lent .exit)) (now (numbers .exit)) (now (places .exit)) (now (text .exit))) r
         ⌝ }
 {
     let what = api_script::word(script, i, 0);
@@ -33,6 +35,9 @@ pub fn call(
     }
     if what == 1 {
         return Reply::Listed(warnings::list_warnings(a, skip, numbers, places));
+    }
+    if what == 2 {
+        return Reply::Exported(text::export(lent, text));
     }
     let b = api_script::text_at(script, pool, i, 3);
     let c = api_script::text_at(script, pool, i, 5);
