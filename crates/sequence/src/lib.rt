@@ -2,6 +2,7 @@
 use api_script::Asked;
 use spec_calc::Reading;
 ghost use mathlib.Core.Path.{_≡_};
+ghost use lib.ListN.{length};
 ghost use Rattle.spec_rule.specs.Question.{lent-question};
 ghost use Rattle.api_script.specs.Script.{script-of, calls};
 ghost use Rattle.api_script.specs.Replies.{lent-of, left-by-calls};
@@ -17,11 +18,12 @@ pub fn follow(
     lent: &mut [u8],
     numbers: &mut [u8],
     places: &mut [u16],
+    text: &mut [u8],
 )
     ensures { λ r. ⌜
-        lent-of (now (lent .exit)) (now (numbers .exit)) (now (places .exit))
-        ≡ left-by-calls (lent-of (now (lent .entry)) (now (numbers .entry)) (now (places .entry)))
-        (calls (script-of (now (script .entry)) (now (pool .entry)) (now (levels .entry)) (now (states .entry)) (now (values .entry))))
+        lent-of (now (lent .exit)) (now (numbers .exit)) (now (places .exit)) (now (text .exit))
+        ≡ left-by-calls (lent-of (now (lent .entry)) (now (numbers .entry)) (now (places .entry)) (now (text .entry)))
+        (calls (script-of (now (script .entry)) (now (pool .entry)) (now (levels .entry)) (now (states .entry)) (now (values .entry)) (length (now (text .entry)))))
         ⌝ }
 {
     let n = script.len() / 16;
@@ -37,6 +39,7 @@ pub fn follow(
             lent,
             numbers,
             places,
+            text,
         );
         i += 1;
     }
@@ -44,7 +47,7 @@ pub fn follow(
 
 // A load, the calls of a script, and a question: what we don't know never gives more access.
 pub fn load_then_ask(
-    text: &[u8],
+    file: &[u8],
     script: &[usize],
     pool: &[u8],
     levels: &[u32],
@@ -60,16 +63,27 @@ pub fn load_then_ask(
     lent: &mut [u8],
     numbers: &mut [u8],
     places: &mut [u16],
+    text: &mut [u8],
 ) -> Asked
     ensures { λ r. ⌜
-        Never-more (lent-of (now (lent .entry)) (now (numbers .entry)) (now (places .entry))) (now (text .entry))
-        (calls (script-of (now (script .entry)) (now (pool .entry)) (now (levels .entry)) (now (states .entry)) (now (values .entry))))
+        Never-more (lent-of (now (lent .entry)) (now (numbers .entry)) (now (places .entry)) (now (text .entry))) (now (file .entry))
+        (calls (script-of (now (script .entry)) (now (pool .entry)) (now (levels .entry)) (now (states .entry)) (now (values .entry)) (length (now (text .entry)))))
         (lent-question (now (group .entry)) (now (user .entry)) (now (host .entry)) (now (roles .entry)) (now (lengths .entry)) level rs)
-        (lent-of (now (lent .exit)) (now (numbers .exit)) (now (places .exit))) r
+        (lent-of (now (lent .exit)) (now (numbers .exit)) (now (places .exit)) (now (text .exit))) r
         ⌝ }
 {
-    let loaded = load::load(text, lent);
-    follow(script, pool, levels, states, values, lent, numbers, places);
+    let loaded = load::load(file, lent);
+    follow(
+        script,
+        pool,
+        levels,
+        states,
+        values,
+        lent,
+        numbers,
+        places,
+        text,
+    );
     let answer = ask::decide(lent, group, user, host, roles, lengths, level, rs);
     Asked { loaded, answer }
 }

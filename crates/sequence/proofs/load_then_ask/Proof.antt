@@ -21,10 +21,13 @@ same-length-2 c = search needs
 same-length-3 : tie.Need-same-length-3
 same-length-3 c = search needs
 
+same-length-4 : tie.Need-same-length-4
+same-length-4 c = search needs
+
 returns : tie.Need-returns
 returns c =
-    let at-follow = c .before .before .before .before .before .before .before .before in
-    let at-load = at-follow .before .before .before .before .before .before in
+    let at-follow = c .before .before .before .before .before .before .before .before .before .before in
+    let at-load = at-follow .before .before .before .before .before .before .before in
     asked-is (at-load .load .ensures) (at-follow .follow .ensures) (c .decide .ensures)
 
 pub load-then-ask-spec : {M : Type 1} → statement M
@@ -37,4 +40,5 @@ load-then-ask-spec =
     same-length
     same-length-2
     same-length-3
+    same-length-4
     returns)
