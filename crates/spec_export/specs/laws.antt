@@ -3,8 +3,8 @@ pub mod SameTable
 pub mod Quotes
 pub mod Limits
 pub mod Bound
+pub mod Length
 pub mod QuotesBack
 pub mod Unwritable
 pub mod Back
 pub mod Answer
-pub mod Length
