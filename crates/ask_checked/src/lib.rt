@@ -41,7 +41,7 @@ fn decision_of_group(
 {
     let start = table_read::field(table, Section::AccessGroups, group, 4);
     let n = table_read::field(table, Section::AccessGroups, group, 5);
-    let mut so_far = ask_grant::nothing_given();
+    let mut so_far = ask_verdict::nothing_given();
     let mut i = 0;
     while i < n {
         so_far = ask_rule::with_rule(
@@ -58,7 +58,7 @@ fn decision_of_group(
         );
         i += 1;
     }
-    ask_grant::settled(so_far)
+    ask_verdict::settled(so_far)
 }
 
 // The answer to a question on a table that was checked before: only the answering group's rules are tried.
@@ -79,7 +79,7 @@ pub fn decide_checked(
     if 1 < level {
         return Answer::BadLevel;
     }
-    if !ask_roles::fit(roles, lengths) {
+    if !ask_fit::fit(roles, lengths) {
         return Answer::BadRoles;
     }
     match table_read::answering_group(table, group) {

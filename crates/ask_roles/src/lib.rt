@@ -1,14 +1,10 @@
-// Roles as a caller lends them: one behind the other in one pool of bytes, and the length of each.
+// Roles as a caller lends them, one behind the other in one pool of bytes, and the length of each; a member that matches one.
 ghost use mathlib.Core.Path.{_≡_};
 ghost use Prim.Native.Nat.{min};
 ghost use Rattle.spec_lists.specs.Text.{same};
 ghost use Rattle.spec_lists.specs.Select.{any};
-ghost use Rattle.spec_rule.specs.Roles.{role-prefix, roles-fit, cut-roles, lent-roles};
+ghost use Rattle.spec_rule.specs.Roles.{role-prefix, cut-roles};
 ghost use Rattle.spec_rule.specs.Rule.{begins, matches-client};
-
-const MOST_ROLES: usize = 16;
-
-const LONGEST_ROLE: usize = 60;
 
 // The bytes of role/.
 const PREFIX: usize = 5;
@@ -24,26 +20,6 @@ fn least(a: usize, b: usize) -> usize
     ensures { λ r. ⌜ r ≡ min a b ⌝ }
 {
     if a < b { a } else { b }
-}
-
-// Whether a question may carry the roles: few enough, none too long, all inside the pool.
-pub fn fit(roles: &[u8], lengths: &[u8]) -> bool
-    ensures { λ r. ⌜ r ≡ roles-fit (lent-roles (now (roles .entry)) (now (lengths .entry))) ⌝ }
-{
-    if MOST_ROLES < lengths.len() {
-        return false;
-    }
-    let mut at = 0;
-    let mut i = 0;
-    while i < lengths.len() {
-        let n = wide(lengths[i]);
-        if LONGEST_ROLE < n {
-            return false;
-        }
-        at += n;
-        i += 1;
-    }
-    at <= roles.len()
 }
 
 // Whether one of the roles is the name. A role that passes the pool is as long as the pool goes.

@@ -80,12 +80,12 @@ pub fn with_rule(
     let offered = ask_grant::granted_by(table_read::field(table, Section::Rules, rule, 0));
     let so_far = earlier.access;
     let permission = offered.access;
-    if ask_grant::is_at_least(so_far, permission) {
+    if ask_verdict::is_at_least(so_far, permission) {
         return earlier; // can give no more
     }
     if !stands_rule(table, rule, user, host, roles, lengths, level) {
         return earlier; // fails by user, host or level, or is switched off
     }
     let outcome = calculation_outcome(table, rule, values, goods);
-    ask_grant::with_outcome(earlier, offered, outcome)
+    ask_verdict::with_outcome(earlier, offered, outcome)
 }

@@ -41,7 +41,7 @@ pub fn value(s: &[u8], rs: [Reading; 21]) -> Worth
     match calc_value::compute(s, &values) {
         Computed::NoCalculation => Worth::NoCalculation,
         Computed::Is(v) => {
-            let letter = calc_truth::lowest_bad(s, &good);
+            let letter = calc_letters::lowest_bad(s, &good);
             if letter < 21 {
                 Worth::BadBy(letter as u8)
             } else {

@@ -1,3 +1,1 @@
-pub mod Letters
-pub mod Lowest
 pub mod Answers

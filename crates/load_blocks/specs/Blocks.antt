@@ -1,9 +1,9 @@
 -- What the functions say that read a generic block: how it opens, and what is left of it then.
 use mathlib.Core.Path.{_≡_}
-use mathlib.Core.Bool.{Bool, true, cond}
+use mathlib.Core.Bool.{cond}
 use mathlib.Core.List.{List, [], _∷_, _++_}
 use Prim.Native.Nat.{ℕ, suc, _-_, _≤_}
-use lib.Dec.{eqb, leb}
+use lib.Dec.{eqb}
 use Rattle.spec_token.specs.declared.Kind.the-variants as kind
 use Rattle.spec_grammar.specs.Reader.{Stack, once, perhaps, often, arguments, block, block-element, Depth, inner, behind, no-role}
 use Rattle.load_elements.specs.declared.Cursor.{Cursor}
@@ -11,10 +11,6 @@ use Rattle.load_elements.specs.Parse.{Parsed}
 use Rattle.load_elements.specs.Reads.{remaining, parse-at, Leads}
 use Rattle.load_blocks.specs.declared.Opened.{Opened}
 use Rattle.load_blocks.specs.declared.Opened.the-variants as opened
-
--- generic_block_elem_name: a keyword or a STRING
-abbrev pub is-name : ℕ → Bool
-is-name x = cond (leb x 5) true (eqb x 8)
 
 -- the kind that a number must have, where x stands
 abbrev pub float-or-int : ℕ → ℕ

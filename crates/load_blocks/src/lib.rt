@@ -9,34 +9,23 @@ use load_elements::second_block;
 use load_tokens::CLOSE_BRACE;
 use load_tokens::COMMA;
 use load_tokens::FLOAT;
-use load_tokens::INP;
 use load_tokens::INT;
 use load_tokens::NO_ROLE;
 use load_tokens::OPEN_BRACE;
 use load_tokens::OPEN_PAREN;
-use load_tokens::STRING;
+use load_tokens::is_name;
 ghost use mathlib.Core.Path.{_≡_};
 ghost use mathlib.Core.List.{[], _∷_};
 ghost use lib.ListN.{length};
 ghost use Rattle.spec_grammar.specs.Reader.{once, perhaps, block, block-inside, block-name, block-number, top, inner};
 ghost use Rattle.load_elements.specs.Reads.{Reads};
-ghost use Rattle.load_blocks.specs.Blocks.{is-name, float-or-int, Opens, Closes};
+ghost use Rattle.load_blocks.specs.Blocks.{float-or-int, Opens, Closes};
 
 // How a block begins: with one element and its "}", done, or with an element that may nest, up to its "(".
 pub enum Opened {
     One(Cursor),
     Done(Cursor),
     Nested(Cursor),
-}
-
-// generic_block_elem_name
-pub fn is_name(kind: u8) -> bool
-    ensures { λ r. ⌜ r ≡ is-name kind ⌝ }
-{
-    if kind <= INP {
-        return true;
-    }
-    kind == STRING
 }
 
 // The token that a number must be.

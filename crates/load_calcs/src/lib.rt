@@ -18,7 +18,7 @@ use load_tokens::INPUT;
 fn allowed_with(s: &[u8], given: [bool; 21]) -> bool
     ensures { λ r. ⌜ r ≡ holds-of (tree-of (now (s .entry))) (λ t. all (λ i. getD given i false) (letters t)) ⌝ }
 {
-    if calc_truth::letters_given(s, &given) {
+    if calc_letters::letters_given(s, &given) {
         calc::allowed(s)
     } else {
         false

@@ -6,7 +6,7 @@ use Rattle.spec_token.specs.declared.Kind.the-variants as kind
 use Rattle.spec_grammar.specs.declared.Role.the-variants as role
 use Rattle.spec_grammar.specs.Production.{_tagged_}
 use Rattle.spec_grammar.specs.Reader.{Stack, once, token, no-role, string, log-option}
-use Rattle.load_blocks.specs.Blocks.{is-name}
+use Rattle.load_tokens.specs.Names.{is-name}
 
 -- the kind that a name must have, where x stands
 abbrev pub name-or-string : ℕ → ℕ

@@ -2,7 +2,6 @@
 // Each function asks that there are as many roles as kinds: load_parse::read cuts both slices to one length, and its callees hand them on.
 // A kind that is expected is a constant, or one that was seen.
 use load_blocks::block;
-use load_blocks::is_name;
 use load_elements::Cursor;
 use load_elements::expect;
 use load_elements::head;
@@ -30,6 +29,7 @@ use load_tokens::STRING;
 use load_tokens::UAG;
 use load_tokens::UAG_NAMED;
 use load_tokens::UNKNOWN_PREDICATE;
+use load_tokens::is_name;
 ghost use mathlib.Core.Path.{_≡_};
 ghost use mathlib.Core.List.{[], _∷_, _++_};
 ghost use Prim.Native.Nat.{_<_};

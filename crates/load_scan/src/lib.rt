@@ -45,7 +45,7 @@ fn word_token(s: &[u8], at: usize) -> Step
     ensures { λ r. ⌜ Found (now (s .entry)) at r ⌝ }
 {
     let end = load_word::run_end(Class::Name, s, at);
-    let kind = load_word::word_kind(&s[at..end]);
+    let kind = load_kind::word_kind(&s[at..end]);
     let entry = Entry {
         kind,
         place: at,

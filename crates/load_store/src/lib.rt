@@ -30,7 +30,7 @@ pub fn store(
     let mut hags = [0u16; 64];
     let u = load_spans::collect(roles, n, UAG_NAME, &mut uags);
     let h = load_spans::collect(roles, n, HAG_NAME, &mut hags);
-    match load_write::write(s, starts, ends, roles, n, &uags[..u], &hags[..h], lent) {
+    match load_room::write(s, starts, ends, roles, n, &uags[..u], &hags[..h], lent) {
         load_write::Written::NoRoom(size) => Loaded::Refused {
             refusal: Refusal::NoRoom,
             place: size,

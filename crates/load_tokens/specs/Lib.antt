@@ -1,3 +1,4 @@
+pub mod Names
 pub mod Stores
 pub mod Arrays
 pub mod Scratch

@@ -1,5 +1,6 @@
 // How a load keeps tokens in arrays: the codes of kinds and roles, and in specs/ what the arrays mean.
 ghost use mathlib.Core.Path.{_≡_};
+ghost use Rattle.load_tokens.specs.Names.{is-name};
 
 // The codes of the kinds: spec_grammar/specs/Codes.antt, kind-number.
 pub const UAG: u8 = 0;
@@ -75,4 +76,14 @@ pub fn wide(x: u16) -> usize
     ensures { λ r. ⌜ r ≡ x ⌝ }
 {
     x as usize
+}
+
+// generic_block_elem_name
+pub fn is_name(kind: u8) -> bool
+    ensures { λ r. ⌜ r ≡ is-name kind ⌝ }
+{
+    if kind <= INP {
+        return true;
+    }
+    kind == STRING
 }

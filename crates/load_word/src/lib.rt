@@ -1,10 +1,10 @@
-// The classes of bytes, and the kinds of words.
+// The classes of bytes, and which words are numbers.
 ghost use mathlib.Core.Path.{_≡_};
 ghost use Prim.Native.Nat.{_≤_};
 ghost use lib.ListN.{length, drop};
 ghost use Rattle.spec_lists.specs.Text.{digit};
 ghost use Rattle.spec_token.specs.Word.{name-byte};
-ghost use Rattle.spec_token.specs.Scanner.{int, float, inp, word-kind, digits, exponent, fraction, lexeme-of, punctuation};
+ghost use Rattle.spec_token.specs.Scanner.{int, float, digits, exponent, fraction, lexeme-of, punctuation};
 ghost use Rattle.spec_token.specs.Spans.{Span};
 ghost use Rattle.spec_grammar.specs.Codes.{kind-number};
 ghost use Rattle.load_word.specs.Class.{belongs};
@@ -132,7 +132,8 @@ fn all_digits(w: &[u8], at: usize) -> bool
     true
 }
 
-fn is_int(w: &[u8]) -> bool
+// load_kind asks this, and the next.
+pub fn is_int(w: &[u8]) -> bool
     ensures { λ r. ⌜ r ≡ int (now (w .entry)) ⌝ }
 {
     let a = sign_end(w, 0);
@@ -175,58 +176,10 @@ fn is_fraction(w: &[u8], at: usize) -> bool
     is_exponent(w, e)
 }
 
-fn is_float(w: &[u8]) -> bool
+pub fn is_float(w: &[u8]) -> bool
     ensures { λ r. ⌜ r ≡ float (now (w .entry)) ⌝ }
 {
     let a = sign_end(w, 0);
     let d = run_end(Class::Digit, w, a);
     is_fraction(w, d)
-}
-
-// INP and a letter from A to U.
-fn is_input(w: &[u8]) -> bool
-    ensures { λ r. ⌜ r ≡ inp (now (w .entry)) ⌝ }
-{
-    if w.len() != 4 {
-        return false;
-    }
-    if byte_compare::equal(&w[..3], b"INP") {
-        match w[3] {
-            b'A'..=b'U' => true,
-            _ => false,
-        }
-    } else {
-        false
-    }
-}
-
-// The number of a word's kind.
-pub fn word_kind(w: &[u8]) -> u8
-    ensures { λ r. ⌜ r ≡ kind-number (word-kind (now (w .entry))) ⌝ }
-{
-    if byte_compare::equal(w, b"UAG") {
-        return 0;
-    }
-    if byte_compare::equal(w, b"HAG") {
-        return 1;
-    }
-    if byte_compare::equal(w, b"ASG") {
-        return 2;
-    }
-    if byte_compare::equal(w, b"RULE") {
-        return 3;
-    }
-    if byte_compare::equal(w, b"CALC") {
-        return 4;
-    }
-    if is_input(w) {
-        return 5;
-    }
-    if is_int(w) {
-        return 6;
-    }
-    if is_float(w) {
-        return 7;
-    }
-    8
 }

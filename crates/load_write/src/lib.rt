@@ -10,19 +10,21 @@ ghost use mathlib.Core.List.{List};
 ghost use Prim.Native.Nat.{_≤_, ℕ};
 ghost use lib.ListN.{length};
 ghost use Rattle.spec_lists.specs.Words.{spelled-out};
-ghost use Rattle.spec_table.specs.Layout.{greatest-table};
 ghost use Rattle.load_tokens.specs.Arrays.{Arrays};
 ghost use Rattle.load_spans.specs.Roles.{tokens};
 ghost use Rattle.byte_write.specs.Put.{Put};
 ghost use Rattle.load_passes.specs.Passed.{Source};
 ghost use Rattle.load_write.specs.Header.{Counts-right, header-of};
-ghost use Rattle.load_write.specs.Table.{stored-table, Wrote};
+ghost use Rattle.load_write.specs.Table.{stored-table};
 use load_sections::AccessSections;
 use load_sections::GroupSections;
 use load_sections::RuleSections;
 
-// No accepted file has a longer table: spec_table/specs/Layout.antt.
-const GREATEST_TABLE: usize = 35108;
+// What load_room answers.
+pub enum Written {
+    Done(usize),
+    NoRoom(usize),
+}
 
 // How many records sections 1 to 6 have.
 pub struct Counts {
@@ -92,8 +94,8 @@ fn put_header(
     byte_write::put_words(lent, 0, &words)
 }
 
-// The table of a file at the start of the lent bytes, as far as there is room. Its length is returned.
-fn table(
+// The table of a file at the start of the lent bytes, as far as there is room. Its length is returned. Inner: load_room calls it.
+pub fn table(
     s: &[u8],
     starts: &[u16],
     ends: &[u16],
@@ -120,38 +122,4 @@ fn table(
     let c = count_all(roles, n);
     put_header(c, groups, access, rules, end, lent);
     end
-}
-
-pub enum Written {
-    Done(usize),
-    NoRoom(usize),
-}
-
-// Nothing is written if there is no room for all of it. Only where the greatest table has no room is one measured first.
-// The caller, load_store, has the tokens of an accepted file from load_scan and the groups from load_spans::collect.
-pub fn write(
-    s: &[u8],
-    starts: &[u16],
-    ends: &[u16],
-    roles: &[u8],
-    n: usize,
-    uags: &[u16],
-    hags: &[u16],
-    lent: &mut [u8],
-) -> Written
-    requires { ⌜ Source (now s) (now starts) (now ends) (now roles) n (now uags) (now hags) ⌝ }
-    requires { ⌜ length (stored-table (now s) (now starts) (now ends) (now roles) n (now uags) (now hags)) ≤ greatest-table ⌝ }
-    ensures { λ r. ⌜
-        Wrote (stored-table (now (s .entry)) (now (starts .entry)) (now (ends .entry)) (now (roles .entry)) n (now (uags .entry)) (now (hags .entry)))
-        (now (lent .entry)) (now (lent .exit)) r
-        ⌝ }
-{
-    if lent.len() < GREATEST_TABLE {
-        let needed = table(s, starts, ends, roles, n, uags, hags, &mut lent[0..0]);
-        if lent.len() < needed {
-            return Written::NoRoom(needed);
-        }
-    }
-    let size = table(s, starts, ends, roles, n, uags, hags, lent);
-    Written::Done(size)
 }

@@ -1,4 +1,5 @@
 // Reading files. No contract can say what is read; but a read that fails is never taken for the end of a file.
+ghost use Prim.Native.Nat.{_≤_};
 ghost use Rattle.io.specs.Counts.{Counts};
 ghost use Rattle.prog_input.specs.Piece.{Within};
 
@@ -10,6 +11,13 @@ pub enum Piece {
     Bytes(usize),
     End,
     Fault,
+}
+
+// As much as is read at once: n bytes, at most 4,096.
+pub fn at_most(n: usize) -> usize
+    ensures { λ r. ⌜ r ≤ 4096 ⌝ }
+{
+    if n < 4096 { n } else { 4096 }
 }
 
 // Reads once into buf, which has room: into none, every file has ended. A read that a signal interrupts is made again.

@@ -20,12 +20,6 @@ enum Ended {
     Unwritten,
 }
 
-fn at_most(n: usize) -> usize
-    ensures { λ r. ⌜ r ≤ 4096 ⌝ }
-{
-    if n < 4096 { n } else { 4096 }
-}
-
 // Answers the input piece by piece: a piece is as much as is read at once.
 fn answer_pieces(table: &[u8], fd: i32, piece: &mut [u8], buffer: &mut [u8]) -> Ended
     requires { ⌜ (is-table (now table) ≡ true) × (length (now buffer) ≡ room) × (length (now piece) ≤ 4096) ⌝ }
@@ -63,7 +57,7 @@ pub fn serve(table: &[u8], fd: i32, size: usize)
     let mut piece = io::buffer();
     let mut buffer = [0u8; 256];
     let mut out = [0u8; 20];
-    let most = at_most(size);
+    let most = prog_input::at_most(size);
     match answer_pieces(table, fd, &mut piece[..most], &mut buffer) {
         Ended::Whole(count) => {
             let n = prog_end::finish(table, &buffer, count, &mut out);

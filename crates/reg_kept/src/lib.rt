@@ -52,7 +52,7 @@ pub fn outcomes_of(table: &[u8], group: usize, states: &[u8], values: &[f64]) ->
     let heard = inputs.values;
     let goods = inputs.good;
     let mut outcomes: [u8; 256] = [0; 256];
-    ask_kept::calculate(table, group, &heard, &goods, &mut outcomes);
+    ask_keep::calculate(table, group, &heard, &goods, &mut outcomes);
     outcomes
 }
 
@@ -70,7 +70,7 @@ fn kept_by_group(
     ensures { λ r. ⌜ Keeps (kept-by-number (now (table .entry)) (now (states .entry)) (now (values .entry)) i (now (user .entry)) (now (host .entry)) level) r ⌝ }
 {
     let mut flags: [u8; 256] = [0; 256];
-    ask_kept::keep(table, i, user, host, wide(level), &mut flags, 0);
+    ask_keep::keep(table, i, user, host, wide(level), &mut flags, 0);
     let outcomes = outcomes_of(table, i, states, values);
     let right = ask_number::number(ask_kept::kept_decision(table, i, &flags, 0, &outcomes));
     let count = table_read::field(table, Section::AccessGroups, i, 5);

@@ -2,13 +2,7 @@
 use reg_kept::Kept;
 ghost use mathlib.Core.Path.{_≡_};
 ghost use mathlib.Core.Bool.{true};
-ghost use mathlib.Core.List.{[]};
-ghost use Prim.Native.Nat.{_≤_};
-ghost use lib.ListN.{length, replicate};
-ghost use lib.Seq.{sets};
 ghost use Rattle.spec_table.specs.Check.{is-table};
-ghost use Rattle.spec_places.specs.Storage.{lent, all-readings};
-ghost use Rattle.spec_places.specs.Calls.{has-room};
 ghost use Rattle.reg_bytes.specs.Placed.{Placed};
 ghost use Rattle.reg_kept.specs.Kept.{Keeps};
 ghost use Rattle.reg_settle.specs.Settle.{Settles-place, All-settled, kept-here};
@@ -63,26 +57,4 @@ pub fn settle(places: &mut [u8], table: &[u8]) -> u64
         m = settle_place(places, p, table) + 2 * m;
     }
     m
-}
-
-// Whether the slices are long enough for a register's places and states.
-pub fn has_room(places: &[u8], states: &[u8]) -> bool
-    ensures { λ r. ⌜ r ≡ has-room (lent [] (now (places .entry)) (now (states .entry)) []) ⌝ }
-{
-    if !reg_bytes::has_places(places) {
-        return false;
-    }
-    1344 <= states.len()
-}
-
-// Makes every reading never heard. Inner: reload calls it, and has asked for the states' length.
-pub fn clear_states(states: &mut [u8])
-    requires { ⌜ all-readings ≤ length (now states) ⌝ }
-    ensures { λ _. ⌜ now (states .exit) ≡ sets (now (states .entry)) 0 (replicate all-readings 0) ⌝ }
-{
-    let mut i = 0;
-    while i < 1344 {
-        states[i] = 0;
-        i += 1;
-    }
 }

@@ -9,13 +9,13 @@ pub fn reload(places: &mut [u8], states: &mut [u8], text: &[u8], table: &mut [u8
         ⌜ Reloads-any (now (table .entry)) (now (places .entry)) (now (states .entry)) (now (text .entry)) (now (table .exit)) (now (places .exit))
         (now (states .exit)) r ⌝ }
 {
-    if !reg_settle::has_room(places, states) {
+    if !reg_clear::has_room(places, states) {
         return Reloaded::NotRegister;
     }
     match load::load(text, table) {
         Loaded::Refused { refusal, place } => Reloaded::Refused { refusal, place },
         Loaded::Accepted { length, warnings } => {
-            reg_settle::clear_states(states);
+            reg_clear::clear_states(states);
             let changed = reg_settle::settle(places, table);
             Reloaded::Accepted {
                 length,

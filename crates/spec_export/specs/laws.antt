@@ -3,7 +3,6 @@ pub mod SameTable
 pub mod Quotes
 pub mod Limits
 pub mod Bound
-pub mod Length
 pub mod QuotesBack
 pub mod Unwritable
 pub mod Back

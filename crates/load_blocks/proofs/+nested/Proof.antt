@@ -4,7 +4,8 @@ use Rattle.load_elements.specs.laws.Stacks.{then, then-equal, when}
 use Rattle.load_elements.specs.laws.Kinds.{some-remain}
 use Rattle.load_blocks.specs.laws.Blocks.{is-name-low, bound-nested, closes-one, closes-done, closes-nested}
 use Rattle.load_elements.specs.Reads.{expected, remaining}
-use Rattle.load_blocks.specs.Blocks.{is-name, nested-elements, nesting-bound}
+use Rattle.load_tokens.specs.Names.{is-name}
+use Rattle.load_blocks.specs.Blocks.{nested-elements, nesting-bound}
 use Rattle.spec_grammar.specs.Reader.{inner, often, block-element, no-role}
 use Rattle.spec_token.specs.declared.Kind.the-variants as kind
 use mathlib.Core.Bool.{not}
@@ -20,7 +21,7 @@ use Rattle.load_blocks.proofs.nested.Kinds as nested-kinds
 use Rattle.load_blocks.proofs.+nested.Lts-nested as nested-lts
 use Rattle.load_elements.proofs.arguments.Reads as arguments-reads
 use Rattle.load_elements.proofs.expect.Reads as expect-reads
-use Rattle.load_blocks.proofs.is_name.Reads as is-name-reads
+use Rattle.load_tokens.proofs.is_name.Reads as is-name-reads
 use Rattle.load_elements.proofs.kind_at.Reads as kind-at-reads
 use Rattle.load_blocks.proofs.open_block.Reads as open-block-reads
 use Rattle.load_blocks.proofs.+nested.{statement}

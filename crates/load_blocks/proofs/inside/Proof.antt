@@ -4,7 +4,8 @@ use mathlib.Core.List.{_∷_}
 use native.Mathlib.Omega.{arith}
 use Rattle.spec_grammar.specs.Reader.{once, block-name, block-number}
 use Rattle.load_blocks.specs.laws.Blocks.{is-name-low, number-low}
-use Rattle.load_blocks.specs.Blocks.{is-name, float-or-int}
+use Rattle.load_tokens.specs.Names.{is-name}
+use Rattle.load_blocks.specs.Blocks.{float-or-int}
 use Rattle.load_elements.specs.laws.Stacks.{then, when, when-as}
 use Rattle.load_elements.specs.Reads.{expected}
 use borrow.Author.Needs.{needs}

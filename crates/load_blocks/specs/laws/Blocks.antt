@@ -11,7 +11,8 @@ use Rattle.load_elements.specs.declared.Cursor.{Cursor}
 use Rattle.load_elements.specs.Reads.{remaining, parse-at, Leads}
 use Rattle.load_blocks.specs.declared.Opened.{Opened}
 use Rattle.load_blocks.specs.declared.Opened.the-variants as opened
-use Rattle.load_blocks.specs.Blocks.{is-name, float-or-int, nested-elements, parse-opened, remaining-opened, nesting-bound, Closes}
+use Rattle.load_tokens.specs.Names.{is-name}
+use Rattle.load_blocks.specs.Blocks.{float-or-int, nested-elements, parse-opened, remaining-opened, nesting-bound, Closes}
 
 pub is-name-low : (x : ℕ) → is-name x ≡ true → x < 14
 is-name-low x h = go (leb x 5) refl h

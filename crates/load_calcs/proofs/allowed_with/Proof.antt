@@ -1,4 +1,4 @@
-use Rattle.calc_truth.specs.laws.Answers.{with-yes, with-no}
+use Rattle.calc_letters.specs.laws.Given.{with-yes, with-no}
 use borrow.Author.Needs.{needs}
 use Rattle.load_calcs.proofs.allowed_with.Statement.{statement}
 use Rattle.load_calcs.proofs.allowed_with.Tie as tie

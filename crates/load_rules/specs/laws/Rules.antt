@@ -3,7 +3,7 @@ use mathlib.Core.Path.{_≡_, refl}
 use mathlib.Core.Bool.{Bool, true, false, cond}
 use Prim.Native.Nat.{ℕ, _<_}
 use native.Mathlib.Omega.{arith}
-use Rattle.load_blocks.specs.Blocks.{is-name}
+use Rattle.load_tokens.specs.Names.{is-name}
 use Rattle.load_blocks.specs.laws.Blocks.{is-name-low}
 use Rattle.load_rules.specs.Rules.{name-or-string}
 

@@ -6,19 +6,16 @@ use mathlib.Core.Option.{Option, none, some}
 use Prim.Native.Nat.{ℕ, suc, _+_, _-_, _*_, _^_, _≤_, _<_}
 use native.Mathlib.Omega.{arith}
 use lib.Ieee.{Float}
-use lib.ListN.{length, getD, set, replicate, length-set}
+use lib.ListN.{length, getD}
 use lib.Seq.{sets, length-sets}
-use borrow.Author.Tests.{leb-true}
-use Rattle.spec_lists.specs.laws.Both.{both}
 use Rattle.spec_lists.specs.laws.Sets.{getD-sets}
 use Rattle.spec_rule.specs.declared.Decision.{Decision}
 use Rattle.spec_rule.specs.Kept.{bit, says-stands}
 use Rattle.spec_register.specs.Register.{Client, client-of, most-clients, never-heard}
 use Rattle.spec_register.specs.Right.{differ}
 use Rattle.spec_rule.specs.Number.{decision-from}
-use Rattle.spec_places.specs.Storage.{Lent, places-bytes, all-readings, are-places, at-place, kept-at, client-from, readings-in, right-in}
+use Rattle.spec_places.specs.Storage.{at-place, kept-at, client-from, readings-in, right-in}
 use Rattle.spec_places.specs.Writing.{kept, settled-client, settled}
-use Rattle.spec_places.specs.Calls.{are-states, has-room}
 use Rattle.spec_places.specs.laws.Fits.{kept-length, kept-least}
 use Rattle.spec_places.specs.laws.Records.{right-read}
 use Rattle.spec_places.specs.laws.Frame.{settled-local}
@@ -123,40 +120,3 @@ module _ (t : List ℕ) (b₀ : List ℕ) where
   pub settling-all : {b : List ℕ} {p m : ℕ} → p ≡ 0 → Settling t b₀ p b m → All-settled t b₀ b m
   unfolding Visits
   settling-all e v = let w = visited-all (settled-local t) (rw e at (v .visited)) in record { left = w .0; changed = w .1 }
-
--- ---- the states: those before i are cleared
-
-pub record Clearing (b₀ : List ℕ) (i : ℕ) (b : List ℕ) : Type 0 where
-  pub inside : i ≤ all-readings
-  pub left : sets b i (replicate (all-readings - i) 0) ≡ sets b₀ 0 (replicate all-readings 0)
-  pub same-length : length b ≡ length b₀
-
-module _ (b₀ : List ℕ) where
-  pub clearing-none : Clearing b₀ 0 b₀
-  clearing-none = record { inside = omega arith; left = refl; same-length = refl }
-
-  pub clearing-more : {i j : ℕ} {b : List ℕ} → i < all-readings → j ≡ suc i → Clearing b₀ i b → Clearing b₀ j (set b i 0)
-  clearing-more {i} {j} {b} h e v =
-      let z : all-readings - i ≡ suc (all-readings - suc i) = omega arith in
-      record {
-        inside = omega arith;
-        left =
-            ap (λ (k : ℕ). sets (set b i 0) k (replicate (all-readings - k) 0)) e
-            ∙ sym (ap (λ (n : ℕ). sets b i (replicate n 0)) z)
-            ∙ v .left;
-        same-length = length-set b i 0 ∙ v .same-length;
-      }
-
-  pub clearing-all : {i : ℕ} {b : List ℕ} → all-readings ≤ i → Clearing b₀ i b → b ≡ sets b₀ 0 (replicate all-readings 0)
-  clearing-all {i} {b} h v =
-      let z : all-readings - i ≡ 0 = omega arith in sym (ap (λ (n : ℕ). sets b i (replicate n 0)) z) ∙ v .left
-
--- ---- slices that are long enough
-
-module _ (s : Lent) (e : has-room s ≡ true) where
-  pub room-places : Placed (s .places) 0
-  room-places =
-      record { inside = omega arith; room = leb-true places-bytes (length (s .places)) (both (are-places (s .places)) (are-states (s .states)) e .0) }
-
-  pub room-states : all-readings ≤ length (s .states)
-  room-states = leb-true all-readings (length (s .states)) (both (are-places (s .places)) (are-states (s .states)) e .1)

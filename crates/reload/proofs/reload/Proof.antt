@@ -1,5 +1,5 @@
 use Rattle.reload.specs.laws.Reload.{no-room, table-left, reload-refused, reload-accepted}
-use Rattle.reg_settle.specs.laws.Settle.{room-places, room-states}
+use Rattle.reg_clear.specs.laws.Clear.{room-places, room-states}
 use Rattle.spec_places.specs.Storage.{lent}
 use borrow.Author.Tests.{not-true, not-false}
 use mathlib.Core.List.{[]}

@@ -1,4 +1,4 @@
-use Rattle.table.specs.laws.Records.{calculation-inside, calculation-bytes, calculation-is}
+use Rattle.table_records.specs.laws.Records.{calculation-inside, calculation-bytes, calculation-is}
 use Rattle.table_fields.specs.Field.{record-at}
 use Rattle.spec_table.specs.laws.Fields.{has-header}
 use Rattle.spec_calc.specs.Reader.{tree-of}

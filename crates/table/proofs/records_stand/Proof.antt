@@ -1,5 +1,5 @@
 use Rattle.table_runs.specs.laws.All.{all-on, all-off, all-end}
-use Rattle.table.specs.Records.{section-stands}
+use Rattle.table_records.specs.Records.{section-stands}
 use Rattle.spec_table.specs.View.{view}
 use Rattle.spec_table.specs.Layout.{sections}
 use Rattle.spec_file.specs.Limit.{references}

@@ -1,4 +1,4 @@
-use Rattle.table.specs.laws.Records.{rule-is}
+use Rattle.table_records.specs.laws.Records.{rule-is}
 use Rattle.table_fields.specs.Field.{record-at}
 use mathlib.Core.Path.{refl, sym, _∙_}
 use borrow.Author.Needs.{needs}

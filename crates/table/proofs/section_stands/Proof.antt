@@ -1,5 +1,5 @@
 use Rattle.table_runs.specs.laws.All.{all-on, all-off, all-end}
-use Rattle.table.specs.Records.{record-stands, section-stands}
+use Rattle.table_records.specs.Records.{record-stands, section-stands}
 use Rattle.table_fields.specs.Field.{section-at}
 use Rattle.table_fields.specs.laws.Fields.{rows-count, two-words}
 use Rattle.spec_table.specs.laws.Fields.{has-header}

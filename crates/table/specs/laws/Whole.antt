@@ -13,7 +13,7 @@ use Rattle.spec_table.specs.Layout.{Content, sections, width}
 use Rattle.spec_table.specs.View.{view}
 use Rattle.spec_table.specs.Check.{run-at, string-fits, letter-field, sections-stand, counts-fit, runs-stand, names-fit, letters-stand, rule-stands, is-table}
 use Rattle.table_fields.specs.Field.{section-at}
-use Rattle.table.specs.Records.{name-stands, record-stands, section-stands}
+use Rattle.table_records.specs.Records.{name-stands, record-stands, section-stands}
 
 -- ---- a record by the number of its section
 
