@@ -1,0 +1,3 @@
+pub mod Room
+pub mod Names
+pub mod laws

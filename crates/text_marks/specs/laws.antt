@@ -1,0 +1,4 @@
+pub mod Left
+pub mod Names
+pub mod Ended
+pub mod Filled
