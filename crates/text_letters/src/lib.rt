@@ -59,5 +59,5 @@ pub fn letter_missing(table: &[u8], rule: usize, given: &[bool; 21]) -> bool
     requires { ⌜ Stored (now table) rules rule ⌝ }
     ensures { λ r. ⌜ Calculation-judged (now (table .entry)) rule (now (given .entry)) r ⌝ }
 {
-    !calc_truth::letters_given(table_read::name_of(table, Section::Rules, rule), given)
+    !calc_letters::letters_given(table_read::name_of(table, Section::Rules, rule), given)
 }

@@ -20,8 +20,8 @@ use Rattle.spec_table.specs.Table.{calculation-run, no-calculation}
 use Rattle.spec_table.specs.Policy.{string, row}
 use Rattle.spec_table.specs.laws.Standing.{stands, calculation-there}
 use Rattle.spec_text.specs.Faults.{calculation-faulty}
-use Rattle.calc_truth.specs.Answer.{given-letter, byte-letters}
-use Rattle.calc_truth.specs.laws.Letters.{bytes-same}
+use Rattle.calc_letters.specs.Letters.{given-letter, byte-letters}
+use Rattle.calc_letters.specs.laws.Letters.{bytes-same}
 use Rattle.table_read.specs.Stored.{Stored}
 use Rattle.text_letters.specs.Letters.{Letters-are, Calculation-judged}
 
