@@ -1,5 +1,5 @@
 -- A machine that finds on what a file says whether its text has a cause for a refusal 2 to 10 or 12, where the file keeps the limits that every table
--- keeps and its strings can be quoted. That it agrees is proved (laws/Text.antt), so nobody has to believe it.
+-- keeps and its strings can be quoted. That it agrees is proved (laws/Clear.antt, laws/Accepted.antt), so nobody has to believe it.
 use mathlib.Core.Bool.{Bool, true, false, not, _&&_, _||_}
 use mathlib.Core.List.{List, [], _∷_, map}
 use mathlib.Core.Option.{Option, none, some}

@@ -1,3 +1,4 @@
+pub mod Each
 pub mod Kinds
 pub mod Quotes
 pub mod Runs

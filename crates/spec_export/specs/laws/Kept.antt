@@ -1,15 +1,15 @@
 -- What a file's table says is the file, its hosts in lower case and without places.
-use mathlib.Core.Path.{_≡_, refl, sym, ap, _∙_}
+use mathlib.Core.Path.{_≡_, refl, sym, _∙_}
 use mathlib.Core.Bool.{cond}
 use mathlib.Core.List.{List, [], _∷_, _++_, map}
-use mathlib.Core.Option.{Option·getD}
 use Prim.Native.Nat.{ℕ}
 use lib.ListN.{length, getD, length-map}
 use Rattle.spec_lists.specs.Text.{lowered}
-use Rattle.spec_lists.specs.Select.{joined, beside, beside₃}
+use Rattle.spec_lists.specs.Select.{joined, beside}
 use Rattle.spec_lists.specs.Runs.{Run, runs, part}
-use Rattle.spec_lists.specs.laws.Joined.{length-runs, map-part, map-map, beside-left, beside-right}
-use Rattle.spec_lists.specs.laws.Alike.{Alike, nil₂, cons₂, map-same, alike, parts-of, runs-alike}
+use Rattle.spec_lists.specs.laws.Every.{every}
+use Rattle.spec_lists.specs.laws.Joined.{length-runs, map-map, beside-left, beside-right}
+use Rattle.spec_lists.specs.laws.Alike.{both-read, Alike}
 use Rattle.spec_lists.specs.laws.Same.{unchanged}
 use Rattle.spec_rule.specs.Rule.{Rule}
 use Rattle.spec_file.specs.Limit.{user-groups, host-groups, access-groups, rules, references}
@@ -17,25 +17,13 @@ use Rattle.spec_file.specs.Contents.{Group, Link, Rule-text, Asg, File}
 use Rattle.spec_file.specs.Meaning.{rule-in}
 use Rattle.spec_table.specs.Table.{run-at, rules-run, users-run, hosts-run}
 use Rattle.spec_table.specs.Policy.{string, name, members-of, rule-of}
-use Rattle.spec_table.specs.Written.{run-words, all-rules, Reference, number-of, references-to, reference-lists, names, spots, flags, calculation-words, two-runs}
-use Rattle.spec_table.specs.Written.{records, content}
+use Rattle.spec_table.specs.Written.{run-words, all-rules, Reference, number-of, references-to, reference-lists, names, spots, records, content}
 use Rattle.spec_table.specs.laws.Fits.{Fits}
-use Rattle.spec_table.specs.laws.Preserved.{strings-kept, spots-length, uags-kept, hags-kept, rule-records-kept, asgs-kept, links-of, names-kept, links-kept}
+use Rattle.spec_table.specs.laws.Preserved.{strings-kept, spots-length, uags-kept, hags-kept, references-kept, rows-kept, rule-records-kept}
+use Rattle.spec_table.specs.laws.Preserved.{rule-lists-kept, links-of, names-kept, links-kept}
 use Rattle.spec_text.specs.laws.Unplaced.{unplaced-rule, unplaced-asg, lowered-group, kept}
 use Rattle.spec_text.specs.laws.KeptText.{no-empty}
 use Rattle.spec_export.specs.Says.{group-in, names-in, rule-text-in, asg-in, file-in}
-
--- what is read of two lists in two ways, taken together
-both-read :
-    {X Y A B C : Type 0} (k : A → B → C) (g : X → A) (g′ : Y → A) (h : X → B) (h′ : Y → B) (xs : List X) (ys : List Y)
-    → map g xs ≡ map g′ ys → map h xs ≡ map h′ ys → map (λ x. k (g x) (h x)) xs ≡ map (λ y. k (g′ y) (h′ y)) ys
-both-read k g g′ h h′ [] [] p q = refl
-both-read k g g′ h h′ [] (y ∷ ys) p q = cc
-both-read k g g′ h h′ (x ∷ xs) [] p q = cc
-both-read k g g′ h h′ (x ∷ xs) (y ∷ ys) p q =
-    let a : g x ≡ g′ y = cc in
-    let b : h x ≡ h′ y = cc in
-    cc (both-read k g g′ h h′ xs ys (cc) (cc))
 
 -- ---- groups
 
@@ -104,14 +92,7 @@ module _ (f : File) where
       ∙ strings-kept f 5
 
   references-said : Alike (Named f) (runs 0 (reference-lists f)) (reference-lists f)
-  references-said =
-      alike
-      (names-in (content f))
-      (map (λ x. x .name))
-      (runs 0 (reference-lists f))
-      (reference-lists f)
-      (map-same (λ r. map-part (name (content f) references) r (records f references) ∙ ap (part r) reference-names) (runs 0 (reference-lists f))
-      ∙ parts-of (λ x. x .name) [] (reference-lists f))
+  references-said = references-kept f (name (content f) references) (λ x. x .name) reference-names
 
 -- references have the names that they were made of
 names-again : (gs : List Group) (ss : List (List ℕ)) → map (λ x. x .name) (references-to gs ss) ≡ ss
@@ -144,14 +125,13 @@ rule-with r n =
     }
 
 module _ (f : File) where
-  rows-said :
-      {Q : Run → Rule-text → Type 0} {rs : List Rule-text} {xs qs : List Run} → Alike Q qs rs
-      → Alike (Named f) xs (joined (map (λ r. references-to (f .uags) (r .uags) ∷ references-to (f .hags) (r .hags) ∷ []) rs))
-      → map (groups-in f) (beside₃ (λ r refs calc. flags r ∷ (refs ++ calculation-words (r .calculation) calc)) rs (two-runs xs) qs) ≡ map groups-of rs
-  rows-said nil₂ nil₂ = refl
-  rows-said (cons₂ {x = q} {y = r} s ss) (cons₂ {x = u} us (cons₂ {x = h} hs refs)) =
+  groups-said : map (groups-in f) (records f rules) ≡ map groups-of (all-rules f)
+  groups-said =
+      rows-kept {P = λ r. r ≡ r} f (groups-in f) groups-of
       -- a row's runs are u and h
-      cc (us ∙ names-again (f .uags) (r .uags), hs ∙ names-again (f .hags) (r .hags), rows-said ss refs)
+      (λ r u h q p us hs s. cc (us ∙ names-again (f .uags) (r .uags), hs ∙ names-again (f .hags) (r .hags)))
+      (every (λ r. refl) (all-rules f))
+      (references-said f)
 
   module _ (fits : Fits f) where
     rules-said : map (rule-text-in (content f)) (records f rules) ≡ map unplaced-rule (all-rules f)
@@ -165,27 +145,13 @@ module _ (f : File) where
         (records f rules)
         (all-rules f)
         (rule-records-kept f fits no-empty)
-        (rows-said
-        (alike (string (content f)) (λ r. Option·getD (r .calculation) []) (spots f 6) (all-rules f) (strings-kept f 6))
-        (references-said f))
+        groups-said
 
     -- the rules of each access group
     rule-lists-said :
         map (λ row. map (rule-text-in (content f)) (part (rules-run row) (records f rules))) (records f access-groups)
         ≡ map (λ a. map unplaced-rule (a .rules)) (f .asgs)
-    rule-lists-said =
-        asgs-kept
-        f
-        (λ row. map (rule-text-in (content f)) (part (rules-run row) (records f rules)))
-        (λ a. map unplaced-rule (a .rules))
-        (λ n i r a s t u. map-part (rule-text-in (content f)) r (records f rules) ∙ ap (part r) rules-said ∙ u)
-        (runs-alike (λ a. a .inputs) (f .asgs))
-        (alike
-        (λ r. part r (map unplaced-rule (all-rules f)))
-        (λ a. map unplaced-rule (a .rules))
-        (runs 0 (map (λ a. a .rules) (f .asgs)))
-        (f .asgs)
-        (parts-of unplaced-rule [] (map (λ a. a .rules) (f .asgs)) ∙ map-map (map unplaced-rule) (λ a. a .rules) (f .asgs)))
+    rule-lists-said = rule-lists-kept f (rule-text-in (content f)) unplaced-rule rules-said
 
 -- ---- access groups
 

@@ -1,31 +1,32 @@
 -- The file that a well-formed table says keeps the limits.
 use mathlib.Core.Path.{_≡_, refl, sym, ap, _∙_}
-use mathlib.Core.Bool.{Bool, true, false, not, _&&_, _||_, false≢true}
+use mathlib.Core.Bool.{true}
 use mathlib.Core.List.{List, [], _∷_, _++_, map, append-assoc}
 use Prim.Native.Nat.{ℕ, _+_, _≤_}
 use native.Mathlib.Omega.{arith}
 use lib.Dec.{eqb, leb}
 use lib.ListN.{length, drop, length-take, length-map, length-append, take-append-drop, drop-of-length-le}
 use lib.Seq.{drop-drop}
-use borrow.Author.Tests.{leb-true, eqb-true, not-true}
+use borrow.Author.Tests.{leb-true, eqb-true}
 use Rattle.spec_lists.specs.Select.{all, joined}
 use Rattle.spec_lists.specs.Runs.{Run, part}
 use Rattle.spec_lists.specs.Every.{Every}
 use Rattle.spec_lists.specs.laws.Both.{both}
 use Rattle.spec_lists.specs.laws.Every.{every, every-map, every-implies, all-every}
-use Rattle.spec_lists.specs.laws.Joined.{joined-append, map-append, map-joined, map-map}
-use Rattle.spec_rule.specs.Answering.{greatest-level}
+use Rattle.spec_lists.specs.laws.Joined.{each-append, map-joined, map-map}
+use Rattle.spec_lists.specs.laws.Runs.{every-part}
 use Rattle.spec_token.specs.Word.{greatest-letter}
-use Rattle.spec_file.specs.Limit.{Section, user-groups, host-groups, members, access-groups, inputs, rules, references, most, longest-name, longest-calculation}
+use Rattle.spec_rule.specs.Answering.{greatest-level}
+use Rattle.spec_file.specs.Limit.{Section, user-groups, host-groups, members, access-groups, inputs, rules, references, most, longest-name}
+use Rattle.spec_file.specs.Limit.{longest-calculation}
 use Rattle.spec_table.specs.Layout.{Content}
 use Rattle.spec_table.specs.Policy.{name, members-of, rule-of}
-use Rattle.spec_table.specs.Check.{members-run, inputs-run, rules-run, users-run, hosts-run, calculation-run, name-run, flags-field, letter-field, level-bit}
-use Rattle.spec_table.specs.Check.{in-turn, counts-fit, runs-stand, names-fit, letters-stand, rule-stands, well-formed, string-fits, named-sections}
-use Rattle.spec_table.specs.Check.{flags-stand, calculation-stands, numbers-fit, no-calculation}
-use Rattle.spec_table.specs.laws.Standing.{records-few}
+use Rattle.spec_table.specs.Check.{members-run, inputs-run, rules-run, users-run, hosts-run, calculation-run, name-run, flags-field, letter-field}
+use Rattle.spec_table.specs.Check.{level-bit, in-turn, rule-stands, well-formed, string-fits, named-sections}
+use Rattle.spec_table.specs.laws.Standing.{rule-parts, calculation-parts, conditions, records-few, in-runs}
 use Rattle.spec_text.specs.laws.Keeps.{Calculation-of, Short-name, Short-calculation, Short, Asg-named, named-in, Few, Keeps}
 use Rattle.spec_export.specs.Says.{names-in, group-in, link-in, rule-text-in, asg-in, file-in}
-use Rattle.spec_export.specs.laws.Quotes.{every-part, Names, calculation-passes, strings-pass}
+use Rattle.spec_export.specs.laws.Quotes.{Names, calculation-passes, strings-pass}
 
 -- ---- runs that use up their section
 
@@ -39,12 +40,12 @@ module _ {A : Type 0} (xs : List A) where
 
 module _ {A B : Type 0} (f : A → B) (xs : List A) where
   -- so what the elements of the runs are read as is what those of the list are read as
-  pub joined-runs : (rs : List Run) → in-turn 0 rs (length xs) ≡ true → joined (map (λ r. map f (part r xs)) rs) ≡ map f xs
+  joined-runs : (rs : List Run) → in-turn 0 rs (length xs) ≡ true → joined (map (λ r. map f (part r xs)) rs) ≡ map f xs
   joined-runs rs h =
       ap joined (sym (map-map (map f) (λ r. part r xs) rs)) ∙ sym (map-joined f (map (λ r. part r xs) rs)) ∙ ap (map f) (joined-parts xs 0 rs h)
 
   -- one run of each record
-  pub joined-rows :
+  joined-rows :
       {R : Type 0} (run : R → Run) (rows : List R) → in-turn 0 (map run rows) (length xs) ≡ true
       → joined (map (λ row. map f (part (run row) xs)) rows) ≡ map f xs
   joined-rows run rows h = ap joined (sym (map-map (λ r. map f (part r xs)) run rows)) ∙ joined-runs (map run rows) h
@@ -82,65 +83,36 @@ module _ (c : Content) (w : well-formed c ≡ true) where
 
   calculation-short : (row : List ℕ) → rule-stands c row ≡ true → Calculation-of Short-name Short-calculation (rule-of c row .calculation)
   calculation-short row h =
-      let r = calculation-run row in
-      let numbers = numbers-fit c user-groups (users-run row) && numbers-fit c host-groups (hosts-run row) in
-      let k = both (flags-stand (flags-field row)) (calculation-stands c r && numbers) h in
-      let s = both (calculation-stands c r) numbers (k .1) in
       calculation-passes c row (λ n.
-      let t = there (no-calculation r) (string-fits c longest-calculation r) _ n (s .0) in
-      record { short = fits-short longest-calculation r (t .0); tree = t .1 })
-    where
-      there : (a f m : Bool) → a ≡ false → a || f && not m ≡ true → (f ≡ true) × (m ≡ false)
-      there true f m n h = absurd (false≢true (sym n))
-      there false f m n h = let k = both f (not m) h in (k .0, not-true m (k .1))
-
-  -- the conditions, one by one
-
-  conditions : (runs-stand c ≡ true) × (names-fit c ≡ true) × (letters-stand c ≡ true) × (all (rule-stands c) (c .records rules) ≡ true)
-  conditions =
-      let x = both (counts-fit c) _ w in
-      let y = both (runs-stand c) _ (x .1) in
-      let z = both (names-fit c) _ (y .1) in
-      let v = both (letters-stand c) _ (z .1) in
-      (y .0, z .0, v .0, v .1)
-
-  runs-in-turn :
-      (in-turn 0 (map members-run (c .records user-groups ++ c .records host-groups)) (length (c .records members)) ≡ true)
-      × (in-turn 0 (map inputs-run (c .records access-groups)) (length (c .records inputs)) ≡ true)
-      × (in-turn 0 (map rules-run (c .records access-groups)) (length (c .records rules)) ≡ true)
-      × (in-turn 0 (joined (map (λ r. users-run r ∷ hosts-run r ∷ []) (c .records rules))) (length (c .records references)) ≡ true)
-  runs-in-turn =
-      let x = both (in-turn 0 (map members-run (c .records user-groups ++ c .records host-groups)) (length (c .records members))) _ (conditions .0) in
-      let y = both (in-turn 0 (map inputs-run (c .records access-groups)) (length (c .records inputs))) _ (x .1) in
-      let z = both (in-turn 0 (map rules-run (c .records access-groups)) (length (c .records rules))) _ (y .1) in
-      (x .0, y .0, z .0, z .1)
+      let t = calculation-parts c (calculation-run row) (rule-parts c row h .0) n in
+      record { short = fits-short longest-calculation (calculation-run row) (t .0); tree = t .1 })
 
   short : Short (file-in c)
   short =
       strings-pass c
-      (every-implies names-short (all-every _ named-sections (conditions .1)))
-      (every-implies calculation-short (all-every (rule-stands c) (c .records rules) (conditions .3)))
+      (every-implies names-short (all-every _ named-sections (conditions c w .1)))
+      (every-implies calculation-short (all-every (rule-stands c) (c .records rules) (conditions c w .3)))
 
   -- what stands in the sections, group by group and rule by rule
 
   pub members-all : joined (map (members-of c) (c .records user-groups ++ c .records host-groups)) ≡ map (name c members) (c .records members)
-  members-all = joined-rows (name c members) (c .records members) members-run (c .records user-groups ++ c .records host-groups) (runs-in-turn .0)
+  members-all = joined-rows (name c members) (c .records members) members-run (c .records user-groups ++ c .records host-groups) (in-runs c w .0)
 
   pub inputs-all : joined (map (λ a. a .inputs) (file-in c .asgs)) ≡ map (link-in c) (c .records inputs)
   inputs-all =
       ap joined (map-map (λ a. a .inputs) (asg-in c) (c .records access-groups))
-      ∙ joined-rows (link-in c) (c .records inputs) inputs-run (c .records access-groups) (runs-in-turn .1)
+      ∙ joined-rows (link-in c) (c .records inputs) inputs-run (c .records access-groups) (in-runs c w .1)
 
   pub rules-all : joined (map (λ a. a .rules) (file-in c .asgs)) ≡ map (rule-text-in c) (c .records rules)
   rules-all =
       ap joined (map-map (λ a. a .rules) (asg-in c) (c .records access-groups))
-      ∙ joined-rows (rule-text-in c) (c .records rules) rules-run (c .records access-groups) (runs-in-turn .2)
+      ∙ joined-rows (rule-text-in c) (c .records rules) rules-run (c .records access-groups) (in-runs c w .2)
 
   pub references-all :
       joined (map named-in (joined (map (λ a. a .rules) (file-in c .asgs)))) ≡ map (name c references) (c .records references)
   references-all =
       rw (rules-all, map-map named-in (rule-text-in c) (c .records rules), joined-pairs (names-in c) users-run hosts-run (c .records rules))
-      (joined-runs (name c references) (c .records references) (joined (map (λ r. users-run r ∷ hosts-run r ∷ []) (c .records rules))) (runs-in-turn .3))
+      (joined-runs (name c references) (c .records references) (joined (map (λ r. users-run r ∷ hosts-run r ∷ []) (c .records rules))) (in-runs c w .3))
 
   -- counts
 
@@ -153,8 +125,7 @@ module _ (c : Content) (w : well-formed c ≡ true) where
       (omega (
         arith,
         ap length members-all,
-        ap (λ l. length (joined l)) (map-append (members-of c) us hs),
-        ap length (joined-append (map (members-of c) us) (map (members-of c) hs)),
+        ap length (each-append (members-of c) us hs),
         length-append (joined (map (members-of c) us)) (joined (map (members-of c) hs)),
         length-map (c .records members) (name c members),
         records-few c w members,
@@ -174,7 +145,7 @@ module _ (c : Content) (w : well-formed c ≡ true) where
 
   named : Every Asg-named (file-in c .asgs)
   named =
-      let letters = every-implies letter-fits (all-every (λ row. leb (letter-field row) greatest-letter) (c .records inputs) (conditions .2)) in
+      let letters = every-implies letter-fits (all-every (λ row. leb (letter-field row) greatest-letter) (c .records inputs) (conditions c w .2)) in
       every-map (asg-in c)
       (every
       (λ row.

@@ -1,15 +1,13 @@
 -- What holds of the names of a table's records holds of the strings of the file that it says.
-use mathlib.Core.Path.{_≡_, refl, sym, _∙_}
+use mathlib.Core.Path.{_≡_, refl}
 use mathlib.Core.Bool.{Bool, true, false, cond}
-use mathlib.Core.List.{List, [], _∷_, map}
+use mathlib.Core.List.{List, map}
 use mathlib.Core.Option.{none, some}
 use Prim.Native.Nat.{ℕ}
 use Rattle.spec_lists.specs.Select.{all, joined}
-use Rattle.spec_lists.specs.Runs.{Run, part}
 use Rattle.spec_lists.specs.Every.{Every, nil, cons}
-use Rattle.spec_lists.specs.laws.Both.{both}
-use Rattle.spec_lists.specs.laws.Every.{every-map, every-implies, every-take, every-drop, all-every, all-append}
-use Rattle.spec_lists.specs.laws.Runs.{all-map}
+use Rattle.spec_lists.specs.laws.Every.{every-map, every-implies, all-every, every-unmap, every-unjoin}
+use Rattle.spec_lists.specs.laws.Runs.{every-part}
 use Rattle.spec_token.specs.Token.{Between-quotes}
 use Rattle.spec_file.specs.Limit.{Section, user-groups, host-groups, members, access-groups, inputs, rules, references}
 use Rattle.spec_table.specs.Layout.{Content, sections}
@@ -20,9 +18,6 @@ use Rattle.spec_text.specs.laws.Keeps.{Calculation-of, without, with, Group-of,
 use Rattle.spec_text.specs.laws.Quotable.{quotable-sound}
 use Rattle.spec_export.specs.Says.{group-in, link-in, rule-text-in, asg-in, file-in}
 use Rattle.spec_export.specs.Unwritable.{strings-in}
-
-pub every-part : {A : Type 0} {P : A → Type 0} (r : Run) {xs : List A} → Every P xs → Every P (part r xs)
-every-part r e = every-take (r .count) (every-drop (r .first) e)
 
 module _ (c : Content) where
   -- of the names of all records of a section
@@ -69,15 +64,10 @@ module _ (c : Content) where
 
   -- the names of some sections
   names-quotable : (ss : List Section) → all quotable (joined (map (λ s. map (name c s) (c .records s)) ss)) ≡ true → Every (Names Between-quotes) ss
-  names-quotable [] h = nil
-  names-quotable (s ∷ ss) h =
-      let here = map (name c s) (c .records s) in
-      let later = joined (map (λ s. map (name c s) (c .records s)) ss) in
-      let k = both (all quotable here) (all quotable later) (sym (all-append quotable here later) ∙ h) in
-      let l = all-map quotable (name c s) (c .records s) ∙ k .0 in
-      cons
-      (every-implies (λ row q. quotable-sound (name c s row) q) (all-every (λ row. quotable (name c s row)) (c .records s) l))
-      (names-quotable ss (k .1))
+  names-quotable ss h =
+      every-implies
+      (λ s e. every-unmap (name c s) (c .records s) (every-implies quotable-sound e))
+      (every-unjoin (λ s. map (name c s) (c .records s)) ss (all-every quotable _ h))
 
 pub strings-quotable : (c : Content) → all quotable (strings-in c) ≡ true → Quotable (file-in c)
 strings-quotable c h = go (names-quotable c sections h)

@@ -1,7 +1,7 @@
 -- A well-formed table's records name no string that the file which it says does not have: if all of that file's can be quoted, all of the table's can.
 use mathlib.Core.Path.{_≡_, refl, sym, subst}
 use mathlib.Core.Bool.{Bool, true, false, cond}
-use mathlib.Core.List.{List, [], _∷_, map}
+use mathlib.Core.List.{List, map}
 use mathlib.Core.Option.{none, some}
 use Prim.Native.Nat.{ℕ}
 use lib.Dec.{eqb}
@@ -10,7 +10,7 @@ use borrow.Author.Tests.{eqb-true}
 use Rattle.spec_lists.specs.Select.{all}
 use Rattle.spec_lists.specs.Every.{Every, nil, cons}
 use Rattle.spec_lists.specs.laws.Both.{both}
-use Rattle.spec_lists.specs.laws.Every.{every-append, every-map, every-implies, every-joined, every-all}
+use Rattle.spec_lists.specs.laws.Every.{every-append, every-map, every-unmap, every-implies, every-joined, every-all}
 use Rattle.spec_token.specs.Token.{Between-quotes, nothing}
 use Rattle.spec_file.specs.Limit.{user-groups, host-groups, members, access-groups, inputs, rules}
 use Rattle.spec_file.specs.Contents.{Link, Asg}
@@ -19,15 +19,11 @@ use Rattle.spec_table.specs.Table.{calculation-run, no-calculation}
 use Rattle.spec_table.specs.Policy.{string, name, members-of, rule-of}
 use Rattle.spec_table.specs.Check.{well-formed}
 use Rattle.spec_text.specs.Faults.{quotable}
-use Rattle.spec_text.specs.laws.Keeps.{Calculation-of, without, with, Rule-of, Quotable, named-in}
+use Rattle.spec_text.specs.laws.Keeps.{Calculation-of, with, Rule-of, Quotable, named-in}
 use Rattle.spec_text.specs.laws.Quotable.{quotable-complete}
 use Rattle.spec_export.specs.Says.{group-in, link-in, rule-text-in, asg-in, file-in}
 use Rattle.spec_export.specs.Unwritable.{strings-in}
 use Rattle.spec_export.specs.laws.Limits.{members-all, inputs-all, rules-all, references-all}
-
-every-unmap : {A B : Type 0} {P : B → Type 0} (f : A → B) (xs : List A) → Every P (map f xs) → Every (λ x. P (f x)) xs
-every-unmap f [] e = nil
-every-unmap f (x ∷ xs) (cons p e) = cons p (every-unmap f xs e)
 
 module _ (c : Content) (w : well-formed c ≡ true) (q : Quotable (file-in c)) where
   abbrev P : List ℕ → Type 0

@@ -1,26 +1,23 @@
 -- What a table keeps of a file has the file's table.
-use mathlib.Core.Path.{_≡_, refl, sym, ap, ap₂, subst, _∙_, fun-ext}
+use mathlib.Core.Path.{_≡_, refl, sym, ap, ap₂, _∙_, fun-ext}
 use mathlib.Core.Bool.{Bool, true, false, cond}
 use mathlib.Core.List.{List, [], _∷_, _++_, map}
 use mathlib.Core.Option.{Option·getD}
-use Prim.Native.Nat.{ℕ, _+_, _*_, _≤_}
+use Prim.Native.Nat.{ℕ, _+_, _*_}
 use native.Mathlib.Omega.{arith}
-use lib.ListN.{length, take, getD, length-map}
+use lib.ListN.{length, getD}
 use Rattle.spec_lists.specs.Text.{same, capital, lower-byte, lowered}
 use Rattle.spec_lists.specs.Select.{joined, beside}
 use Rattle.spec_lists.specs.Runs.{Run, runs, spread}
-use Rattle.spec_lists.specs.Every.{Every}
-use Rattle.spec_lists.specs.laws.Alike.{map-same}
-use Rattle.spec_lists.specs.laws.Every.{every-map}
+use Rattle.spec_lists.specs.laws.Alike.{beside-alike, map-same}
 use Rattle.spec_lists.specs.laws.Joined.{map-map, map-joined, runs-map}
 use Rattle.spec_lists.specs.laws.Range.{above, bounded}
 use Rattle.spec_rule.specs.Rule.{rank}
-use Rattle.spec_file.specs.Limit.{Section, user-groups, host-groups, members, access-groups, inputs, rules, references, most-bytes, longest-name}
+use Rattle.spec_file.specs.Limit.{Section, user-groups, host-groups, members, access-groups, inputs, rules, references}
 use Rattle.spec_file.specs.Contents.{Group, Rule-text, File}
 use Rattle.spec_table.specs.Layout.{layout}
-use Rattle.spec_table.specs.Written.{member-lists, all-links, all-rules, Reference, number-of, references-to, reference-lists, names, spots}
-use Rattle.spec_table.specs.Written.{flag, flags, calculation-words, two-runs, records, content, table-of}
-use Rattle.spec_table.specs.laws.Fits.{Fits}
+use Rattle.spec_table.specs.Written.{member-lists, all-links, all-rules, Reference, number-of, references-to, reference-lists, names, spots, flag}
+use Rattle.spec_table.specs.Written.{flags, calculation-words, two-runs, records, content, table-of}
 use Rattle.spec_text.specs.laws.Unplaced.{unplaced-rule, unplaced-asg, lowered-group, kept}
 use Rattle.spec_text.specs.laws.KeptText.{still-off, read-alike}
 
@@ -33,22 +30,13 @@ lower-again b = go (capital b) refl
     go true e = let z = bounded 65 90 b e in rw (above 65 90 (b + 32) (omega arith))
     go false e = rw e
 
-pub lowered-again : (s : List ℕ) → lowered (lowered s) ≡ lowered s
+lowered-again : (s : List ℕ) → lowered (lowered s) ≡ lowered s
 lowered-again = read-alike lower-byte lower-byte lower-byte lower-again
-
--- ---- a changed element in a list beside another
-
-beside-alike :
-    {A B C : Type 0} (f : A → B → C) (g : A → A) → ((x : A) (y : B) → f (g x) y ≡ f x y) → (xs : List A) (ys : List B)
-    → beside f (map g xs) ys ≡ beside f xs ys
-beside-alike f g e [] ys = refl
-beside-alike f g e (x ∷ xs) [] = refl
-beside-alike f g e (x ∷ xs) (y ∷ ys) = cc (e x y, beside-alike f g e xs ys)
 
 -- ---- what stands in the sections
 
 module _ (f : File) where
-  pub same-members : member-lists (kept f) ≡ member-lists f
+  same-members : member-lists (kept f) ≡ member-lists f
   same-members =
       ap
       (λ (l : List (List (List ℕ))). map (λ g. g .members) (f .uags) ++ l)
@@ -59,14 +47,14 @@ module _ (f : File) where
       (λ g. read-alike lowered lowered lowered lowered-again (g .members))
       (f .hags))
 
-  pub same-links : all-links (kept f) ≡ all-links f
+  same-links : all-links (kept f) ≡ all-links f
   same-links = ap joined (map-map (λ a. a .inputs) unplaced-asg (f .asgs))
 
   -- the rules of each access group
   rule-lists : map (λ a. a .rules) (map unplaced-asg (f .asgs)) ≡ map (map unplaced-rule) (map (λ a. a .rules) (f .asgs))
   rule-lists = map-map (λ a. a .rules) unplaced-asg (f .asgs) ∙ sym (map-map (map unplaced-rule) (λ a. a .rules) (f .asgs))
 
-  pub kept-rules : all-rules (kept f) ≡ map unplaced-rule (all-rules f)
+  kept-rules : all-rules (kept f) ≡ map unplaced-rule (all-rules f)
   kept-rules = ap joined rule-lists ∙ sym (map-joined unplaced-rule (map (λ a. a .rules) (f .asgs)))
 
 same-number : (n : ℕ) (s : List ℕ) (gs : List Group) → number-of n s (map lowered-group gs) ≡ number-of n s gs
@@ -137,7 +125,7 @@ module _ (f : File) where
       (two-runs (runs 0 (reference-lists f)))))
   same-records references = rw (same-spots 5, same-reference-lists f)
 
-  pub same-content : content (kept f) ≡ content f
+  same-content : content (kept f) ≡ content f
   same-content =
       ap₂ (λ (r : Section → List (List ℕ)) (s : List ℕ). record { records = r; strings = s })
       (fun-ext same-records)
@@ -146,23 +134,3 @@ module _ (f : File) where
 pub same-table : (f : File) → table-of (kept f) ≡ table-of f
 unfolding table-of
 same-table f = ap layout (same-content f)
-
--- ---- the limits
-
-pub fits-kept : (f : File) → Fits f → Fits (kept f)
-fits-kept f ok =
-    record {
-      uag-count = ok .uag-count;
-      hag-count = rw (length-map (f .hags) lowered-group) (ok .hag-count);
-      member-count = rw (same-members f) (ok .member-count);
-      asg-count = rw (length-map (f .asgs) unplaced-asg) (ok .asg-count);
-      input-count = rw (same-links f) (ok .input-count);
-      rule-count = rw (kept-rules f, length-map (all-rules f) unplaced-rule) (ok .rule-count);
-      reference-count = rw (same-reference-lists f) (ok .reference-count);
-      string-bytes = subst (λ (l : List (List (List ℕ))). length (joined (joined l)) ≤ most-bytes) (sym (same-names f)) (ok .string-bytes);
-      name-lengths =
-          subst (λ (l : List (List (List ℕ))). Every (Every (λ s. length s ≤ longest-name)) (take 6 l)) (sym (same-names f)) (ok .name-lengths);
-      calculations = rw (kept-rules f) (every-map unplaced-rule (ok .calculations));
-      letters = rw (same-links f) (ok .letters);
-      levels = rw (kept-rules f) (every-map unplaced-rule (ok .levels));
-    }

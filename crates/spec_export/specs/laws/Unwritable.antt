@@ -7,7 +7,7 @@ use mathlib.Core.Option.{Option, none, some}
 use Prim.Native.Nat.{ℕ}
 use native.Mathlib.Omega.{arith}
 use Rattle.spec_lists.specs.Select.{all}
-use Rattle.spec_lists.specs.laws.Both.{both}
+use Rattle.spec_lists.specs.laws.Both.{both, neither}
 use Rattle.spec_token.specs.Token.{Between-quotes}
 use Rattle.spec_rule.specs.Privilege.{Some, here, further}
 use Rattle.spec_file.specs.declared.Refusal.{Refusal}
@@ -39,7 +39,7 @@ use Rattle.spec_export.specs.laws.Limits.{keeps}
 
 module _ (f : File) (q : Quotable f) (k : Keeps f) where
   -- a text with a fault has a cause
-  pub faulty-caused : faulty f ≡ true → (r : Refusal) × (p : ℕ) × Has-cause (text-of f) r p
+  faulty-caused : faulty f ≡ true → (r : Refusal) × (p : ℕ) × Has-cause (text-of f) r p
   faulty-caused e = go (defines-nothing f) refl
     where
       by-cause : (h : defines-nothing f ≡ false) (o : Option Refusal-at) → refused-by causes (contexts (said-at 0 (file-pieces f))) ≡ o → (r : Refusal) × (p : ℕ) × Has-cause (text-of f) r p
@@ -56,19 +56,12 @@ module _ (f : File) (q : Quotable f) (k : Keeps f) where
       go false h = by-cause h (refused-by causes (contexts (said-at 0 (file-pieces f)))) refl
 
   -- a text without a fault has none
-  pub faultless-free : faulty f ≡ false → (r : Refusal) (p : ℕ) → Has-cause (text-of f) r p → ⊥
+  faultless-free : faulty f ≡ false → (r : Refusal) (p : ℕ) → Has-cause (text-of f) r p → ⊥
   faultless-free e r p c =
-      let h : defines-nothing f ≡ false = defines e in
+      let h = neither (defines-nothing f) _ e .0 in
       let free = free-is (text-of f) (said-at 0 (file-pieces f)) (text-reads f q (k .named) h) (shallow f) (uncaused f 0 k e) in
       let clash = sym (cause-is (text-of f) r p c) ∙ free in
       let z : _≡_ {A = ℕ} 0 1 = cc in omega arith
-    where
-      defines : faulty f ≡ false → defines-nothing f ≡ false
-      defines e = go (defines-nothing f) _ refl e
-        where
-          go : (b r : Bool) → defines-nothing f ≡ b → b || r ≡ false → b ≡ false
-          go true r d e = e
-          go false r d e = refl
 
 -- ---- of a table
 

@@ -2,18 +2,21 @@
 use mathlib.Core.Path.{_≡_, refl, sym, ap, ap₂, subst, _∙_}
 use mathlib.Core.Bool.{Bool, true, false, cond, not, _&&_, _||_, false≢true}
 use mathlib.Core.List.{List, [], _∷_, _++_, map}
-use borrow.Author.Tests.{eq-eqb}
+use Prim.Native.Nat.{ℕ}
+use borrow.Author.Tests.{eq-eqb, not-true}
 use Rattle.spec_lists.specs.Select.{select, prepend-if, keep-if, all, joined}
 use Rattle.spec_lists.specs.laws.Both.{both}
 use Rattle.spec_lists.specs.Every.{Every, nil, cons}
 use Rattle.spec_lists.specs.laws.Every.{every-run, every-implies}
+use Rattle.spec_lists.specs.laws.Alike.{map-same}
+use Rattle.spec_lists.specs.laws.Joined.{map-map}
 use Rattle.spec_grammar.specs.declared.Role.{Role}
 use Rattle.spec_grammar.specs.declared.Role.the-variants.{NoRole}
 use Rattle.spec_grammar.specs.Codes.{role-number, same-role}
 use Rattle.spec_grammar.specs.Sentence.{Tagged}
 use Rattle.spec_grammar.specs.laws.Roles.{same-role-is, one-of, one-of-all}
 use Rattle.spec_grammar.specs.laws.Items.{roles, Headed, before, head, headed-all}
-use Rattle.spec_file.specs.Contents.{has-role, until, Clause, clauses}
+use Rattle.spec_file.specs.Contents.{has-role, text, texts, until, Clause, clauses}
 
 -- x says one of rs
 abbrev pub says-one-of : List Role → Tagged → Bool
@@ -31,9 +34,29 @@ module _ (r : Role) where
   clauses-none nil = refl
   clauses-none (cons e c) = rw (e, clauses-none c)
 
-  until-all : {xs : List Tagged} → Every (λ x. has-role r x ≡ false) xs → until r xs ≡ xs
+  pub until-all : {xs : List Tagged} → Every (λ x. has-role r x ≡ false) xs → until r xs ≡ xs
   until-all nil = refl
   until-all (cons {x = x} e c) = rw e (ap (λ z. x ∷ z) (until-all c))
+
+-- ---- heads
+
+module _ (r : Role) where
+  pub heads-texts : (xs : List Tagged) → map (λ c. text (c .head)) (clauses r xs) ≡ texts r xs
+  heads-texts [] = refl
+  heads-texts (x ∷ xs) = go (has-role r x) (heads-texts xs)
+    where
+      go :
+          (b : Bool) → map (λ c. text (c .head)) (clauses r xs) ≡ texts r xs
+          → map (λ c. text (c .head)) (cond b (record { head = x; body = until r xs } ∷ clauses r xs) (clauses r xs))
+          ≡ map text (prepend-if b x (select (has-role r) xs))
+      go true e = ap (λ (l : List (List ℕ)). text x ∷ l) e
+      go false e = e
+
+  -- what is made of the parts has the texts of their heads for names
+  pub named-by :
+      {A : Type 0} (f : Clause → A) (name : A → List ℕ) → ((c : Clause) → name (f c) ≡ text (c .head)) → (xs : List Tagged)
+      → map name (map f (clauses r xs)) ≡ texts r xs
+  named-by f name e xs = map-map name f (clauses r xs) ∙ (map-same e (clauses r xs) ∙ heads-texts xs)
 
 -- ---- selecting twice
 
@@ -149,10 +172,6 @@ module _ (r : Role) (rs : List Role) where
         go false d false e h = h
 
 -- ---- parts of what has a head
-
-not-true : (b : Bool) → not b ≡ true → b ≡ false
-not-true true e = absurd (false≢true e)
-not-true false e = refl
 
 -- no token says what q passes
 never : (q : Role → Bool) (xs : List Tagged) → Every (λ z. not (q z) ≡ true) (roles xs) → Every (λ x. q (x .role) ≡ false) xs

@@ -1,27 +1,32 @@
 -- What the causes leave: how many of each item a file has, how long its texts are, and what holds of each token.
 use mathlib.Core.Path.{_≡_, refl, sym, ap, subst, _∙_}
-use mathlib.Core.Bool.{Bool, true, false, cond, not, false≢true}
+use mathlib.Core.Bool.{Bool, true, false, cond, not, _&&_, false≢true}
 use mathlib.Core.List.{List, [], _∷_, map}
-use mathlib.Core.Option.{Option, none, some}
+use mathlib.Core.Option.{Option, none, some, Option·getD}
 use Prim.Native.Nat.{ℕ, _+_, _≤_, _<_}
 use native.Mathlib.Omega.{arith}
-use lib.Dec.{eqb, leb}
+use lib.Dec.{T, eqb, leb}
 use lib.ListN.{length, getD}
 use borrow.Author.Tests.{leb-false, eqb-true}
-use Rattle.spec_lists.specs.Select.{select, prepend-if, first, keep-if, holds-of}
+use Rattle.spec_lists.specs.Select.{select, prepend-if, first, keep-if, holds-of, missing}
 use Rattle.spec_lists.specs.Every.{Every, nil, cons}
-use Rattle.spec_lists.specs.laws.Every.{every-run, first-none}
+use Rattle.spec_lists.specs.laws.Every.{every-run, every-unmap, first-none}
 use Rattle.spec_lists.specs.laws.Sums.{sum, sum-le, sum-map, sum-swap, length-sum}
+use Rattle.spec_token.specs.declared.Kind.the-variants.{Inp}
 use Rattle.spec_token.specs.Token.{Token}
+use Rattle.spec_calc.specs.Reader.{tree-of}
 use Rattle.spec_grammar.specs.declared.Role.{Role}
 use Rattle.spec_grammar.specs.declared.Role.the-variants.{NoRole, UagName, User, HagName, Host, AsgName, Input, Pvname, RuleWord, Level, Permission}
 use Rattle.spec_grammar.specs.declared.Role.the-variants.{LogOption, UagNamed, HagNamed, CalcWord, Calculation, UnknownItem, UnknownPredicate}
-use Rattle.spec_grammar.specs.Codes.{role-number}
+use Rattle.spec_grammar.specs.Codes.{role-number, kind-number}
 use Rattle.spec_grammar.specs.Sentence.{Tagged}
+use Rattle.spec_grammar.specs.laws.Sound.{same-kind}
+use Rattle.spec_grammar.specs.laws.Inputs.{may-say}
 use Rattle.spec_file.specs.Limit.{Section, user-groups, host-groups, members, access-groups, inputs, rules, references, most, item-of, order}
-use Rattle.spec_file.specs.Contents.{has-role, text, texts, until, Clause, clauses}
+use Rattle.spec_file.specs.Contents.{has-role, text, texts, until, Clause, clauses, head-of}
 use Rattle.spec_file.specs.Refusal.{Context, contexts-after, contexts, too-long, item, too-many, given-again, undefined-group, bad-level}
-use Rattle.spec_file.specs.Refusal.{unknown-word}
+use Rattle.spec_file.specs.Refusal.{unknown-word, letters-given, letters-among}
+use Rattle.spec_file.specs.Acceptance.{Text-reads}
 use Rattle.spec_file.specs.Load.{bad-calculation, Cause, causes, or-else, refused-by}
 
 -- the sum over those that pass a test
@@ -112,7 +117,43 @@ module _ {P : Tagged → Type 0} where
   every-context b nil = nil
   every-context b (cons {x = x} h c) = cons h (every-context (x ∷ b) c)
 
+-- what the contexts behind a head leave of its part
+pub clauses-after :
+    {C : Context → Type 0} {P : Clause → Type 0} (r : Role)
+    → ((x : Tagged) (b xs : List Tagged) → has-role r x ≡ true → Every C (contexts-after (x ∷ b) xs) → P (record { head = x; body = until r xs }))
+    → (b xs : List Tagged) → Every C (contexts-after b xs) → Every P (clauses r xs)
+clauses-after r f b [] c = nil
+clauses-after {P = P} r f b (x ∷ xs) (cons h c) = go (has-role r x) refl (clauses-after r f (x ∷ b) xs c)
+  where
+    go : (a : Bool) → has-role r x ≡ a → Every P (clauses r xs) → Every P (cond a (record { head = x; body = until r xs } ∷ clauses r xs) (clauses r xs))
+    go true e d = cons (f x b xs e c) d
+    go false e d = d
+
+-- what holds of every text of a list, and of the empty one, holds of the first
+pub first-has : {Q : List ℕ → Type 0} → Q [] → {ts : List (List ℕ)} → Every Q ts → Q (Option·getD (head-of ts) [])
+first-has q nil = q
+first-has q (cons h c) = h
+
+-- what holds of every token that spells a text
+pub every-read : {P : Token → Type 0} {s : List ℕ} {xs : List Tagged} (t : Text-reads s xs) → Every P (t .spelled) → Every (λ x. P (x .token)) xs
+every-read {P} {xs = xs} t e = every-unmap (λ x. x .token) xs (subst (Every P) (sym (t .reading .tokens)) e)
+
+-- what says an input is an INP word
+pub input-kind : (x : Tagged) → may-say (x .token .kind) (x .role) ≡ true → has-role Input x ≡ true → x .token .kind ≡ Inp
+input-kind x m h =
+    let e : eqb (kind-number (x .token .kind)) (kind-number Inp) ≡ true = rw h at m in
+    same-kind (x .token .kind) Inp (subst T (sym e) tt)
+
 -- ---- the causes
+
+-- where 10 has no cause, a calculation is one
+pub calculated : (c : Context) → bad-calculation c ≡ false → has-role Calculation (c .here) ≡ true → missing (tree-of (text (c .here))) ≡ false
+calculated c = held (tree-of (text (c .here))) (letters-among (letters-given c)) (has-role Calculation (c .here))
+  where
+    held : {A : Type 0} (o : Option A) (p : A → Bool) (a : Bool) → a && not (holds-of o p) ≡ false → a ≡ true → missing o ≡ false
+    held (some t) p a e h = refl
+    held none p true e h = e
+    held none p false e h = sym h
 
 -- a cause that applies nowhere, and the causes behind it
 pub applies-nowhere : (ks : List Cause) (cs : List Context) → refused-by ks cs ≡ none → Every (λ k. Every (λ c. k .applies c ≡ false) cs) ks

@@ -11,11 +11,12 @@ use Rattle.spec_lists.specs.laws.Any.{any-append, or-between}
 use Rattle.spec_lists.specs.laws.Both.{both, neither}
 use Rattle.spec_lists.specs.laws.Same.{same-true, same-self}
 use Rattle.spec_lists.specs.laws.Every.{every-implies, every-map, every-both}
+use Rattle.spec_token.specs.Token.{Token}
 use Rattle.spec_rule.specs.Privilege.{here, further}
 use Rattle.spec_grammar.specs.declared.Role.{Role}
 use Rattle.spec_grammar.specs.declared.Role.the-variants.{UagName, User, HagName, Host, AsgName, RuleWord, UagNamed, HagNamed}
 use Rattle.spec_grammar.specs.Codes.{same-role}
-use Rattle.spec_grammar.specs.Sentence.{Tagged}
+use Rattle.spec_grammar.specs.Sentence.{Tagged, Reads}
 use Rattle.spec_file.specs.declared.Refusal.the-variants.{UndefinedGroup}
 use Rattle.spec_file.specs.Contents.{has-role, text, until, clauses, groups, rule-text, asg, file-of}
 use Rattle.spec_file.specs.Refusal.{Context, contexts-after, contexts, undefined, undefined-group, Applies, nowhere-defined}
@@ -169,20 +170,25 @@ module _ (xs : List Tagged) where
       names : (ys : List Tagged) → Every Named-groups ys → Names-defined (file-of xs) (rule-text ys)
       names ys e = record { users = every-texts UagNamed (λ x h n. n .0 h) e; hosts = every-texts HagNamed (λ x h n. n .1 h) e }
 
-  module _ {s : List ℕ} (t : Text-reads s xs) where
+  module _ {ts : List Token} (t : Reads ts xs) where
     tokens-defined : Groups-defined (file-of xs) → Every Named-groups xs
     tokens-defined d =
         every-both (λ x u h. (u, h))
-        (named-in-rules UagNamed uag-in-rules (λ r. r .uags) (λ ys. refl) (Defined (file-of xs .uags)) (t .spelled) xs (t .reading)
+        (named-in-rules UagNamed uag-in-rules (λ r. r .uags) (λ ys. refl) (Defined (file-of xs .uags)) ts xs t
         (every-implies (λ a rs. every-implies (λ r n. n .users) rs) d))
-        (named-in-rules HagNamed hag-in-rules (λ r. r .hags) (λ ys. refl) (Defined (file-of xs .hags)) (t .spelled) xs (t .reading)
+        (named-in-rules HagNamed hag-in-rules (λ r. r .hags) (λ ys. refl) (Defined (file-of xs .hags)) ts xs t
         (every-implies (λ a rs. every-implies (λ r n. n .hosts) rs) d))
 
+    -- where the groups that rules name are defined, the test finds none undefined
+    pub nothing-undefined : Groups-defined (file-of xs) → Every (λ c. undefined-group c ≡ false) (contexts xs)
+    nothing-undefined d = every-both none-undefined (around xs) (every-context [] (tokens-defined d))
+
+  module _ {s : List ℕ} (t : Text-reads s xs) where
     -- 12 has no cause exactly if the groups that rules name are defined
     pub defined-exactly : Nowhere UndefinedGroup (contexts xs) ↔ Groups-defined (file-of xs)
     defined-exactly = (
       λ w. rules-defined (every-here [] xs (every-both (λ c e n. both-defined c e (unless c n)) (around xs) w)),
-      λ d. every-both (λ c e h. not-defined c (none-undefined c e h)) (around xs) (every-context [] (tokens-defined d)),
+      λ d. every-implies not-defined (nothing-undefined (t .reading) d),
     )
       where
         unless : (c : Context) → (Applies c UndefinedGroup → ⊥) → undefined-group c ≡ false

@@ -1,7 +1,7 @@
 -- In an acceptable file each letter of a rule's calculation has an input in the rule's access group. 01: "Every letter used must have an INP in the ASG, before
 -- or after the rule". Refusal.antt says it of the tokens around a calculation (letters-given); here it is said of what the file says.
 use mathlib.Core.Path.{_≡_, refl, sym, ap, subst, _∙_}
-use mathlib.Core.Bool.{Bool, true, false, cond, not, _&&_, _||_, or-true, false≢true}
+use mathlib.Core.Bool.{Bool, true, false, not, _&&_, _||_, or-true, false≢true}
 use mathlib.Core.List.{List, [], _∷_, _++_, map}
 use mathlib.Core.Option.{some}
 use Prim.Native.Nat.{ℕ}
@@ -23,7 +23,7 @@ use Rattle.spec_file.specs.Contents.{has-role, text, texts, until, Claus
 use Rattle.spec_file.specs.Refusal.{Context, contexts-after, contexts, letters-given, letters-among, Allowed, Applies, calculation}
 use Rattle.spec_file.specs.Acceptance.{Nowhere, Acceptable}
 use Rattle.spec_file.specs.laws.Causes.{never}
-use Rattle.spec_file.specs.laws.Counted.{every-clauses, every-texts}
+use Rattle.spec_file.specs.laws.Counted.{every-clauses, every-texts, clauses-after}
 use Rattle.spec_file.specs.laws.ItemClauses.{rule-of}
 
 -- each letter of the calculation s is that of one of the inputs
@@ -133,15 +133,8 @@ abbrev Within : Clause → Type 0
 Within p = Every (Satisfied (p .body)) (p .body)
 
 -- so it is of each access group, by its own tokens
-satisfied-within : (b xs : List Tagged) → Nowhere BadCalculation (contexts-after b xs) → Every Within (clauses AsgName xs)
-satisfied-within b [] n = nil
-satisfied-within b (x ∷ xs) (cons h n) = go (has-role AsgName x) (satisfied-after (x ∷ b) xs n) (satisfied-within (x ∷ b) xs n)
-  where
-    go :
-        (a : Bool) → Every (Satisfied (keep-if (not a) x (until AsgName b) ++ until AsgName xs)) (until AsgName xs) → Every Within (clauses AsgName xs)
-        → Every Within (cond a (record { head = x; body = until AsgName xs } ∷ clauses AsgName xs) (clauses AsgName xs))
-    go true s d = cons s d
-    go false s d = d
+satisfied-within : (xs : List Tagged) → Nowhere BadCalculation (contexts xs) → Every Within (clauses AsgName xs)
+satisfied-within = clauses-after AsgName (λ x b xs e n. rw e at (satisfied-after (x ∷ b) xs n)) []
 
 -- ---- what the file says
 
@@ -160,7 +153,7 @@ inputs-given xs n =
     every-map asg
     (every-implies
     (λ p w. every-map rule-of (every-implies (λ r v. rule-given (p .body) (r .body) (v .body)) (every-clauses RuleWord w)))
-    (satisfied-within [] xs n))
+    (satisfied-within xs n))
 
 -- so in an acceptable file it has
 pub letters-have-inputs : (s : List ℕ) (xs : List Tagged) → Acceptable s xs → Every Inputs-given (file-of xs .asgs)

@@ -3,9 +3,9 @@ use mathlib.Core.Path.{_≡_, refl, sym, _∙_}
 use mathlib.Core.Bool.{Bool, true, false, not, false≢true}
 use mathlib.Core.List.{List, [], _∷_, map}
 use Prim.Native.Nat.{ℕ}
-use Rattle.spec_lists.specs.Select.{joined, select, prepend-if}
+use Rattle.spec_lists.specs.Select.{select, prepend-if}
 use Rattle.spec_lists.specs.Every.{Every, nil, cons}
-use Rattle.spec_lists.specs.laws.Every.{every-append, every-implies, every-both, every-head, every-joined, every-split}
+use Rattle.spec_lists.specs.laws.Every.{every-append, every-implies, every-both, every-head, every-joined, every-unjoin}
 use Rattle.spec_token.specs.Token.{Token}
 use Rattle.spec_grammar.specs.declared.Role.{Role}
 use Rattle.spec_grammar.specs.declared.Role.the-variants.{NoRole, UagName, User, HagName, Host, AsgName, Input, Pvname, RuleWord, UagNamed, HagNamed}
@@ -19,10 +19,6 @@ use Rattle.spec_grammar.specs.laws.Items.{Is, file-items, Asg-items, asg-items}
 use Rattle.spec_file.specs.Contents.{has-role, text, texts, Rule-text, Asg, clauses, rule-text, asg, file-of}
 use Rattle.spec_file.specs.laws.Clauses.{apart, says-nothing, headed-never, own-clause}
 use Rattle.spec_file.specs.laws.ItemClauses.{rule-of, rule-texts, rule-looks, asg-looks, rules-by-items, asgs-by-items}
-
-each-joined : {A B : Type 0} {P : B → Type 0} (f : A → List B) (xs : List A) → Every P (joined (map f xs)) → Every (λ x. Every P (f x)) xs
-each-joined f [] e = nil
-each-joined f (x ∷ xs) e = let s = every-split (f x) e in cons (s .0) (each-joined f xs (s .1))
 
 -- what a role may stand in: no group's own definition, no input, no unknown item
 pub record In-rules (q : Role) : Type 0 where
@@ -66,7 +62,7 @@ module _ (q : Role) (t : In-rules q) (names : Rule-text → List (List ℕ)) (sa
 
   asg-has : (i : List Tagged) (o : Asg-items i) → Every Rule-has (rule-texts i) → Every Has i
   asg-has i o e =
-      let each = each-joined rule-texts (o .items) (rw (rules-by-items i o) at e) in
+      let each = every-unjoin rule-texts (o .items) (rw (rules-by-items i o) at e) in
       rw (o .whole)
       (every-append
       (none-has (headed-never (λ z. same-role z q) (o .opening) (t .opening) (o .opened)))
@@ -91,7 +87,7 @@ module _ (q : Role) (t : In-rules q) (names : Rule-text → List (List ℕ)) (sa
   pub named-in-rules : (ts : List Token) (xs : List Tagged) → Reads ts xs → Every Asg-has (file-of xs .asgs) → Every Has xs
   named-in-rules ts xs r e =
       let o = file-items xs (r .derived) in
-      let each = each-joined (λ i. map asg (clauses AsgName i)) (o .items) (rw (asgs-by-items xs o) at e) in
+      let each = every-unjoin (λ i. map asg (clauses AsgName i)) (o .items) (rw (asgs-by-items xs o) at e) in
       rw (← o .whole) (every-joined (every-both item-has (o .each) each))
 
 pub uag-in-rules : In-rules UagNamed

@@ -5,7 +5,7 @@ use mathlib.Core.Option.{Option, none, some}
 use Prim.Native.Nat.{ℕ, _≤_, _<_}
 use native.Mathlib.Omega.{arith}
 use Rattle.spec_lists.specs.Every.{Every, nil, cons}
-use Rattle.spec_lists.specs.laws.Every.{every-append, every-implies, every-map}
+use Rattle.spec_lists.specs.laws.Every.{every-append, every-implies, every-map, every-unmap}
 use Rattle.spec_lists.specs.laws.Joined.{map-map}
 use Rattle.spec_token.specs.Token.{Token}
 use Rattle.spec_token.specs.Place.{Ascending, no-more, less}
@@ -25,10 +25,6 @@ said-ascending {s} {xs} t =
     subst Ascending (sym (ap (map (λ (u : Token). u .place)) (t .reading .tokens)) ∙ e) (places-ascend (t .spelling))
 
 -- ---- the earliest
-
-every-unmap : {A : Type 0} {P : ℕ → Type 0} (f : A → ℕ) (xs : List A) → Every P (map f xs) → Every (λ x. P (f x)) xs
-every-unmap f [] e = nil
-every-unmap f (x ∷ xs) (cons h e) = cons h (every-unmap f xs e)
 
 later-more : {A : Type 0} (f : A → ℕ) (earlier : List A) (x : A) (later : List A) → Ascending (map f (earlier ++ (x ∷ later))) → Every (λ y. f x < f y) later
 later-more f [] x later (less h a) = every-unmap f later h

@@ -4,7 +4,7 @@ use mathlib.Core.List.{List, [], _∷_, _++_, map, append-nil}
 use Prim.Native.Nat.{ℕ}
 use native.Mathlib.Omega.{arith}
 use lib.ListN.{length, getD, List·getD-map}
-use Rattle.spec_lists.specs.Select.{joined, beside₃}
+use Rattle.spec_lists.specs.Select.{joined, beside, beside₃}
 use Rattle.spec_lists.specs.Runs.{runs, part, spread}
 use Rattle.spec_lists.specs.laws.Joined.{part-runs, part-spread, map-joined, runs-map}
 
@@ -49,3 +49,23 @@ pub parts-spread : {A : Type 0} (xss : List (List (List A))) (n : ℕ) → map (
 parts-spread {A} xss n =
     sym (List·getD-map (map (λ r. part r (joined (joined xss)))) (spread 0 xss) n [])
     ∙ ap (λ (l : List (List (List A))). getD l n []) (rw append-nil at (part-spread [] xss []))
+
+-- what is read of two lists in two ways, taken together
+pub both-read :
+    {X Y A B C : Type 0} (k : A → B → C) (g : X → A) (g′ : Y → A) (h : X → B) (h′ : Y → B) (xs : List X) (ys : List Y)
+    → map g xs ≡ map g′ ys → map h xs ≡ map h′ ys → map (λ x. k (g x) (h x)) xs ≡ map (λ y. k (g′ y) (h′ y)) ys
+both-read k g g′ h h′ [] [] p q = refl
+both-read k g g′ h h′ [] (y ∷ ys) p q = cc
+both-read k g g′ h h′ (x ∷ xs) [] p q = cc
+both-read k g g′ h h′ (x ∷ xs) (y ∷ ys) p q =
+    let a : g x ≡ g′ y = cc in
+    let b : h x ≡ h′ y = cc in
+    cc (both-read k g g′ h h′ xs ys (cc) (cc))
+
+-- an element changed so that nothing else is read of it, in a list beside another
+pub beside-alike :
+    {A B C : Type 0} (f : A → B → C) (g : A → A) → ((x : A) (y : B) → f (g x) y ≡ f x y) → (xs : List A) (ys : List B)
+    → beside f (map g xs) ys ≡ beside f xs ys
+beside-alike f g e [] ys = refl
+beside-alike f g e (x ∷ xs) [] = refl
+beside-alike f g e (x ∷ xs) (y ∷ ys) = cc (e x y, beside-alike f g e xs ys)

@@ -112,6 +112,20 @@ pub every-map : {A B : Type 0} {P : B → Type 0} (f : A → B) {xs : List A} �
 every-map f nil = nil
 every-map f (cons p c) = cons p (every-map f c)
 
+pub every-unmap : {A B : Type 0} {P : B → Type 0} (f : A → B) (xs : List A) → Every P (map f xs) → Every (λ x. P (f x)) xs
+every-unmap f [] nil = nil
+every-unmap f (x ∷ xs) (cons p c) = cons p (every-unmap f xs c)
+
 pub every-joined : {A : Type 0} {P : A → Type 0} {xs : List (List A)} → Every (Every P) xs → Every P (joined xs)
 every-joined nil = nil
 every-joined (cons e c) = every-append e (every-joined c)
+
+-- and of each of the lists that were joined
+pub every-unjoin : {A B : Type 0} {P : B → Type 0} (f : A → List B) (xs : List A) → Every P (joined (map f xs)) → Every (λ x. Every P (f x)) xs
+every-unjoin f [] e = nil
+every-unjoin f (x ∷ xs) e = let s = every-split (f x) e in cons (s .0) (every-unjoin f xs (s .1))
+
+-- what leaves each element leaves the list
+pub map-fixed : {A : Type 0} (f : A → A) {xs : List A} → Every (λ x. f x ≡ x) xs → map f xs ≡ xs
+map-fixed f nil = refl
+map-fixed f (cons e c) = cc (e, map-fixed f c)

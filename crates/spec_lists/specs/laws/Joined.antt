@@ -1,17 +1,26 @@
 -- Laws of runs, of lists put one behind the other and of lists side by side.
 use mathlib.Core.Path.{_≡_, refl, sym, ap, ap₂, subst, _∙_}
+use mathlib.Core.Bool.{Bool, true, false}
 use mathlib.Core.List.{List, [], _∷_, _++_, map, append-assoc}
 use Prim.Native.Nat.{ℕ, zero, suc, _+_}
 use native.Mathlib.Omega.{arith}
 use lib.ListN.{length, take, drop, length-append, length-map}
 use lib.Seq.{take-append-seam, drop-append-seam}
-use Rattle.spec_lists.specs.Select.{joined, beside}
+use Rattle.spec_lists.specs.Select.{joined, select, prepend-if, beside}
 use Rattle.spec_lists.specs.Runs.{Run, runs, part, spread}
 
 module _ {A : Type 0} where
   pub joined-append : (xs ys : List (List A)) → joined (xs ++ ys) ≡ joined xs ++ joined ys
   joined-append [] ys = refl
   joined-append (x ∷ xs) ys = ap (λ (l : List A). x ++ l) (joined-append xs ys) ∙ sym (append-assoc x (joined xs) (joined ys))
+
+  pub select-append : (p : A → Bool) (xs ys : List A) → select p (xs ++ ys) ≡ select p xs ++ select p ys
+  select-append p [] ys = refl
+  select-append p (x ∷ xs) ys = go (p x) (select-append p xs ys)
+    where
+      go : (b : Bool) → select p (xs ++ ys) ≡ select p xs ++ select p ys → prepend-if b x (select p (xs ++ ys)) ≡ prepend-if b x (select p xs) ++ select p ys
+      go true e = ap (λ (l : List A). x ∷ l) e
+      go false e = e
 
   pub length-runs : (n : ℕ) (xs : List (List A)) → length (runs n xs) ≡ length xs
   length-runs n [] = refl
@@ -93,6 +102,15 @@ module _ {A B : Type 0} where
       (λ (a : ℕ) (rs : List Run). record { first = n; count = a } ∷ rs)
       (length-map x f)
       (ap (λ (a : ℕ). runs (n + a) (map (map f) xs)) (length-map x f) ∙ runs-map f (n + length x) xs)
+
+-- the lists that the elements have, joined: of two lists, and of lists joined
+module _ {A B : Type 0} (f : A → List B) where
+  pub each-append : (xs ys : List A) → joined (map f (xs ++ ys)) ≡ joined (map f xs) ++ joined (map f ys)
+  each-append xs ys = ap joined (map-append f xs ys) ∙ joined-append (map f xs) (map f ys)
+
+  pub joined-each : {C : Type 0} (g : C → List A) (xs : List C) → joined (map f (joined (map g xs))) ≡ joined (map (λ x. joined (map f (g x))) xs)
+  joined-each g [] = refl
+  joined-each g (x ∷ xs) = each-append (g x) (joined (map g xs)) ∙ ap (λ (l : List B). joined (map f (g x)) ++ l) (joined-each g xs)
 
 module _ {A B C : Type 0} where
   pub map-map : (g : B → C) (f : A → B) (xs : List A) → map g (map f xs) ≡ map (λ x. g (f x)) xs

@@ -6,9 +6,10 @@ use Prim.Native.Nat.{ℕ, _+_, _≤_, min}
 use native.Mathlib.Omega.{arith}
 use lib.ListN.{length, length-append}
 use Rattle.spec_lists.specs.Select.{all, joined, beside, beside₃, total}
-use Rattle.spec_lists.specs.Runs.{Run, runs, spread}
+use Rattle.spec_lists.specs.Runs.{Run, runs, part, spread}
 use Rattle.spec_lists.specs.laws.Joined.{joined-append}
 use Rattle.spec_lists.specs.Every.{Every, nil, cons}
+use Rattle.spec_lists.specs.laws.Every.{every-take, every-drop}
 
 -- a run that ends at e or before
 abbrev pub Within : ℕ → Run → Type 0
@@ -40,6 +41,10 @@ module _ {A : Type 0} where
   runs-append n m (x ∷ xs) ys h =
       let l = length-append x (joined xs) in
       ap (λ (rs : List Run). record { first = n; count = length x } ∷ rs) (runs-append (n + length x) m xs ys (omega arith))
+
+-- what holds of all holds of those in a run
+pub every-part : {A : Type 0} {P : A → Type 0} (r : Run) {xs : List A} → Every P xs → Every P (part r xs)
+every-part r e = every-take (r .count) (every-drop (r .first) e)
 
 pub all-map : {A B : Type 0} (p : B → Bool) (g : A → B) (xs : List A) → all (λ x. p (g x)) xs ≡ all p (map g xs)
 all-map p g [] = refl

@@ -1,5 +1,5 @@
 -- What the elements of a list weigh together.
-use mathlib.Core.Path.{_≡_, refl, sym, ap}
+use mathlib.Core.Path.{_≡_, refl, sym, ap, _∙_}
 use mathlib.Core.List.{List, [], _∷_, _++_, map}
 use Prim.Native.Nat.{ℕ, _+_, _≤_}
 use native.Mathlib.Omega.{arith}
@@ -40,10 +40,18 @@ module _ {A : Type 0} where
   length-sum [] = refl
   length-sum (x ∷ xs) = omega (arith, length-sum xs)
 
-  sum-zero : (xs : List A) → sum (λ x. 0) xs ≡ 0
+  pub sum-same : {v w : A → ℕ} → ((x : A) → v x ≡ w x) → (xs : List A) → sum v xs ≡ sum w xs
   unfolding sum
-  sum-zero [] = refl
-  sum-zero (x ∷ xs) = rw (sum-zero xs)
+  sum-same e [] = refl
+  sum-same e (x ∷ xs) = rw (e x, sum-same e xs)
+
+  pub sum-ones : {v : A → ℕ} → ((x : A) → v x ≡ 1) → (xs : List A) → sum v xs ≡ length xs
+  sum-ones e xs = sum-same e xs ∙ sym (length-sum xs)
+
+  pub sum-none : {v : A → ℕ} → ((x : A) → v x ≡ 0) → (xs : List A) → sum v xs ≡ 0
+  unfolding sum
+  sum-none e [] = refl
+  sum-none e (x ∷ xs) = omega (arith, e x, sum-none e xs)
 
   pub sum-plus : (v w : A → ℕ) (xs : List A) → sum (λ x. v x + w x) xs ≡ sum v xs + sum w xs
   unfolding sum
@@ -70,7 +78,8 @@ module _ {A B : Type 0} where
   -- sums over two lists, in either order
   pub sum-swap : (w : A → B → ℕ) (xs : List A) (ys : List B) → sum (λ x. sum (w x) ys) xs ≡ sum (λ y. sum (λ x. w x y) xs) ys
   unfolding sum
-  sum-swap w [] ys = sym (sum-zero ys)
+  sum-swap w [] ys = sym (sum-none (λ y. refl) ys)
   sum-swap w (x ∷ xs) ys = rw (sum-plus (w x) (λ y. sum (λ z. w z y) xs) ys, sum-swap w xs ys)
 
--- ---- tokens in their parts
+pub length-each : {A B : Type 0} (f : A → List B) (xs : List A) → length (joined (map f xs)) ≡ sum (λ x. length (f x)) xs
+length-each f xs = length-joined (map f xs) ∙ sum-map length f xs

@@ -1,11 +1,11 @@
 -- A file to which no cause of refusal applies keeps to the limits of a table.
-use mathlib.Core.Path.{_≡_, refl, sym, ap, subst, _∙_}
-use mathlib.Core.Bool.{Bool, true, false, cond, not, _&&_}
+use mathlib.Core.Path.{_≡_, refl, sym, ap, _∙_}
+use mathlib.Core.Bool.{Bool, true, false, cond}
 use mathlib.Core.List.{List, [], _∷_, map}
-use mathlib.Core.Option.{Option, none, some, Option·getD}
+use mathlib.Core.Option.{none, some, Option·getD}
 use Prim.Native.Nat.{ℕ, _+_, _≤_}
 use native.Mathlib.Omega.{arith}
-use lib.Dec.{leb, ltb, eqb}
+use lib.Dec.{leb, ltb}
 use lib.ListN.{length, length-map}
 use borrow.Author.Tests.{ltb-false, leb-true}
 use Rattle.spec_lists.specs.Text.{lowered}
@@ -13,29 +13,26 @@ use Rattle.spec_lists.specs.Select.{joined, total, holds-of, missing}
 use Rattle.spec_lists.specs.Every.{Every, nil, cons}
 use Rattle.spec_lists.specs.laws.Every.{every-append, every-implies, every-map, every-joined, every-both}
 use Rattle.spec_lists.specs.laws.Joined.{map-map}
-use Rattle.spec_token.specs.declared.Kind.the-variants.{Inp}
 use Rattle.spec_token.specs.Word.{link-letter, greatest-letter}
 use Rattle.spec_token.specs.Token.{Token}
-use Rattle.spec_token.specs.laws.Kinds.{spelled-bytes, spelled-inputs}
+use Rattle.spec_token.specs.laws.Kinds.{Input-spelled, spelled-bytes, spelled-inputs}
 use Rattle.spec_grammar.specs.declared.Role.{Role}
 use Rattle.spec_grammar.specs.declared.Role.the-variants.{UagName, User, HagName, Host, AsgName, Input, Pvname, RuleWord, Level, UagNamed, HagNamed}
 use Rattle.spec_grammar.specs.declared.Role.the-variants.{Calculation}
 use Rattle.spec_grammar.specs.Sentence.{Tagged}
-use Rattle.spec_grammar.specs.Codes.{kind-number}
-use Rattle.spec_grammar.specs.laws.Sound.{same-kind}
 use Rattle.spec_grammar.specs.laws.Inputs.{may-say, reads-inputs}
 use Rattle.spec_calc.specs.Reader.{tree-of}
 use Rattle.spec_rule.specs.Answering.{greatest-level}
 use Rattle.spec_file.specs.Limit.{Section, user-groups, host-groups, members, access-groups, inputs, rules, references, most, most-bytes, longest}
 use Rattle.spec_file.specs.Limit.{longest-name, longest-calculation}
 use Rattle.spec_file.specs.Contents.{has-role, text, texts, Clause, clauses, level-of, value-of, head-of, Link, Rule-text, rule-text, file-of}
-use Rattle.spec_file.specs.Refusal.{Context, contexts, item, letters-among, letters-given}
+use Rattle.spec_file.specs.Refusal.{contexts, item}
 use Rattle.spec_file.specs.Acceptance.{Acceptable}
-use Rattle.spec_file.specs.Load.{bad-calculation, causes, refused-by, accept, verdict}
+use Rattle.spec_file.specs.Load.{causes, refused-by, accept, verdict}
 use Rattle.spec_file.specs.laws.Causes.{unanswered}
 use Rattle.spec_file.specs.laws.Theorem.{accepted-is}
 use Rattle.spec_lists.specs.laws.Sums.{sum, sum-nil, sum-cons, sum-total, sum-plus, sum-append, sum-joined, sum-map, length-sum, length-joined}
-use Rattle.spec_file.specs.laws.Counted.{sum-of, sum-select, sum-texts, sum-heads, sum-bodies, Whole, every-clauses, every-texts, every-here, Clear, clear}
+use Rattle.spec_file.specs.laws.Counted.{sum-of, sum-select, sum-texts, sum-heads, sum-bodies, Whole, every-clauses, every-texts, first-has, every-here, every-read, input-kind, calculated, Clear, clear}
 use Rattle.spec_file.specs.laws.Counted.{string-roles, says-among, once, role-is, sum-roles, counted-roles}
 use Rattle.spec_table.specs.Written.{all-links, all-rules, names}
 use Rattle.spec_table.specs.laws.Fits.{Calculation-fits, no-calculation, allowed, Fits}
@@ -53,14 +50,6 @@ Calculated x = has-role Calculation x ≡ true → missing (tree-of (text x)) �
 short-by : (n : ℕ) (r : Role) → longest r ≡ some n → (x : Tagged) → has-role r x ≡ true → Short x → length (text x) ≤ n
 short-by n r l x e h = ltb-false n (length (text x)) (rw (role-is r x e, l) at h)
 
-held : {A : Type 0} (o : Option A) (p : A → Bool) (a : Bool) → a && not (holds-of o p) ≡ false → a ≡ true → missing o ≡ false
-held (some t) p a e h = refl
-held none p true e h = e
-held none p false e h = sym h
-
-calculated : (c : Context) → bad-calculation c ≡ false → Calculated (c .here)
-calculated c = held (tree-of (text (c .here))) (letters-among (letters-given c)) (has-role Calculation (c .here))
-
 -- a level is 0 or 1
 level-small : (ts : List (List ℕ)) → value-of 0 level-of ts ≤ greatest-level
 level-small [] = omega arith
@@ -74,10 +63,6 @@ level-small (t ∷ ts) = leb-true (Option·getD (level-of t) 0) 1 (simp go)
 first-text : (ts : List (List ℕ)) → length (Option·getD (head-of ts) []) ≤ sum length ts
 first-text [] = simp sum-nil (omega arith)
 first-text (t ∷ ts) = simp sum-cons (omega arith)
-
-first-short : {ts : List (List ℕ)} → Every (λ s. length s ≤ longest-name) ts → length (Option·getD (head-of ts) []) ≤ longest-name
-first-short nil = omega arith
-first-short (cons h c) = h
 
 first-calculation : {ts : List (List ℕ)} → Every (λ s. (length s ≤ longest-calculation) × (missing (tree-of s) ≡ false)) ts → Calculation-fits (head-of ts)
 first-calculation nil = no-calculation
@@ -197,7 +182,7 @@ accepted-fits xs h b letters =
           (every-map _ (every-map _ (every-implies (λ p w. texts-short User refl (w .body)) (every-clauses UagName all-short))))
           (every-map _ (every-map _ (every-implies (λ p w. every-map lowered (every-implies (λ s l. omega (arith, lowered-length s)) (texts-short Host refl (w .body)))) (every-clauses HagName all-short))))))
           (cons (every-map _ (every-map _ (heads-short AsgName refl)))
-          (cons (every-map _ (every-link all-short (λ p w. first-short (texts-short Pvname refl (w .body)))))
+          (cons (every-map _ (every-link all-short (λ p w. first-has {Q = λ s. length s ≤ longest-name} (omega arith) (texts-short Pvname refl (w .body)))))
           (cons (every-map _ (every-joined (every-joined (every-map _ (every-rule all-short (λ p w. cons (every-map _ (texts-short UagNamed refl (w .body))) (cons (every-map _ (texts-short HagNamed refl (w .body))) nil))))))) nil)))));
       calculations =
           every-rule short-and-calculated
@@ -229,25 +214,17 @@ accepted-fits xs h b letters =
 
 -- ---- from a text
 
-from-tokens : {P : Token → Type 0} (xs : List Tagged) → Every P (map (λ x. x .token) xs) → Every (λ x. P (x .token)) xs
-from-tokens [] nil = nil
-from-tokens (x ∷ xs) (cons p c) = cons p (from-tokens xs c)
-
 -- what is accepted keeps to the limits
 pub fits : (s : List ℕ) (xs : List Tagged) → verdict s ≡ accept xs → Fits (file-of xs)
 fits s xs e =
     let a = accepted-is s xs e in
-    let t = a .as-read .reading .tokens in
     accepted-fits xs
     (unanswered (contexts xs) (a .uncaused))
     (bound a)
     (every-both inputs
     (reads-inputs (a .as-read .spelled) xs (a .as-read .reading))
-    (from-tokens xs (subst (Every Spelled) (sym t) (spelled-inputs (a .as-read .spelling)))))
+    (every-read (a .as-read) (spelled-inputs (a .as-read .spelling))))
   where
-    Spelled : Token → Type 0
-    Spelled t = t .kind ≡ Inp → link-letter (t .text) ≤ greatest-letter
-
     bound : (a : Acceptable s xs) → total (map (λ x. length (x .token .text)) xs) ≤ most-bytes
     bound a =
         let b = spelled-bytes (a .as-read .spelling) in
@@ -256,9 +233,5 @@ fits s xs e =
         ∙ ap (map (λ (t : Token). length (t .text))) (a .as-read .reading .tokens) in
         rw m (let c = a .short in omega arith)
 
-    inputs : (x : Tagged) → may-say (x .token .kind) (x .role) ≡ true → Spelled (x .token) → has-role Input x ≡ true → link-letter (text x) ≤ greatest-letter
-    inputs x m sp i =
-        sp
-        (same-kind
-        (x .token .kind) Inp
-        (subst (λ (b : Bool). lib.Dec.T b) (sym (subst (λ (b : Bool). cond b (eqb (kind-number (x .token .kind)) (kind-number Inp)) true ≡ true) i m)) tt))
+    inputs : (x : Tagged) → may-say (x .token .kind) (x .role) ≡ true → Input-spelled (x .token) → has-role Input x ≡ true → link-letter (text x) ≤ greatest-letter
+    inputs x m sp i = sp (input-kind x m i)

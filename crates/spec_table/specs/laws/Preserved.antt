@@ -14,6 +14,7 @@ use Rattle.spec_lists.specs.Text.{same, lowered}
 use Rattle.spec_lists.specs.Select.{joined, beside, beside₃, first-if}
 use Rattle.spec_lists.specs.Runs.{Run, runs, part}
 use Rattle.spec_lists.specs.Every.{Every, nil, cons}
+use Rattle.spec_lists.specs.laws.Every.{every-both}
 use Rattle.spec_lists.specs.laws.Joined.{joined-append, length-runs, map-part, map-map, map-joined, part-runs, beside-left, beside-right}
 use Rattle.spec_lists.specs.laws.Alike.{Alike, nil₂, cons₂, map-same, alike, beside₃-alike, parts-of, parts-spread, runs-alike}
 use Rattle.spec_calc.specs.Reader.{tree-of}
@@ -25,7 +26,7 @@ use Rattle.spec_file.specs.Limit.{Section, user-groups, host-groups, members, a
 use Rattle.spec_file.specs.Contents.{Group, Link, Rule-text, Asg, File}
 use Rattle.spec_file.specs.Meaning.{members-in, switched-off, rule-in}
 use Rattle.spec_table.specs.Layout.{Content}
-use Rattle.spec_table.specs.Check.{run-at, inputs-run, letter-field, number-field, level-bit, permission-bits, trap-bit, bits-from-4, undefined-number}
+use Rattle.spec_table.specs.Check.{run-at, inputs-run, rules-run, letter-field, number-field, level-bit, permission-bits, trap-bit, bits-from-4, undefined-number}
 use Rattle.spec_table.specs.Check.{no-calculation}
 use Rattle.spec_table.specs.Policy.{string, name, members-of, referred, permission, set-bit, rule-of, rules-of}
 use Rattle.spec_table.specs.Written.{run-words, member-lists, all-links, all-rules, Reference, number-of, references-to, reference-lists, names, spots}
@@ -141,11 +142,11 @@ module _ (c : Content) (sec : Section) (val : Option Group → List (List ℕ)) 
   -- so does each number of a run of references
   referred-read :
       (gs : List Group) → map (members-of c) (c .records sec) ≡ map (λ g. val (some g)) gs → length gs ≤ undefined-number
-      → (r : Run) (ns : List (List ℕ)) → part r (map number-field (c .records references)) ≡ map (λ x. x .number) (references-to gs ns)
+      → (r : Run) (ns : List (List ℕ)) → map number-field (part r (c .records references)) ≡ map (λ x. x .number) (references-to gs ns)
       → map (referred c sec) (part r (c .records references)) ≡ map (λ n. val (named (λ g. g .name) n gs)) ns
   referred-read gs es h r ns e =
       sym (map-map look number-field (part r (c .records references)))
-      ∙ ap (map look) (map-part number-field r (c .records references) ∙ e)
+      ∙ ap (map look) e
       ∙ simp map-map (map-same (λ s. numbered s 0 gs es (omega arith)) ns)
     where
       look : ℕ → List (List ℕ)
@@ -193,18 +194,25 @@ module _ (f : File) where
 
 -- ---- rules
 
+-- what is read of all references is read of each run of them
+pub references-kept :
+    {W : Type 0} (f : File) (g : List ℕ → W) (h : Reference → W) → map g (records f references) ≡ map h (joined (reference-lists f))
+    → Alike (λ r l. map g (part r (records f references)) ≡ map h l) (runs 0 (reference-lists f)) (reference-lists f)
+references-kept f g h e =
+    alike
+    (λ r. map g (part r (records f references)))
+    (map h)
+    (runs 0 (reference-lists f))
+    (reference-lists f)
+    (map-same (λ r. map-part g r (records f references) ∙ ap (part r) e) (runs 0 (reference-lists f)) ∙ parts-of h [] (reference-lists f))
+
 -- a run of references has the numbers of l
 abbrev Numbers : File → Run → List Reference → Type 0
-Numbers f r l = part r (map number-field (records f references)) ≡ map (λ x. x .number) l
+Numbers f r l = map number-field (part r (records f references)) ≡ map (λ x. x .number) l
 
 numbers-kept : (f : File) → Alike (Numbers f) (runs 0 (reference-lists f)) (reference-lists f)
 numbers-kept f =
-    alike
-    (λ r. part r (map number-field (records f references)))
-    (map (λ x. x .number))
-    (runs 0 (reference-lists f))
-    (reference-lists f)
-    (rw
+    references-kept f number-field (λ r. r .number)
     (beside-left
     (λ r name. r .number ∷ run-words name)
     number-field
@@ -213,7 +221,24 @@ numbers-kept f =
     (joined (reference-lists f))
     (spots f 5)
     (sym (spots-length f 5 ∙ length-map (joined (reference-lists f)) (λ r. r .name))))
-    (parts-of (λ x. x .number) [] (reference-lists f)))
+
+-- what is read of a rule's record, by its references and its calculation, is read of all rule records
+pub rows-kept :
+    {W : Type 0} {P : Rule-text → Type 0} {N : Run → List Reference → Type 0} (f : File) (g : List ℕ → W) (k : Rule-text → W)
+    → ((r : Rule-text) (u h q : Run) → P r → N u (references-to (f .uags) (r .uags)) → N h (references-to (f .hags) (r .hags))
+    → string (content f) q ≡ Option·getD (r .calculation) []
+    → g (flags r ∷ ((run-words u ++ run-words h) ++ calculation-words (r .calculation) q)) ≡ k r)
+    → Every P (all-rules f) → Alike N (runs 0 (reference-lists f)) (reference-lists f) → map g (records f rules) ≡ map k (all-rules f)
+rows-kept {P = P} {N = N} f g k e ps ns =
+    go ps ns (alike (string (content f)) (λ r. Option·getD (r .calculation) []) (spots f 6) (all-rules f) (strings-kept f 6))
+  where
+    go :
+        {rs : List Rule-text} {xs qs : List Run} → Every P rs
+        → Alike N xs (joined (map (λ r. references-to (f .uags) (r .uags) ∷ references-to (f .hags) (r .hags) ∷ []) rs))
+        → Alike (λ q r. string (content f) q ≡ Option·getD (r .calculation) []) qs rs
+        → map g (beside₃ (λ r refs calc. flags r ∷ (refs ++ calculation-words (r .calculation) calc)) rs (two-runs xs) qs) ≡ map k rs
+    go nil nil₂ nil₂ = refl
+    go (cons {x = r} p ps) (cons₂ {x = u} us (cons₂ {x = h} hs refs)) (cons₂ {x = q} s ss) = cc (e r u h q p us hs s, go ps refs ss)
 
 module _ (f : File) (fits : Fits f) (no-empty : tree-of [] ≡ none) where
   rule-kept :
@@ -240,23 +265,12 @@ module _ (f : File) (fits : Fits f) (no-empty : tree-of [] ≡ none) where
         calculation = calculation-read (content f) no-empty (r .calculation) q fit s i;
       }
 
-  rows-kept :
-      {rs : List Rule-text} {xs qs : List Run} → Every (λ r. Calculation-fits (r .calculation)) rs → Every (λ r. r .level ≤ 1) rs
-      → Alike (Numbers f) xs (joined (map (λ r. references-to (f .uags) (r .uags) ∷ references-to (f .hags) (r .hags) ∷ []) rs))
-      → Alike (λ q r. string (content f) q ≡ Option·getD (r .calculation) []) qs rs
-      → map (rule-of (content f)) (beside₃ (λ r refs calc. flags r ∷ (refs ++ calculation-words (r .calculation) calc)) rs (two-runs xs) qs)
-      ≡ map (rule-in f) rs
-  rows-kept nil nil nil₂ nil₂ = refl
-  rows-kept (cons {x = r} c cs) (cons l ls) (cons₂ {x = u} us (cons₂ {x = h} hs refs)) (cons₂ {x = q} s ss) =
-      cc (rule-kept r u h q c l us hs s, rows-kept cs ls refs ss)
-
   pub rule-records-kept : map (rule-of (content f)) (records f rules) ≡ map (rule-in f) (all-rules f)
   rule-records-kept =
-      rows-kept
-      (fits .calculations)
-      (fits .levels)
+      rows-kept {P = λ r. Calculation-fits (r .calculation) × (r .level ≤ 1)} f (rule-of (content f)) (rule-in f)
+      (λ r u h q p us hs s. rule-kept r u h q (p .0) (p .1) us hs s)
+      (every-both (λ r c l. (c, l)) (fits .calculations) (fits .levels))
       (numbers-kept f)
-      (alike (string (content f)) (λ r. Option·getD (r .calculation) []) (spots f 6) (all-rules f) (strings-kept f 6))
 
 -- ---- access groups
 
@@ -304,23 +318,29 @@ names-kept f =
     (runs-alike (λ a. a .inputs) (f .asgs))
     (runs-alike (λ a. a .rules) (f .asgs))
 
+-- and what is read of their rules, if it is read of all rules
+pub rule-lists-kept :
+    {W : Type 0} (f : File) (g : List ℕ → W) (h : Rule-text → W) → map g (records f rules) ≡ map h (all-rules f)
+    → map (λ row. map g (part (rules-run row) (records f rules))) (records f access-groups) ≡ map (λ a. map h (a .rules)) (f .asgs)
+rule-lists-kept f g h e =
+    asgs-kept
+    f
+    (λ row. map g (part (rules-run row) (records f rules)))
+    (λ a. map h (a .rules))
+    (λ n i r a s t u. map-part g r (records f rules) ∙ ap (part r) e ∙ u)
+    (runs-alike (λ a. a .inputs) (f .asgs))
+    (alike
+    (λ r. part r (map h (all-rules f)))
+    (λ a. map h (a .rules))
+    (runs 0 (map (λ a. a .rules) (f .asgs)))
+    (f .asgs)
+    (parts-of h [] (map (λ a. a .rules) (f .asgs)) ∙ map-map (map h) (λ a. a .rules) (f .asgs)))
+
 -- and their rules
 pub rules-kept :
     (f : File) → Fits f → tree-of [] ≡ none
     → map (rules-of (content f)) (records f access-groups) ≡ map (λ a. map (rule-in f) (a .rules)) (f .asgs)
-rules-kept f fits no-empty =
-    asgs-kept
-    f
-    (rules-of (content f))
-    (λ a. map (rule-in f) (a .rules))
-    (λ n i r a s t u. map-part (rule-of (content f)) r (records f rules) ∙ ap (part r) (rule-records-kept f fits no-empty) ∙ u)
-    (runs-alike (λ a. a .inputs) (f .asgs))
-    (alike
-    (λ r. part r (map (rule-in f) (all-rules f)))
-    (λ a. map (rule-in f) (a .rules))
-    (runs 0 (map (λ a. a .rules) (f .asgs)))
-    (f .asgs)
-    (parts-of (rule-in f) [] (map (λ a. a .rules) (f .asgs)) ∙ map-map (map (rule-in f)) (λ a. a .rules) (f .asgs)))
+rules-kept f fits no-empty = rule-lists-kept f (rule-of (content f)) (rule-in f) (rule-records-kept f fits no-empty)
 
 -- and their inputs
 pub links-kept : (f : File) → map (links-of (content f)) (records f access-groups) ≡ map (λ a. a .inputs) (f .asgs)

@@ -58,13 +58,40 @@ stands b h = both (sections-stand b) (well-formed (view b)) h
 abbrev names-in : Content → Section → Bool
 names-in c s = all (λ r. string-fits c longest-name (name-run s r)) (c .records s)
 
+module _ (c : Content) where
+  -- what stands of a rule
+  pub rule-parts :
+      (r : List ℕ) → rule-stands c r ≡ true
+      → (calculation-stands c (calculation-run r) ≡ true)
+      × (numbers-fit c user-groups (users-run r) ≡ true)
+      × (numbers-fit c host-groups (hosts-run r) ≡ true)
+  rule-parts r e =
+      let u = numbers-fit c user-groups (users-run r) in
+      let h = numbers-fit c host-groups (hosts-run r) in
+      let k = calculation-stands c (calculation-run r) in
+      let x = both (flags-stand (flags-field r)) (k && (u && h)) e in
+      let y = both k (u && h) (x .1) in
+      let z = both u h (y .1) in
+      (y .0, z .0, z .1)
+
+  -- and of its calculation, if it has one
+  pub calculation-parts :
+      (r : Run) → calculation-stands c r ≡ true → no-calculation r ≡ false
+      → (string-fits c longest-calculation r ≡ true) × (missing (tree-of (part r (c .strings))) ≡ false)
+  calculation-parts r e n =
+      let f = string-fits c longest-calculation r in
+      let m = missing (tree-of (part r (c .strings))) in
+      let k = both f (not m) (subst (λ (b : Bool). b || f && not m ≡ true) n e) in
+      (k .0, not-true m (k .1))
+
 module _ (c : Content) (w : well-formed c ≡ true) where
-  conditions : (runs-stand c ≡ true) × (names-fit c ≡ true) × (all (rule-stands c) (c .records rules) ≡ true)
+  pub conditions : (runs-stand c ≡ true) × (names-fit c ≡ true) × (letters-stand c ≡ true) × (all (rule-stands c) (c .records rules) ≡ true)
   conditions =
       let x = both (counts-fit c) (runs-stand c && (names-fit c && (letters-stand c && all (rule-stands c) (c .records rules)))) w in
       let y = both (runs-stand c) (names-fit c && (letters-stand c && all (rule-stands c) (c .records rules))) (x .1) in
       let z = both (names-fit c) (letters-stand c && all (rule-stands c) (c .records rules)) (y .1) in
-      (y .0, z .0, both (letters-stand c) (all (rule-stands c) (c .records rules)) (z .1) .1)
+      let v = both (letters-stand c) (all (rule-stands c) (c .records rules)) (z .1) in
+      (y .0, z .0, v .0, v .1)
 
   -- ---- counts
 
@@ -93,22 +120,14 @@ module _ (c : Content) (w : well-formed c ≡ true) where
   -- ---- rules
 
   rule-at : (i : ℕ) → i < length (c .records rules) → rule-stands c (row c rules i) ≡ true
-  rule-at i l = all-at (rule-stands c) (c .records rules) i [] (conditions .2) l
+  rule-at i l = all-at (rule-stands c) (c .records rules) i [] (conditions .3) l
 
   rule-clauses :
       (i : ℕ) → i < length (c .records rules)
       → (calculation-stands c (calculation-run (row c rules i)) ≡ true)
       × (numbers-fit c user-groups (users-run (row c rules i)) ≡ true)
       × (numbers-fit c host-groups (hosts-run (row c rules i)) ≡ true)
-  rule-clauses i l =
-      let r = row c rules i in
-      let u = numbers-fit c user-groups (users-run r) in
-      let h = numbers-fit c host-groups (hosts-run r) in
-      let k = calculation-stands c (calculation-run r) in
-      let x = both (flags-stand (flags-field r)) (k && (u && h)) (rule-at i l) in
-      let y = both k (u && h) (x .1) in
-      let z = both u h (y .1) in
-      (y .0, z .0, z .1)
+  rule-clauses i l = rule-parts c (row c rules i) (rule-at i l)
 
   -- ---- names
 
@@ -144,11 +163,7 @@ module _ (c : Content) (w : well-formed c ≡ true) where
   pub calculation-there :
       (i : ℕ) → i < length (c .records rules) → let r = calculation-run (row c rules i) in
       no-calculation r ≡ false → missing (tree-of (part r (c .strings))) ≡ false
-  calculation-there i l n =
-      let r = calculation-run (row c rules i) in
-      let f = string-fits c longest-calculation r in
-      let m = missing (tree-of (part r (c .strings))) in
-      not-true m (both f (not m) (subst (λ (b : Bool). b || f && not m ≡ true) n (rule-clauses i l .0)) .1)
+  calculation-there i l n = calculation-parts c (calculation-run (row c rules i)) (rule-clauses i l .0) n .1
 
   pub name-within : (s : Section) (i : ℕ) → i < length (c .records s) → Within (length (c .strings)) (name-run s (row c s i))
   name-within =
@@ -164,7 +179,7 @@ module _ (c : Content) (w : well-formed c ≡ true) where
 
   -- ---- runs
 
-  in-runs :
+  pub in-runs :
       (in-turn 0 (map members-run (c .records user-groups ++ c .records host-groups)) (length (c .records members)) ≡ true)
       × (in-turn 0 (map inputs-run (c .records access-groups)) (length (c .records inputs)) ≡ true)
       × (in-turn 0 (map rules-run (c .records access-groups)) (length (c .records rules)) ≡ true)

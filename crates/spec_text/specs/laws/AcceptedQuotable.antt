@@ -1,16 +1,16 @@
 -- Whatever text reads: every string of what it says can stand between quotes.
 use mathlib.Core.List.{List, []}
-use mathlib.Core.Option.{Option·getD}
 use Prim.Native.Nat.{ℕ}
 use Rattle.spec_lists.specs.Every.{Every, nil, cons}
 use Rattle.spec_lists.specs.laws.Every.{every-implies, every-map}
 use Rattle.spec_token.specs.Token.{Between-quotes, nothing}
 use Rattle.spec_grammar.specs.declared.Role.{Role}
-use Rattle.spec_grammar.specs.declared.Role.the-variants.{UagName, User, HagName, Host, AsgName, Input, Pvname, RuleWord, UagNamed, HagNamed, Calculation}
+use Rattle.spec_grammar.specs.declared.Role.the-variants.{UagName, User, HagName, Host, AsgName, Input, Pvname, RuleWord, UagNamed, HagNamed}
+use Rattle.spec_grammar.specs.declared.Role.the-variants.{Calculation}
 use Rattle.spec_grammar.specs.Sentence.{Tagged}
 use Rattle.spec_file.specs.Contents.{text, texts, head-of, groups, rule-text, asg, file-of}
 use Rattle.spec_file.specs.Acceptance.{Text-reads}
-use Rattle.spec_file.specs.laws.Counted.{every-clauses, every-texts}
+use Rattle.spec_file.specs.laws.Counted.{every-clauses, every-texts, first-has}
 use Rattle.spec_file.specs.laws.ItemClauses.{group, link, rule-of}
 use Rattle.spec_text.specs.laws.Keeps.{Calculation-of, without, with, Group-of, Rule-of, Asg-of, Strings-of, Quotable}
 use Rattle.spec_text.specs.laws.AcceptedTokens.{tokens-quotable}
@@ -22,10 +22,6 @@ module _ (P : List ℕ → Type 0) (empty : P []) where
 
   all-texts : (r : Role) {xs : List Tagged} → Every Text-has xs → Every P (texts r xs)
   all-texts r = every-texts r (λ x h p. p)
-
-  first-text : {ts : List (List ℕ)} → Every P ts → P (Option·getD (head-of ts) [])
-  first-text nil = empty
-  first-text (cons p e) = p
 
   calculation-text : {ts : List (List ℕ)} → Every P ts → Calculation-of P P (head-of ts)
   calculation-text nil = without
@@ -44,7 +40,7 @@ module _ (P : List ℕ → Type 0) (empty : P []) where
       (λ p w.
       record {
         name = w .head;
-        inputs = every-map link (every-implies (λ i v. first-text (all-texts Pvname (v .body))) (every-clauses Input (w .body)));
+        inputs = every-map link (every-implies (λ i v. first-has empty (all-texts Pvname (v .body))) (every-clauses Input (w .body)));
         rules = every-map rule-of (every-implies (λ r v. rule-said (v .body)) (every-clauses RuleWord (w .body)));
       })
       (every-clauses AsgName e))

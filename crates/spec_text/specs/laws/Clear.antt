@@ -39,13 +39,13 @@ unrefused c =
     )
 
 module _ (f : File) (p : ℕ) (k : Keeps f) (e : faulty f ≡ false) where
-  pub text-clear : Clear (contexts (said-at p (file-pieces f)))
+  text-clear : Clear (contexts (said-at p (file-pieces f)))
   text-clear =
       record {
         short = every-implies (λ c h. h .short) plain;
         few = in-text fits-respects f p (file-fits f (k .few));
-        once = nothing-again f p (sound f e);
-        defined = nothing-undefined f p (sound f e);
+        once = nothing-again f p (sound f e) (k .named);
+        defined = nothing-undefined f p (sound f e) (k .named);
         levels = every-implies (λ c h. h .level) plain;
         words = every-implies (λ c h. h .word) plain;
         calculations = no-bad-calculation f p (sound f e);

@@ -3,30 +3,32 @@ use mathlib.Core.Path.{_≡_, refl, sym, ap, _∙_}
 use mathlib.Core.Bool.{Bool, true, false, not, _&&_, _||_, or-true, false≢true}
 use mathlib.Core.List.{List, [], _∷_, _++_, map}
 use mathlib.Core.Option.{Option, none, some}
-use Prim.Native.Nat.{ℕ, _+_}
-use native.Mathlib.Omega.{arith}
+use Prim.Native.Nat.{ℕ}
 use lib.Dec.{eqb}
 use Rattle.spec_lists.specs.Select.{any, select, prepend-if, joined, holds-of}
 use Rattle.spec_lists.specs.Every.{Every, nil, cons}
 use Rattle.spec_lists.specs.laws.Any.{any-append, or-between}
-use Rattle.spec_lists.specs.laws.Every.{every-implies, every-map, every-joined, every-all, all-every}
+use Rattle.spec_lists.specs.laws.Every.{every-append, every-implies, every-map, every-joined, every-all, all-every}
 use Rattle.spec_lists.specs.laws.Joined.{map-map, map-append}
-use Rattle.spec_token.specs.Word.{link-letter}
 use Rattle.spec_calc.specs.Expression.{Tree}
 use Rattle.spec_calc.specs.Value.{letters}
 use Rattle.spec_calc.specs.Reader.{tree-of}
+use Rattle.spec_token.specs.Word.{link-letter}
 use Rattle.spec_grammar.specs.declared.Role.the-variants.{AsgName, Input, Pvname, UagNamed, HagNamed, Calculation}
 use Rattle.spec_grammar.specs.Sentence.{Tagged}
 use Rattle.spec_file.specs.Contents.{has-role, text, texts, until, Link, Rule-text, Asg, File}
+use Rattle.spec_file.specs.Meaning.{switched-off}
 use Rattle.spec_file.specs.Refusal.{Context, contexts, letters-given, letters-among}
 use Rattle.spec_file.specs.Load.{bad-calculation}
 use Rattle.spec_text.specs.Lines.{link-word}
 use Rattle.spec_text.specs.Faults.{calculation-faulty, letters-of}
 use Rattle.spec_text.specs.laws.Pieces.{said-at, file-pieces}
 use Rattle.spec_text.specs.laws.ClearFaults.{Rule-sound, Asg-sound, Sound}
-use Rattle.spec_text.specs.laws.ClearSayings.{saying, link-sayings, calculation-sayings, rule-sayings, rules-sayings, asg-sayings, file-sayings}
-use Rattle.spec_text.specs.laws.ClearContexts.{Onward, end, next, Respects, in-text, texts-says, until-says}
-use Rattle.spec_text.specs.laws.ClearRoles.{Without, file-onward, rule-without, strings-without, each-without, texts-append, rule-each}
+use Rattle.spec_text.specs.laws.Sayings.{saying, link-sayings, calculation-sayings, rule-sayings, rules-sayings, asg-sayings, file-sayings}
+use Rattle.spec_text.specs.laws.Words.{letter-back}
+use Rattle.spec_text.specs.laws.Heard.{texts-says, until-says}
+use Rattle.spec_text.specs.laws.Roles.{is, Without, rule-without, strings-without, unknown-without, each-without, texts-append}
+use Rattle.spec_text.specs.laws.ClearContexts.{Onward, end, next, Respects, in-text, file-onward}
 
 -- ---- more letters
 
@@ -98,13 +100,10 @@ given-on ls b x e g i h = rw e (go (has-role Input x))
 
 -- the tokens behind the inputs
 rules-onward :
-    (ls : List ℕ) (b xs : List Tagged) → Given ls (letters-before b) → Without AsgName xs → Every (λ x. disallowed ls x ≡ false) xs → Onward Allowed b xs
+    (ls : List ℕ) (b xs : List Tagged) → Given ls (letters-before b) → Without (is AsgName) xs → Every (λ x. disallowed ls x ≡ false) xs → Onward Allowed b xs
 rules-onward ls b [] g w c = end
 rules-onward ls b (x ∷ xs) g (cons e w) (cons h c) =
     next (allowed-by-more ls (letters-before b) g x h) (rules-onward ls (x ∷ b) xs (given-on ls b x e g) w c)
-
-letter-back : (n : ℕ) → link-letter (link-word n) ≡ n
-letter-back n = omega arith
 
 -- d has the letters ls besides those of b
 abbrev Besides : List ℕ → List Tagged → List Tagged → Type 0
@@ -129,10 +128,13 @@ links-onward (l ∷ is) b ys k =
 
 rule-allowed : (f : File) (given : List ℕ) (r : Rule-text) → Rule-sound f given r → Every (λ x. disallowed given x ≡ false) (rule-sayings r)
 rule-allowed f given r k =
-    rule-each Calculation v refl r
-    (every-implies v (strings-without Calculation UagNamed refl (r .uags)))
-    (every-implies v (strings-without Calculation HagNamed refl (r .hags)))
-    (calculation (r .calculation) (k .calculation))
+    cons refl
+    (cons refl
+    (cons refl
+    (cons refl
+    (every-append (every-implies v (strings-without (is Calculation) UagNamed refl (r .uags)))
+    (every-append (every-implies v (strings-without (is Calculation) HagNamed refl (r .hags)))
+    (every-append (calculation (r .calculation) (k .calculation)) (every-implies v (unknown-without (is Calculation) refl (switched-off r)))))))))
   where
     v : (x : Tagged) → has-role Calculation x ≡ false → disallowed given x ≡ false
     v x e = rw e
@@ -147,11 +149,11 @@ asg-onward f a k b =
     (links-onward (a .inputs) (saying AsgName (a .name) ∷ b) (rules-sayings a)
     (λ d g.
     rules-onward (letters-of a) d (rules-sayings a) (λ i h. g i (rw h))
-    (each-without AsgName rule-sayings (rule-without AsgName refl) (a .rules))
+    (each-without (is AsgName) rule-sayings (rule-without (is AsgName) refl refl) (a .rules))
     (every-joined (every-map rule-sayings (every-implies (rule-allowed f (letters-of a)) (k .rules))))))
 
 pub no-bad-calculation : (f : File) (p : ℕ) → Sound f → Every (λ c. bad-calculation c ≡ false) (contexts (said-at p (file-pieces f)))
 no-bad-calculation f p k = every-implies allowed-not-bad (in-text allowed-respects f p all)
   where
     all : Onward Allowed [] (file-sayings f)
-    all = file-onward Calculation (λ x e b. rw e) refl refl f (every-implies (asg-onward f) (k .each))
+    all = file-onward Calculation (λ x e b. rw e) refl refl refl refl f (every-implies (asg-onward f) (k .each))

@@ -1,21 +1,19 @@
 -- Properties of every token with those before it; what looks at roles and texts alone holds of tokens if it holds of what they say.
-use mathlib.Core.Path.{_≡_, refl, ap, ap₂, _∙_}
-use mathlib.Core.Bool.{Bool, true, false, not}
+use mathlib.Core.Path.{_≡_}
+use mathlib.Core.Bool.{false}
 use mathlib.Core.List.{List, [], _∷_, _++_, map}
-use Prim.Native.Nat.{ℕ, suc}
-use lib.Dec.{eqb}
-use lib.ListN.{length}
-use Rattle.spec_lists.specs.Select.{select, prepend-if, keep-if, joined, holds-of}
+use Prim.Native.Nat.{ℕ}
+use Rattle.spec_lists.specs.Select.{joined}
 use Rattle.spec_lists.specs.Every.{Every, nil, cons}
+use Rattle.spec_lists.specs.laws.Every.{every-implies}
 use Rattle.spec_grammar.specs.declared.Role.{Role}
-use Rattle.spec_grammar.specs.declared.Role.the-variants.{NoRole}
-use Rattle.spec_grammar.specs.Codes.{same-role}
+use Rattle.spec_grammar.specs.declared.Role.the-variants.{NoRole, UagName, User, HagName, Host}
 use Rattle.spec_grammar.specs.Sentence.{Tagged}
-use Rattle.spec_file.specs.Limit.{Section, order, item-of}
-use Rattle.spec_file.specs.Contents.{has-role, text, texts, until, File}
-use Rattle.spec_file.specs.Refusal.{contexts-after, contexts, item}
+use Rattle.spec_file.specs.Contents.{has-role, text, File}
+use Rattle.spec_file.specs.Refusal.{contexts-after, contexts}
 use Rattle.spec_text.specs.laws.Pieces.{said-at, file-pieces}
-use Rattle.spec_text.specs.laws.ClearSayings.{Says, nothing, silent, aloud, file-sayings, text-says}
+use Rattle.spec_text.specs.laws.Sayings.{Says, nothing, silent, aloud, asg-sayings, file-sayings, text-says}
+use Rattle.spec_text.specs.laws.Roles.{is, uags-without, hags-without}
 
 -- a property of each of some tokens and of those before it, b being before all of them
 pub data Onward (Q : List Tagged → Tagged → Type 0) : List Tagged → List Tagged → Type 0 where
@@ -28,7 +26,7 @@ pub record Respects (Q : List Tagged → Tagged → Type 0) : Type 0 where
   pub heard : (b d : List Tagged) (x y : Tagged) → Says b d → x .role ≡ y .role → text x ≡ text y → Q d y → Q b x
 
 module _ {Q : List Tagged → Tagged → Type 0} where
-  pub onward-contexts : {b xs : List Tagged} → Onward Q b xs → Every (λ c. Q (c .backwards) (c .here)) (contexts-after b xs)
+  onward-contexts : {b xs : List Tagged} → Onward Q b xs → Every (λ c. Q (c .backwards) (c .here)) (contexts-after b xs)
   onward-contexts end = nil
   onward-contexts {b} (next {x = x} {xs = xs} q o) = cons {x = record { backwards = b; here = x; onwards = xs }} q (onward-contexts o)
 
@@ -47,7 +45,7 @@ module _ {Q : List Tagged → Tagged → Type 0} where
   onward-joined g nil b = end
   onward-joined g (cons o c) b = onward-append (o b) (onward-joined g c)
 
-  pub onward-says : Respects Q → {b d xs ys : List Tagged} → Says b d → Says xs ys → Onward Q d ys → Onward Q b xs
+  onward-says : Respects Q → {b d xs ys : List Tagged} → Says b d → Says xs ys → Onward Q d ys → Onward Q b xs
   onward-says r s nothing o = end
   onward-says r {b} s (silent {x = x} e t) o = next (r .quiet b x e) (onward-says r (silent e s) t o)
   onward-says r {b} {d} s (aloud {x = x} {y = y} e u t) (next q o) = next (r .heard b d x y s e u q) (onward-says r (aloud e u s) t o)
@@ -56,45 +54,12 @@ module _ {Q : List Tagged → Tagged → Type 0} where
   pub in-text : Respects Q → (f : File) (p : ℕ) → Onward Q [] (file-sayings f) → Every (λ c. Q (c .backwards) (c .here)) (contexts (said-at p (file-pieces f)))
   in-text r f p o = onward-contexts (onward-says r nothing (text-says f p) o)
 
--- ---- what tokens and what they say have in common
-
-module _ (r : Role) (m : same-role NoRole r ≡ false) where
-  pub texts-says : {xs ys : List Tagged} → Says xs ys → texts r xs ≡ texts r ys
-  texts-says nothing = refl
-  texts-says (silent e s) = rw (e, m) (texts-says s)
-  texts-says (aloud {x = x} {y = y} {xs = xs} {ys = ys} e u s) = rw (ap (λ (z : Role). same-role z r) e) (go (has-role r y) (texts-says s))
-    where
-      go : (b : Bool) → texts r xs ≡ texts r ys → map text (prepend-if b x (select (has-role r) xs)) ≡ map text (prepend-if b y (select (has-role r) ys))
-      go true h = ap₂ (λ (t : List ℕ) (ts : List (List ℕ)). t ∷ ts) u h
-      go false h = h
-
-  pub until-says : {xs ys : List Tagged} → Says xs ys → Says (until r xs) (until r ys)
-  until-says nothing = nothing
-  until-says (silent {x = x} e s) =
-      let h : has-role r x ≡ false = ap (λ (z : Role). same-role z r) e ∙ m in
-      rw h (silent e (until-says s))
-  until-says (aloud {x = x} {y = y} {xs = xs} {ys = ys} e u s) = rw (ap (λ (z : Role). same-role z r) e) (go (has-role r y) (until-says s))
-    where
-      go : (b : Bool) → Says (until r xs) (until r ys) → Says (keep-if (not b) x (until r xs)) (keep-if (not b) y (until r ys))
-      go true h = nothing
-      go false h = aloud e u h
-
-pub count-says : (s : Section) {xs ys : List Tagged} → Says xs ys → length (select (item s) xs) ≡ length (select (item s) ys)
-count-says s nothing = refl
-count-says s (silent e t) = rw e (count-says s t)
-count-says s (aloud {x = x} {y = y} {xs = xs} {ys = ys} e u t) =
-    rw (ap (λ (z : Role). holds-of (item-of z) (λ q. eqb (order q) (order s))) e) (go (item s y) (count-says s t))
-  where
-    go :
-        (b : Bool) → length (select (item s) xs) ≡ length (select (item s) ys)
-        → length (prepend-if b x (select (item s) xs)) ≡ length (prepend-if b y (select (item s) ys))
-    go true h = ap suc h
-    go false h = h
-
-module _ (P : Role → List ℕ → Type 0) where
-  pub every-says :
-      ((s : List ℕ) → P NoRole s) → {xs ys : List Tagged} → Says xs ys → Every (λ y. P (y .role) (text y)) ys
-      → Every (λ x. P (x .role) (text x)) xs
-  every-says n nothing c = nil
-  every-says n (silent {x = x} e s) c = cons {x = x} (rw e (n (text x))) (every-says n s c)
-  every-says n (aloud {x = x} e u s) (cons p c) = cons {x = x} (rw (e, u) p) (every-says n s c)
+-- a property of tokens that say q, where q stands in ASGs only
+pub file-onward :
+    (q : Role) {Q : List Tagged → Tagged → Type 0} → ((x : Tagged) → has-role q x ≡ false → (b : List Tagged) → Q b x)
+    → is q UagName ≡ false → is q User ≡ false → is q HagName ≡ false → is q Host ≡ false → (f : File)
+    → Every (λ a. (b : List Tagged) → Onward Q b (asg-sayings a)) (f .asgs)
+    → Onward Q [] (file-sayings f)
+file-onward q v u m h n f c =
+    onward-append (every-onward [] (every-implies v (uags-without (is q) u m f)))
+    (λ b. onward-append (every-onward b (every-implies v (hags-without (is q) h n f))) (onward-joined asg-sayings c))

@@ -1,5 +1,5 @@
 -- The cause of 6: the text has no more items of a section than it holds.
-use mathlib.Core.Path.{_≡_, refl, sym, ap, fun-ext, _∙_}
+use mathlib.Core.Path.{_≡_, refl, sym, ap, _∙_}
 use mathlib.Core.Bool.{Bool, true, false, cond}
 use mathlib.Core.List.{List, [], _∷_, _++_, map}
 use mathlib.Core.Option.{Option, none, some}
@@ -10,7 +10,8 @@ use lib.ListN.{length, length-append}
 use borrow.Author.Tests.{lt-leb, eq-eqb}
 use Rattle.spec_lists.specs.Text.{bytes}
 use Rattle.spec_lists.specs.Select.{select, prepend-if, joined, holds-of}
-use Rattle.spec_lists.specs.laws.Sums.{sum, sum-nil, sum-cons, sum-plus, sum-map, sum-joined, length-sum, length-joined}
+use Rattle.spec_lists.specs.laws.Joined.{select-append}
+use Rattle.spec_lists.specs.laws.Sums.{sum, sum-nil, sum-cons, sum-map, sum-joined, sum-same, sum-ones, sum-none, length-each}
 use Rattle.spec_grammar.specs.declared.Role.{Role}
 use Rattle.spec_grammar.specs.declared.Role.the-variants.{UagName, User, HagName, Host, AsgName, Input, Pvname, RuleWord, UagNamed, HagNamed}
 use Rattle.spec_grammar.specs.Sentence.{Tagged}
@@ -20,9 +21,10 @@ use Rattle.spec_file.specs.Meaning.{switched-off}
 use Rattle.spec_file.specs.Refusal.{item, too-many}
 use Rattle.spec_text.specs.Lines.{link-word}
 use Rattle.spec_text.specs.laws.Keeps.{named-in, Few}
-use Rattle.spec_text.specs.laws.ClearSayings.{Says, saying, strings, group-sayings, link-sayings, calculation-sayings, unknown-sayings}
-use Rattle.spec_text.specs.laws.ClearSayings.{head-sayings, predicate-sayings, rule-sayings, links-sayings, rules-sayings, asg-sayings, file-sayings}
-use Rattle.spec_text.specs.laws.ClearContexts.{Onward, end, next, Respects, count-says}
+use Rattle.spec_text.specs.laws.Sayings.{Says, saying, strings, group-sayings, link-sayings, calculation-sayings, unknown-sayings, head-sayings}
+use Rattle.spec_text.specs.laws.Sayings.{predicate-sayings, rule-sayings, links-sayings, rules-sayings, asg-sayings, file-sayings}
+use Rattle.spec_text.specs.laws.Heard.{count-says}
+use Rattle.spec_text.specs.laws.ClearContexts.{Onward, end, next, Respects}
 
 abbrev count : Section → List Tagged → ℕ
 count s xs = length (select (item s) xs)
@@ -62,24 +64,6 @@ fits b (x ∷ xs) l = next (here (item-of (x .role)) refl) (fits (x ∷ b) xs (�
     here none e = refl
     here (some t) e = lt-leb (most t) (count t b) (room t (item t x) (counts t e) (l t))
 
--- ---- sums
-
-module _ {A : Type 0} {v w : A → ℕ} where
-  sum-same : ((x : A) → v x ≡ w x) → (xs : List A) → sum v xs ≡ sum w xs
-  sum-same e xs = ap (λ (h : A → ℕ). sum h xs) (fun-ext e)
-
-module _ {A : Type 0} {v : A → ℕ} where
-  sum-ones : ((x : A) → v x ≡ 1) → (xs : List A) → sum v xs ≡ length xs
-  sum-ones e xs = sum-same {w = λ x. 1} e xs ∙ sym (length-sum xs)
-
-  sum-none : ((x : A) → v x ≡ 0) → (xs : List A) → sum v xs ≡ 0
-  sum-none e xs =
-      let h : sum v xs ≡ sum v xs + sum v xs = sum-same {w = λ x. v x + v x} (λ x. omega (arith, e x)) xs ∙ sum-plus v v xs in
-      omega arith
-
-length-of : {A B : Type 0} (f : A → List B) (xs : List A) → length (joined (map f xs)) ≡ sum (λ x. length (f x)) xs
-length-of f xs = length-joined (map f xs) ∙ sum-map length f xs
-
 -- ---- how many items there are
 
 -- n, if a token of the role r is an item of the section
@@ -88,14 +72,7 @@ if-item s r n = cond (item s (saying r [])) n 0
 
 module _ (s : Section) where
   count-append : (xs ys : List Tagged) → count s (xs ++ ys) ≡ count s xs + count s ys
-  count-append [] ys = omega arith
-  count-append (x ∷ xs) ys = go (item s x) (count-append xs ys)
-    where
-      go :
-          (i : Bool) → count s (xs ++ ys) ≡ count s xs + count s ys
-          → length (prepend-if i x (select (item s) (xs ++ ys))) ≡ length (prepend-if i x (select (item s) xs)) + count s ys
-      go true e = omega arith
-      go false e = e
+  count-append xs ys = ap length (select-append (item s) xs ys) ∙ length-append (select (item s) xs) (select (item s) ys)
 
   count-joined :
       {A : Type 0} (g : A → List Tagged) (n : A → ℕ) → ((x : A) → count s (g x) ≡ n x) → (xs : List A) → count s (joined (map g xs)) ≡ sum n xs
@@ -234,7 +211,7 @@ few f k s = go s (file-counts s f) (sum-same (in-asg-is s) (f .asgs))
     references-in =
         let rs = map (λ a. a .rules) (f .asgs) in
         let n : Rule-text → ℕ = λ r. length (named-in r) in
-        sym (length-of named-in (joined rs) ∙ (sum-joined n rs ∙ sum-map (sum n) (λ a. a .rules) (f .asgs)))
+        sym (length-each named-in (joined rs) ∙ (sum-joined n rs ∙ sum-map (sum n) (λ a. a .rules) (f .asgs)))
 
     go :
         (s : Section)
@@ -262,8 +239,8 @@ few f k s = go s (file-counts s f) (sum-same (in-asg-is s) (f .asgs))
           arith,
           sum-same {v = in-group members UagName User} {w = λ g. length (g .members)} (λ g. omega arith) (f .uags),
           sum-same {v = in-group members HagName Host} {w = λ g. length (g .members)} (λ g. omega arith) (f .hags),
-          length-of (λ g. g .members) (f .uags),
-          length-of (λ g. g .members) (f .hags),
+          length-each (λ g. g .members) (f .uags),
+          length-each (λ g. g .members) (f .hags),
           sum-none {v = asg-items members} (λ a. refl) (f .asgs),
           k .members,
         )
@@ -281,7 +258,7 @@ few f k s = go s (file-counts s f) (sum-same (in-asg-is s) (f .asgs))
           sum-none {v = in-group inputs UagName User} (λ g. refl) (f .uags),
           sum-none {v = in-group inputs HagName Host} (λ g. refl) (f .hags),
           sum-same {v = asg-items inputs} {w = λ a. length (a .inputs)} (λ a. refl) (f .asgs),
-          length-of (λ a. a .inputs) (f .asgs),
+          length-each (λ a. a .inputs) (f .asgs),
           k .inputs,
         )
     go rules e h =
@@ -290,7 +267,7 @@ few f k s = go s (file-counts s f) (sum-same (in-asg-is s) (f .asgs))
           sum-none {v = in-group rules UagName User} (λ g. refl) (f .uags),
           sum-none {v = in-group rules HagName Host} (λ g. refl) (f .hags),
           sum-same {v = asg-items rules} {w = λ a. length (a .rules)} (λ a. refl) (f .asgs),
-          length-of (λ a. a .rules) (f .asgs),
+          length-each (λ a. a .rules) (f .asgs),
           k .rules,
         )
     go references e h =

@@ -1,25 +1,35 @@
 -- What is known of a file in which the machine of Faults.antt finds nothing.
 use mathlib.Core.Path.{_≡_}
 use mathlib.Core.Bool.{Bool, true, false}
-use mathlib.Core.List.{List, [], _∷_, map}
+use mathlib.Core.List.{List, map}
+use mathlib.Core.Logic.{_↔_}
 use Prim.Native.Nat.{ℕ}
 use lib.Dec.{eqb}
 use borrow.Author.Tests.{not-false}
 use Rattle.spec_lists.specs.Text.{same}
 use Rattle.spec_lists.specs.Select.{any}
-use Rattle.spec_lists.specs.Every.{Every, nil, cons}
+use Rattle.spec_lists.specs.Every.{Every}
+use Rattle.spec_lists.specs.laws.Any.{any-none}
 use Rattle.spec_lists.specs.laws.Both.{neither}
 use Rattle.spec_lists.specs.laws.Every.{every-implies}
+use Rattle.spec_lists.specs.laws.Same.{same-true, same-self}
+use Rattle.spec_rule.specs.laws.Such.{any-some, some-any}
+use Rattle.spec_file.specs.Defined.{Defined}
 use Rattle.spec_file.specs.Contents.{Group, Rule-text, Asg, File}
 use Rattle.spec_text.specs.Faults.{repeated, nowhere-defined, calculation-faulty, rule-faulty, letters-of, asg-faulty, defines-nothing, faulty}
 
-pub any-none : {A : Type 0} (p : A → Bool) (xs : List A) → any p xs ≡ false → Every (λ x. p x ≡ false) xs
-any-none p [] e = nil
-any-none p (x ∷ xs) e = let h = neither (p x) (any p xs) e in cons (h .0) (any-none p xs (h .1))
-
 -- one of the groups has the name s
-abbrev pub defined-in : List Group → List ℕ → Bool
+abbrev defined-in : List Group → List ℕ → Bool
 defined-in gs s = any (λ g. same (g .name) s) gs
+
+pub defined-is : (gs : List Group) (s : List ℕ) → (defined-in gs s ≡ true) ↔ Defined gs s
+defined-is gs s = (any-some p d gs, some-any p d)
+  where
+    p : Group → Bool
+    p g = same (g .name) s
+
+    d : (g : Group) → (p g ≡ true) ↔ (g .name ≡ s)
+    d g = (same-true (g .name) s, λ e. rw e (same-self s))
 
 pub record Rule-sound (f : File) (given : List ℕ) (r : Rule-text) : Type 0 where
   pub uags : Every (λ s. defined-in (f .uags) s ≡ true) (r .uags)
@@ -31,6 +41,7 @@ pub record Asg-sound (f : File) (a : Asg) : Type 0 where
   pub rules : Every (Rule-sound f (letters-of a)) (a .rules)
 
 pub record Sound (f : File) : Type 0 where
+  pub defines : defines-nothing f ≡ false
   pub uags : repeated same (map (λ g. g .name) (f .uags)) ≡ false
   pub hags : repeated same (map (λ g. g .name) (f .hags)) ≡ false
   pub asgs : repeated same (map (λ a. a .name) (f .asgs)) ≡ false
@@ -57,4 +68,4 @@ module _ (f : File) where
       let u = neither (repeated same (map (λ g. g .name) (f .uags))) _ (n .1) in
       let h = neither (repeated same (map (λ g. g .name) (f .hags))) _ (u .1) in
       let a = neither (repeated same (map (λ a. a .name) (f .asgs))) (any (asg-faulty f) (f .asgs)) (h .1) in
-      record { uags = u .0; hags = h .0; asgs = a .0; each = every-implies asg-sound (any-none (asg-faulty f) (f .asgs) (a .1)) }
+      record { defines = n .0; uags = u .0; hags = h .0; asgs = a .0; each = every-implies asg-sound (any-none (asg-faulty f) (f .asgs) (a .1)) }

@@ -3,36 +3,39 @@ use mathlib.Core.Path.{_≡_, refl, sym, ap, ap₂, _∙_}
 use mathlib.Core.Bool.{Bool, true, false, _&&_, _||_, false≢true}
 use mathlib.Core.List.{List, [], _∷_, _++_, map, append-nil}
 use mathlib.Core.Option.{Option, none, some}
-use Prim.Native.Nat.{ℕ, _+_}
-use Prim.Native.Char.{code}
-use native.Mathlib.Omega.{arith}
-use lib.Dec.{eqb}
-use borrow.Author.Tests.{eqb-true, eqb-false, eq-eqb, ne-eqb}
+use Prim.Native.Nat.{ℕ}
 use Rattle.spec_lists.specs.Text.{same}
 use Rattle.spec_lists.specs.Select.{any, select, prepend-if}
 use Rattle.spec_lists.specs.Every.{Every, nil, cons}
-use Rattle.spec_lists.specs.laws.Any.{any-map, any-same}
+use Rattle.spec_lists.specs.laws.Any.{any-none}
 use Rattle.spec_lists.specs.laws.Both.{neither}
 use Rattle.spec_lists.specs.laws.Every.{every, every-implies, every-both}
 use Rattle.spec_lists.specs.laws.Joined.{map-map}
 use Rattle.spec_grammar.specs.declared.Role.{Role}
-use Rattle.spec_grammar.specs.declared.Role.the-variants.{NoRole, UagName, HagName, AsgName, Input, RuleWord, UagNamed, HagNamed, CalcWord}
+use Rattle.spec_grammar.specs.declared.Role.the-variants.{NoRole, UagName, User, HagName, Host, AsgName, Input, RuleWord, UagNamed, HagNamed}
+use Rattle.spec_grammar.specs.declared.Role.the-variants.{CalcWord}
 use Rattle.spec_grammar.specs.Codes.{same-role}
 use Rattle.spec_grammar.specs.Sentence.{Tagged}
-use Rattle.spec_file.specs.Contents.{has-role, text, texts, until, Rule-text, Asg, File}
+use Rattle.spec_file.specs.Contents.{has-role, text, texts, until, Clause, clauses, Rule-text, Asg, File}
 use Rattle.spec_file.specs.Meaning.{switched-off}
 use Rattle.spec_file.specs.Refusal.{Context, contexts, duplicates, given-again}
+use Rattle.spec_file.specs.laws.Clauses.{named-by}
 use Rattle.spec_file.specs.laws.Counted.{role-is}
+use Rattle.spec_file.specs.laws.ItemClauses.{group}
 use Rattle.spec_text.specs.Lines.{link-word}
 use Rattle.spec_text.specs.Faults.{repeated, letters-of}
 use Rattle.spec_text.specs.laws.Pieces.{said-at, file-pieces}
-use Rattle.spec_text.specs.laws.ClearFaults.{any-none, Asg-sound, Sound}
-use Rattle.spec_text.specs.laws.ClearSayings.{Says, saying, strings, link-sayings, calculation-sayings, head-sayings}
-use Rattle.spec_text.specs.laws.ClearSayings.{predicate-sayings, rule-sayings, links-sayings, rules-sayings, asg-sayings, file-sayings}
-use Rattle.spec_text.specs.laws.ClearContexts.{Onward, end, next, Respects, every-onward, onward-append, onward-joined, in-text}
-use Rattle.spec_text.specs.laws.ClearContexts.{texts-says, until-says}
-use Rattle.spec_text.specs.laws.ClearRoles.{file-onward, link-without, body-without, rule-without, strings-without, each-without}
-use Rattle.spec_text.specs.laws.ClearRoles.{unknown-without, asg-without, texts-none, texts-append, texts-each, uag-names, hag-names, asg-names}
+use Rattle.spec_text.specs.laws.Keeps.{Asg-named}
+use Rattle.spec_text.specs.laws.Unplaced.{unplaced-asg}
+use Rattle.spec_text.specs.laws.ClearFaults.{Asg-sound, Sound}
+use Rattle.spec_text.specs.laws.Words.{repeated-letters}
+use Rattle.spec_text.specs.laws.Sayings.{Says, saying, link-sayings, calculation-sayings, head-sayings, predicate-sayings, rule-sayings}
+use Rattle.spec_text.specs.laws.Sayings.{links-sayings, rules-sayings, asg-sayings, file-sayings}
+use Rattle.spec_text.specs.laws.Heard.{texts-says, until-says, unplaced-asg-of}
+use Rattle.spec_text.specs.laws.Roles.{is, link-without, body-without, rule-without, each-without, asg-without, texts-none, texts-append}
+use Rattle.spec_text.specs.laws.Roles.{texts-each, predicate-texts, no-strings, no-unknown}
+use Rattle.spec_text.specs.laws.Says.{uags-back, hags-back, asgs-back}
+use Rattle.spec_text.specs.laws.ClearContexts.{Onward, end, next, Respects, every-onward, onward-append, onward-joined, in-text, file-onward}
 
 -- one of some texts is u
 abbrev given-in : List ℕ → List (List ℕ) → Bool
@@ -131,27 +134,13 @@ names-once q f ns e r =
 
 -- ---- letters
 
-same-letter : (a b : ℕ) → same (link-word a) (link-word b) ≡ eqb a b
-same-letter a b = go (eqb a b) refl
-  where
-    go : (t : Bool) → eqb a b ≡ t → eqb (code "A" + a) (code "A" + b) && true ≡ t
-    go true e = let z = eqb-true a b e in rw (eq-eqb (code "A" + a) (code "A" + b) (omega arith))
-    go false e = rw (ne-eqb (code "A" + a) (code "A" + b) (λ h. eqb-false a b e (omega arith)))
-
-repeated-letters : (ls : List ℕ) → repeated same (map link-word ls) ≡ repeated eqb ls
-repeated-letters [] = refl
-repeated-letters (l ∷ ls) =
-    ap₂ (λ (a b : Bool). a || b)
-    (any-map (same (link-word l)) link-word ls ∙ any-same (λ m. same (link-word l) (link-word m)) (eqb l) (same-letter l) ls)
-    (repeated-letters ls)
-
 -- the texts of the INP words
 asg-letters : (a : Asg) → texts Input (links-sayings a ++ rules-sayings a) ≡ map link-word (letters-of a)
 asg-letters a =
     texts-append Input (links-sayings a) (rules-sayings a)
     ∙ (ap₂ (λ (s t : List (List ℕ)). s ++ t)
     (texts-each Input link-sayings (λ i. link-word (i .letter)) (λ i. refl) (a .inputs))
-    (texts-none Input (each-without Input rule-sayings (rule-without Input refl) (a .rules)))
+    (texts-none Input (each-without (is Input) rule-sayings (rule-without (is Input) refl refl) (a .rules)))
     ∙ (append-nil (map (λ i. link-word (i .letter)) (a .inputs)) ∙ sym (map-map link-word (λ i. i .letter) (a .inputs))))
 
 -- back to the last token of the role r
@@ -163,33 +152,27 @@ asg-once f a k b =
     next refl
     (once-each Input (until AsgName) (has-role AsgName) (since AsgName)
     (saying AsgName (a .name) ∷ b) (links-sayings a ++ rules-sayings a)
-    (asg-without AsgName refl refl a)
+    (asg-without (is AsgName) refl a)
     (every (λ u. refl) (texts Input (links-sayings a ++ rules-sayings a)))
     (rw (asg-letters a, repeated-letters (letters-of a)) (k .letters)))
 
 letters-once : (f : File) → Sound f → Onward (Once Input (until AsgName)) [] (file-sayings f)
-letters-once f k = file-onward Input (no-once Input (until AsgName)) refl refl f (every-implies (asg-once f) (k .each))
+letters-once f k = file-onward Input (no-once Input (until AsgName)) refl refl refl refl f (every-implies (asg-once f) (k .each))
 
 -- ---- CALC
 
 rule-calcs : (r : Rule-text) → texts CalcWord (head-sayings r ++ predicate-sayings r) ≡ texts CalcWord (calculation-sayings (r .calculation))
 rule-calcs r =
-    texts-append CalcWord (strings UagNamed (r .uags)) _
-    ∙ ap₂ (λ (s t : List (List ℕ)). s ++ t) (texts-none CalcWord (strings-without CalcWord UagNamed refl (r .uags)))
-    (texts-append CalcWord (strings HagNamed (r .hags)) _
-    ∙ ap₂ (λ (s t : List (List ℕ)). s ++ t) (texts-none CalcWord (strings-without CalcWord HagNamed refl (r .hags)))
-    (texts-append CalcWord (calculation-sayings (r .calculation)) _
-    ∙ (ap
-    (λ (t : List (List ℕ)). texts CalcWord (calculation-sayings (r .calculation)) ++ t)
-    (texts-none CalcWord (unknown-without CalcWord refl (switched-off r)))
-    ∙ append-nil (texts CalcWord (calculation-sayings (r .calculation))))))
+    predicate-texts CalcWord r (no-strings CalcWord UagNamed refl (r .uags)) (no-strings CalcWord HagNamed refl (r .hags)) refl
+    (no-unknown CalcWord refl (switched-off r))
+    ∙ append-nil (texts CalcWord (calculation-sayings (r .calculation)))
 
 rule-once : (r : Rule-text) (b : List Tagged) → Onward (Once CalcWord (until RuleWord)) b (rule-sayings r)
 rule-once r b =
     next refl
     (once-each CalcWord (until RuleWord) (has-role RuleWord) (since RuleWord)
     (saying RuleWord _ ∷ b) (head-sayings r ++ predicate-sayings r)
-    (body-without RuleWord refl r)
+    (body-without (is RuleWord) refl r)
     (every (λ u. refl) (texts CalcWord (head-sayings r ++ predicate-sayings r)))
     (rw (rule-calcs r) (one (r .calculation))))
   where
@@ -199,13 +182,13 @@ rule-once r b =
 
 calcs-once : (f : File) → Onward (Once CalcWord (until RuleWord)) [] (file-sayings f)
 calcs-once f =
-    file-onward CalcWord (no-once CalcWord (until RuleWord)) refl refl f
+    file-onward CalcWord (no-once CalcWord (until RuleWord)) refl refl refl refl f
     (every (λ a b. next refl (in-asg a (saying AsgName (a .name) ∷ b))) (f .asgs))
   where
     in-asg : (a : Asg) (b : List Tagged) → Onward (Once CalcWord (until RuleWord)) b (links-sayings a ++ rules-sayings a)
     in-asg a b =
         onward-append
-        (every-onward b (every-implies (no-once CalcWord (until RuleWord)) (each-without CalcWord link-sayings (link-without CalcWord refl) (a .inputs))))
+        (every-onward b (every-implies (no-once CalcWord (until RuleWord)) (each-without (is CalcWord) link-sayings (link-without (is CalcWord) refl refl) (a .inputs))))
         (onward-joined rule-sayings (every rule-once (a .rules)))
 
 -- ---- all of them
@@ -230,11 +213,19 @@ module _ (f : File) (p : ℕ) where
   together nil nil nil nil nil = nil
   together (cons {x = c} u us) (cons h hs) (cons a rest) (cons l ls) (cons d ds) = cons {x = c} (rw (u, h, a, l, d)) (together us hs rest ls ds)
 
-  pub nothing-again : Sound f → Every (λ c. given-again c ≡ false) all-contexts
-  nothing-again k =
+  pub nothing-again : Sound f → Every Asg-named (f .asgs) → Every (λ c. given-again c ≡ false) all-contexts
+  nothing-again k n =
       together
-      (never UagName whole refl (λ b d s. s) (names-once UagName f _ (uag-names f) (k .uags)))
-      (never HagName whole refl (λ b d s. s) (names-once HagName f _ (hag-names f) (k .hags)))
-      (never AsgName whole refl (λ b d s. s) (names-once AsgName f _ (asg-names f) (k .asgs)))
+      (never UagName whole refl (λ b d s. s) (names-once UagName f _ (named UagName (group User) (λ g. g .name) (λ c. refl) (uags-back f)) (k .uags)))
+      (never HagName whole refl (λ b d s. s) (names-once HagName f _ (named HagName (group Host) (λ g. g .name) (λ c. refl) (hags-back f)) (k .hags)))
+      (never AsgName whole refl (λ b d s. s) (names-once AsgName f _ asgs (k .asgs)))
       (never Input (until AsgName) refl (λ b d s. until-says AsgName refl s) (letters-once f k))
       (never CalcWord (until RuleWord) refl (λ b d s. until-says RuleWord refl s) (calcs-once f))
+    where
+      named :
+          {A : Type 0} (q : Role) (g : Clause → A) (name : A → List ℕ) → ((c : Clause) → name (g c) ≡ text (c .head)) → {bs : List A}
+          → map g (clauses q (file-sayings f)) ≡ bs → texts q (file-sayings f) ≡ map name bs
+      named q g name e b = sym (named-by q g name e (file-sayings f)) ∙ ap (map name) b
+
+      asgs : texts AsgName (file-sayings f) ≡ map (λ a. a .name) (f .asgs)
+      asgs = named AsgName unplaced-asg-of (λ a. a .name) (λ c. refl) (asgs-back f n) ∙ map-map (λ a. a .name) unplaced-asg (f .asgs)

@@ -1,32 +1,32 @@
 -- The causes of 5, 8 and 9, which look at one token: no string of the text is too long, its levels are 0 or 1, its words known.
-use mathlib.Core.Path.{_≡_, refl}
+use mathlib.Core.Path.{_≡_, refl, ap}
 use mathlib.Core.Bool.{Bool, true, false}
 use mathlib.Core.List.{List, [], _∷_}
 use mathlib.Core.Option.{Option, some}
-use Prim.Native.Nat.{ℕ, zero, suc, _≤_}
-use native.Mathlib.Omega.{arith}
+use Prim.Native.Nat.{ℕ, _≤_}
 use lib.ListN.{length}
 use borrow.Author.Tests.{le-ltb}
 use Rattle.spec_lists.specs.Select.{missing}
 use Rattle.spec_lists.specs.Every.{Every, nil, cons}
 use Rattle.spec_lists.specs.laws.Both.{neither}
 use Rattle.spec_lists.specs.laws.Every.{every-append, every-implies, every-both, every-map, every-joined}
+use Rattle.spec_rule.specs.Answering.{greatest-level}
 use Rattle.spec_grammar.specs.declared.Role.{Role}
-use Rattle.spec_grammar.specs.declared.Role.the-variants.{UagName, User, HagName, Host, AsgName, Pvname, Level, Permission, LogOption, UagNamed, HagNamed}
+use Rattle.spec_grammar.specs.declared.Role.the-variants.{UagName, User, HagName, Host, AsgName, Pvname, Level, Permission, LogOption, UagNamed}
+use Rattle.spec_grammar.specs.declared.Role.the-variants.{HagNamed}
 use Rattle.spec_grammar.specs.Codes.{same-role}
 use Rattle.spec_grammar.specs.Sentence.{Tagged}
 use Rattle.spec_grammar.specs.laws.Roles.{one-of}
-use Rattle.spec_rule.specs.declared.Access.{Access}
-use Rattle.spec_rule.specs.declared.Access.the-variants as access
-use Rattle.spec_rule.specs.Answering.{greatest-level}
 use Rattle.spec_file.specs.Limit.{longest, longest-name, longest-calculation}
-use Rattle.spec_file.specs.Contents.{level-of, permission-of, log-of, Group, Link, Rule-text, Asg, File}
+use Rattle.spec_file.specs.Contents.{Group, Link, Rule-text, Asg, File}
 use Rattle.spec_file.specs.Meaning.{switched-off}
 use Rattle.spec_file.specs.Refusal.{Context, too-long, bad-level, unknown-word}
-use Rattle.spec_text.specs.Lines.{level-word, permission-word, log-word}
-use Rattle.spec_text.specs.laws.Keeps.{Calculation-of, without, with, Group-of, Rule-of, Asg-of, Short-name, Short-calculation, Asg-named, Keeps}
-use Rattle.spec_text.specs.laws.ClearSayings.{saying, strings, group-sayings, link-sayings, calculation-sayings, unknown-sayings, head-sayings}
-use Rattle.spec_text.specs.laws.ClearSayings.{rule-sayings, asg-sayings, file-sayings}
+use Rattle.spec_text.specs.Lines.{permission-word}
+use Rattle.spec_text.specs.laws.Keeps.{Calculation-of, without, with, Group-of, Rule-of, Asg-of, Short-name, Short-calculation, Asg-named}
+use Rattle.spec_text.specs.laws.Keeps.{Keeps}
+use Rattle.spec_text.specs.laws.Sayings.{saying, strings, group-sayings, link-sayings, calculation-sayings, unknown-sayings, head-sayings}
+use Rattle.spec_text.specs.laws.Sayings.{rule-sayings, asg-sayings, file-sayings}
+use Rattle.spec_text.specs.laws.Words.{level-back, permission-back, log-back}
 use Rattle.spec_text.specs.laws.ClearContexts.{Respects}
 
 -- a token in no context
@@ -46,24 +46,8 @@ plain-respects =
       heard = λ b d x y s e t q. record { short = rw (e, t) (q .short); level = rw (e, t) (q .level); word = rw (e, t) (q .word) };
     }
 
-abbrev pub Plain-always : Tagged → Type 0
+abbrev Plain-always : Tagged → Type 0
 Plain-always x = (b : List Tagged) → Plain b x
-
--- ---- the words
-
-level-known : (n : ℕ) → n ≤ greatest-level → missing (level-of (level-word n)) ≡ false
-level-known zero l = refl
-level-known (suc zero) l = refl
-level-known (suc (suc n)) l = absurd (omega arith)
-
-permission-known : (a : Access) → missing (permission-of (permission-word a)) ≡ false
-permission-known access.None = refl
-permission-known access.Read = refl
-permission-known access.Write = refl
-
-log-known : (b : Bool) → missing (log-of (log-word b)) ≡ false
-log-known false = refl
-log-known true = refl
 
 -- ---- the tokens
 
@@ -101,11 +85,11 @@ unknown-plain true = cons (λ b. record { short = refl; level = refl; word = ref
 
 head-plain : (r : Rule-text) → r .level ≤ greatest-level → Every Plain-always (head-sayings r)
 head-plain r l =
-    cons (λ b. record { short = refl; level = level-known (r .level) l; word = refl })
+    cons (λ b. record { short = refl; level = ap missing (level-back (r .level) l); word = refl })
     (cons
     {x = saying Permission (permission-word (r .permission))}
-    (λ b. record { short = refl; level = refl; word = rw (permission-known (r .permission)) })
-    (cons (λ b. record { short = refl; level = refl; word = log-known (r .trap) }) nil))
+    (λ b. record { short = refl; level = refl; word = rw (permission-back (r .permission)) })
+    (cons (λ b. record { short = refl; level = refl; word = ap missing (log-back (r .trap)) }) nil))
 
 rule-plain : (r : Rule-text) → Rule-of Short-name Short-calculation r → r .level ≤ greatest-level → Every Plain-always (rule-sayings r)
 rule-plain r k l =

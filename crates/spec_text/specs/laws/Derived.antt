@@ -3,73 +3,28 @@ use mathlib.Core.Path.{_≡_, refl, sym, ap, ap₂, subst, _∙_}
 use mathlib.Core.Bool.{Bool, true, false, not, _||_, false≢true}
 use mathlib.Core.List.{List, [], _∷_, _++_, map, append-assoc, append-nil}
 use mathlib.Core.Option.{Option, none, some}
-use Prim.Native.Nat.{ℕ, _+_}
-use lib.ListN.{length}
+use Prim.Native.Nat.{ℕ}
 use Rattle.spec_lists.specs.Text.{bytes}
 use Rattle.spec_lists.specs.Select.{nonempty, joined}
 use Rattle.spec_lists.specs.Every.{Every, nil, cons}
+use Rattle.spec_lists.specs.laws.Any.{nonempty-map}
 use Rattle.spec_lists.specs.laws.Every.{every, every-append, every-map}
-use Rattle.spec_lists.specs.laws.Joined.{joined-append, map-append, map-map}
+use Rattle.spec_lists.specs.laws.Joined.{joined-append, each-append, joined-each, map-map}
 use Rattle.spec_token.specs.declared.Kind.{Kind}
 use Rattle.spec_token.specs.declared.Kind.the-variants as kind
 use Rattle.spec_grammar.specs.declared.Role.{Role}
 use Rattle.spec_grammar.specs.declared.Role.the-variants.{NoRole, UagName, User, HagName, Host, AsgName, UagNamed, HagNamed}
-use Rattle.spec_grammar.specs.Production.{Sign, _tagged_, Symbols, end, tm, nt, opt, many, Nonterminal, strings, _⟶_, Derives, finish, take, expand, leave}
-use Rattle.spec_grammar.specs.Production.{choose, stop, repeat, Acf-file, asconfig-item, asg-body-item, rule-list-item}
+use Rattle.spec_grammar.specs.Production.{Sign, _tagged_, Symbols, end, tm, nt, opt, many, Nonterminal, strings, _⟶_, Derives, finish, take, expand}
+use Rattle.spec_grammar.specs.Production.{leave, choose, stop, repeat, Acf-file, asconfig-item, asg-body-item, rule-list-item}
 use Rattle.spec_grammar.specs.Production as grammar
 use Rattle.spec_grammar.specs.Sentence.{sign}
 use Rattle.spec_file.specs.Contents.{Group, Link, Rule-text, Asg, File}
 use Rattle.spec_file.specs.Meaning.{switched-off}
 use Rattle.spec_text.specs.Faults.{defines-nothing}
-use Rattle.spec_text.specs.laws.Pieces.{Piece, mark, word, string, line-end, said-at, rp, lb, rb, cm, list-pieces, called-pieces, headed-pieces, member-pieces}
-use Rattle.spec_text.specs.laws.Pieces.{uag-pieces, hag-pieces, link-pieces, head-pieces, reference-pieces, calculation-pieces, unknown-pieces}
-use Rattle.spec_text.specs.laws.Pieces.{predicate-pieces, rule-pieces, asg-pieces, line-pieces, ended-pieces, file-pieces}
-
--- ---- what pieces say, wherever they stand
-
-abbrev pub signs-of : List Piece → List Sign
-signs-of [] = []
-signs-of (mark b k ∷ ps) = k tagged NoRole ∷ signs-of ps
-signs-of (word k r w ∷ ps) = k tagged r ∷ signs-of ps
-signs-of (string r s ∷ ps) = kind.String tagged r ∷ signs-of ps
-signs-of (line-end ∷ ps) = signs-of ps
-
-pub said-signs : (p : ℕ) (ps : List Piece) → map sign (said-at p ps) ≡ signs-of ps
-said-signs p [] = refl
-said-signs p (mark b k ∷ ps) = ap (λ (l : List Sign). k tagged NoRole ∷ l) (said-signs (p + 1) ps)
-said-signs p (word k r w ∷ ps) = ap (λ (l : List Sign). k tagged r ∷ l) (said-signs (p + length w) ps)
-said-signs p (string r s ∷ ps) = ap (λ (l : List Sign). kind.String tagged r ∷ l) (said-signs (p + 2 + length s) ps)
-said-signs p (line-end ∷ ps) = said-signs (p + 1) ps
-
-pub signs-append : (xs ys : List Piece) → signs-of (xs ++ ys) ≡ signs-of xs ++ signs-of ys
-signs-append [] ys = refl
-signs-append (mark b k ∷ xs) ys = ap (λ (l : List Sign). k tagged NoRole ∷ l) (signs-append xs ys)
-signs-append (word k r w ∷ xs) ys = ap (λ (l : List Sign). k tagged r ∷ l) (signs-append xs ys)
-signs-append (string r s ∷ xs) ys = ap (λ (l : List Sign). kind.String tagged r ∷ l) (signs-append xs ys)
-signs-append (line-end ∷ xs) ys = signs-append xs ys
-
--- of lines
-abbrev pub line-signs : List (List Piece) → List Sign
-line-signs ls = joined (map signs-of ls)
-
-pub line-signs-append : (xs ys : List (List Piece)) → line-signs (xs ++ ys) ≡ line-signs xs ++ line-signs ys
-line-signs-append xs ys = ap joined (map-append signs-of xs ys) ∙ joined-append (map signs-of xs) (map signs-of ys)
-
--- of the lines of each of a list
-pub each-signs :
-    {A : Type 0} (f : A → List (List Piece)) (xs : List A) → line-signs (joined (map f xs)) ≡ joined (map (λ x. line-signs (f x)) xs)
-each-signs f [] = refl
-each-signs f (x ∷ xs) = line-signs-append (f x) (joined (map f xs)) ∙ ap (λ (l : List Sign). line-signs (f x) ++ l) (each-signs f xs)
-
-pub ended-signs : (ls : List (List Piece)) → signs-of (ended-pieces ls) ≡ line-signs ls
-ended-signs [] = refl
-ended-signs (l ∷ ls) =
-    signs-append (l ++ (line-end ∷ [])) (ended-pieces ls)
-    ∙ ap₂ (λ (a b : List Sign). a ++ b) (signs-append l (line-end ∷ []) ∙ append-nil (signs-of l)) (ended-signs ls)
-
-nonempty-map : {A B : Type 0} (f : A → B) (xs : List A) → nonempty (map f xs) ≡ nonempty xs
-nonempty-map f [] = refl
-nonempty-map f (x ∷ xs) = refl
+use Rattle.spec_text.specs.laws.Pieces.{Piece, word, string, said-at, rp, lb, rb, cm, list-pieces, called-pieces, headed-pieces, member-pieces}
+use Rattle.spec_text.specs.laws.Pieces.{group-pieces, uag-pieces, hag-pieces, link-pieces, head-pieces, reference-pieces, calculation-pieces}
+use Rattle.spec_text.specs.laws.Pieces.{unknown-pieces, predicate-pieces, rule-pieces, asg-pieces, line-pieces, file-pieces}
+use Rattle.spec_text.specs.laws.Signs.{signs-of, said-signs, signs-append, line-signs, ended-signs, body-signs, headed-signs}
 
 -- ---- parts of the grammar
 
@@ -111,17 +66,6 @@ list-says r s ss z = take (go ss)
 
 -- ---- a head and its body
 
--- the body of a head, between its braces
-abbrev pub body-signs : List (List Piece) → List Sign
-body-signs [] = []
-body-signs (l ∷ ls) = kind.OpenBrace tagged NoRole ∷ (line-signs (l ∷ ls) ++ (kind.CloseBrace tagged NoRole ∷ []))
-
-pub headed-signs : (head : List Piece) (ls : List (List Piece)) → line-signs (headed-pieces head ls) ≡ signs-of head ++ body-signs ls
-headed-signs head [] = refl
-headed-signs head (l ∷ ls) =
-    ap₂ (λ (a b : List Sign). a ++ b) (signs-append head (lb ∷ [])) (line-signs-append (l ∷ ls) ((rb ∷ []) ∷ []))
-    ∙ append-assoc (signs-of head) (kind.OpenBrace tagged NoRole ∷ []) (line-signs (l ∷ ls) ++ (kind.CloseBrace tagged NoRole ∷ []))
-
 headed-is :
     {x : Nonterminal} (head : List Piece) (ls : List (List Piece))
     → ((z : List Sign) → Derives (nt x end) (signs-of head ++ (body-signs ls ++ z)) z) → Is x (line-signs (headed-pieces head ls))
@@ -162,29 +106,25 @@ module _
         (list-says m s ss (kind.CloseBrace tagged NoRole ∷ z)))
         (take finish)
 
-    group-is :
-        (w s : List ℕ) (ms : List (List ℕ))
-        → Is asconfig-item (line-signs (headed-pieces (called-pieces (word k NoRole w) (string n s ∷ [])) (member-pieces m ms)))
-    group-is w s ms =
-        headed-is (called-pieces (word k NoRole w) (string n s ∷ [])) (member-pieces m ms)
+    group-is : (w : List ℕ) (g : Group) → Is asconfig-item (line-signs (group-pieces k n m w g))
+    group-is w g =
+        headed-is (called-pieces (word k NoRole w) (string n (g .name) ∷ [])) (member-pieces m (g .members))
         (λ z.
         expand item
         (expand definition
-        (take (expand head (take (take (take finish))) (body-says body (member-pieces m ms) z (members-say ms z))))
+        (take (expand head (take (take (take finish))) (body-says body (member-pieces m (g .members)) z (members-say (g .members) z))))
         finish)
         finish)
 
 uag-is : (g : Group) → Is asconfig-item (line-signs (uag-pieces g))
-uag-is g =
+uag-is =
     group-is kind.Uag UagName User
-    grammar.asconfig-item₁ grammar.uag-def₁ grammar.uag-head₁ grammar.uag-body₁ grammar.uag-user-list₁
-    (bytes "UAG") (g .name) (g .members)
+    grammar.asconfig-item₁ grammar.uag-def₁ grammar.uag-head₁ grammar.uag-body₁ grammar.uag-user-list₁ (bytes "UAG")
 
 hag-is : (g : Group) → Is asconfig-item (line-signs (hag-pieces g))
-hag-is g =
+hag-is =
     group-is kind.Hag HagName Host
-    grammar.asconfig-item₂ grammar.hag-def₁ grammar.hag-head₁ grammar.hag-body₁ grammar.hag-host-list₁
-    (bytes "HAG") (g .name) (g .members)
+    grammar.asconfig-item₂ grammar.hag-def₁ grammar.hag-head₁ grammar.hag-body₁ grammar.hag-host-list₁ (bytes "HAG")
 
 -- ---- RULE config
 
@@ -273,8 +213,8 @@ asg-items-joined :
     (is : List Link) (rs : List Rule-text)
     → line-signs (map link-pieces is ++ joined (map rule-pieces rs)) ≡ joined (asg-items is rs)
 asg-items-joined is rs =
-    line-signs-append (map link-pieces is) (joined (map rule-pieces rs))
-    ∙ ap₂ (λ (a b : List Sign). a ++ b) (ap joined (map-map signs-of link-pieces is)) (each-signs rule-pieces rs)
+    each-append signs-of (map link-pieces is) (joined (map rule-pieces rs))
+    ∙ ap₂ (λ (a b : List Sign). a ++ b) (ap joined (map-map signs-of link-pieces is)) (joined-each signs-of rule-pieces rs)
     ∙ sym (joined-append (map (λ i. signs-of (link-pieces i)) is) (map (λ r. line-signs (rule-pieces r)) rs))
 
 -- there is an item where there is a line
@@ -327,11 +267,11 @@ items-joined : (f : File) → signs-of (file-pieces f) ≡ joined (items f)
 items-joined f =
     ended-signs (line-pieces f)
     ∙ rw (
-      line-signs-append,
-      each-signs uag-pieces (f .uags),
-      line-signs-append,
-      each-signs hag-pieces (f .hags),
-      each-signs asg-pieces (f .asgs),
+      each-append signs-of,
+      joined-each signs-of uag-pieces (f .uags),
+      each-append signs-of,
+      joined-each signs-of hag-pieces (f .hags),
+      joined-each signs-of asg-pieces (f .asgs),
       joined-append,
       joined-append,
     )
@@ -348,9 +288,12 @@ items-some f = go (f .uags) (f .hags) (f .asgs)
     go [] (g ∷ hs) gs h = refl
     go (g ∷ us) hs gs h = refl
 
--- the tokens of a file that defines something are an acf_file
-pub derived : (f : File) → defines-nothing f ≡ false → Acf-file (map sign (said-at 0 (file-pieces f)))
-derived f h =
+-- the tokens of a file that defines something are an acf_file, wherever they stand
+pub derived-at : (f : File) → defines-nothing f ≡ false → (p : ℕ) → Acf-file (map sign (said-at p (file-pieces f)))
+derived-at f h p =
     subst Acf-file
-    (append-nil (joined (items f)) ∙ sym (said-signs 0 (file-pieces f) ∙ items-joined f))
+    (append-nil (joined (items f)) ∙ sym (said-signs p (file-pieces f) ∙ items-joined f))
     (expand grammar.acf-file₁ (expand grammar.asconfig₁ (at-least-one (items f) (items-are f) (items-some f h) finish) finish) finish)
+
+pub derived : (f : File) → defines-nothing f ≡ false → Acf-file (map sign (said-at 0 (file-pieces f)))
+derived f h = derived-at f h 0

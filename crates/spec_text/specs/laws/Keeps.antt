@@ -1,6 +1,6 @@
 -- What is asked of a file so that its text can be read: its strings can be quoted, and it keeps the limits that every table keeps.
 use mathlib.Core.Path.{_≡_}
-use mathlib.Core.Bool.{Bool, true, false}
+use mathlib.Core.Bool.{false}
 use mathlib.Core.List.{List, _++_, map}
 use mathlib.Core.Option.{Option, none, some}
 use Prim.Native.Nat.{ℕ, _+_, _≤_}
@@ -11,7 +11,8 @@ use Rattle.spec_calc.specs.Reader.{tree-of}
 use Rattle.spec_token.specs.Word.{greatest-letter}
 use Rattle.spec_token.specs.Token.{Between-quotes}
 use Rattle.spec_rule.specs.Answering.{greatest-level}
-use Rattle.spec_file.specs.Limit.{user-groups, host-groups, members, access-groups, inputs, rules, references, most, longest-name, longest-calculation}
+use Rattle.spec_file.specs.Limit.{user-groups, host-groups, members, access-groups, inputs, rules, references, most, longest-name}
+use Rattle.spec_file.specs.Limit.{longest-calculation}
 use Rattle.spec_file.specs.Contents.{Group, Link, Rule-text, Asg, File}
 
 -- every string passes, a calculation by a test of its own

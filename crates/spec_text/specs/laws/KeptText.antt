@@ -9,7 +9,7 @@ use lib.Dec.{eqb}
 use Rattle.spec_lists.specs.Text.{bytes, same, among, capital, lower-byte, lowered}
 use Rattle.spec_lists.specs.Select.{any, nonempty, joined}
 use Rattle.spec_lists.specs.laws.Alike.{map-same}
-use Rattle.spec_lists.specs.laws.Any.{any-map, any-same}
+use Rattle.spec_lists.specs.laws.Any.{any-map, any-same, nonempty-map}
 use Rattle.spec_lists.specs.laws.Every.{every-implies, every-map}
 use Rattle.spec_lists.specs.laws.Joined.{map-map}
 use Rattle.spec_lists.specs.laws.Range.{bounded}
@@ -62,10 +62,6 @@ same-text f =
     (read-alike asg-lines asg-lines unplaced-asg same-asg-lines (f .asgs))
 
 -- ---- the faults
-
-nonempty-map : {A B : Type 0} (g : A → B) (xs : List A) → nonempty (map g xs) ≡ nonempty xs
-nonempty-map g [] = refl
-nonempty-map g (x ∷ xs) = refl
 
 any-alike : {A : Type 0} (p q : A → Bool) (f : A → A) → ((x : A) → p (f x) ≡ q x) → (xs : List A) → any p (map f xs) ≡ any q xs
 any-alike p q f e xs = any-map p f xs ∙ any-same (λ x. p (f x)) q e xs

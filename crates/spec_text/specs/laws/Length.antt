@@ -1,5 +1,5 @@
 -- How long the text of a file can be that keeps the limits.
-use mathlib.Core.Path.{_≡_, ap}
+use mathlib.Core.Path.{_≡_, ap, _∙_}
 use mathlib.Core.Bool.{Bool, true, false}
 use mathlib.Core.List.{List, [], _∷_, _++_, map}
 use mathlib.Core.Option.{Option}
@@ -9,7 +9,7 @@ use lib.ListN.{length, length-append}
 use Rattle.spec_lists.specs.Text.{bytes}
 use Rattle.spec_lists.specs.Select.{joined}
 use Rattle.spec_lists.specs.Every.{Every, nil, cons}
-use Rattle.spec_lists.specs.laws.Joined.{joined-append, map-append}
+use Rattle.spec_lists.specs.laws.Joined.{each-append}
 use Rattle.spec_rule.specs.declared.Access.{Access}
 use Rattle.spec_rule.specs.declared.Access.the-variants as access
 use Rattle.spec_file.specs.Contents.{Group, Link, Rule-text, Asg, File}
@@ -45,8 +45,7 @@ size-cons : (l : List ℕ) (ls : List (List ℕ)) → size (l ∷ ls) ≡ length
 size-cons l ls = omega (arith, length-append (l ++ bytes "\n") (ended ls), length-append l (bytes "\n"))
 
 size-append : (ks ls : List (List ℕ)) → size (ks ++ ls) ≡ size ks + size ls
-size-append [] ls = omega arith
-size-append (k ∷ ks) ls = omega (arith, size-cons k ks, size-cons k (ks ++ ls), size-append ks ls)
+size-append ks ls = ap length (each-append (λ l. l ++ bytes "\n") ks ls) ∙ length-append (ended ks) (ended ls)
 
 -- a head, its braces and its body
 headed-size : (head : List ℕ) (ls : List (List ℕ)) → size (headed head ls) ≤ length head + 4 + size ls
@@ -203,8 +202,7 @@ asgs-size (cons {x = a} {xs = gs} h hs) =
       size-append (asg-lines a) (joined (map asg-lines gs)),
       length-append (a .inputs) (joined (map (λ a. a .inputs) gs)),
       length-append (a .rules) rs,
-      ap (λ l. length (joined l)) (map-append named-in (a .rules) rs),
-      ap length (joined-append (map named-in (a .rules)) (map named-in rs)),
+      ap length (each-append named-in (a .rules) rs),
       length-append (joined (map named-in (a .rules))) (joined (map named-in rs)),
     )
 

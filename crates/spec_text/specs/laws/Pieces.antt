@@ -9,7 +9,6 @@ use Rattle.spec_lists.specs.Text.{bytes}
 use Rattle.spec_lists.specs.Select.{joined}
 use Rattle.spec_token.specs.declared.Kind.{Kind}
 use Rattle.spec_token.specs.declared.Kind.the-variants as kind
-use Rattle.spec_token.specs.Token.{Token}
 use Rattle.spec_grammar.specs.declared.Role.{Role}
 use Rattle.spec_grammar.specs.declared.Role.the-variants.{NoRole, UagName, User, HagName, Host, AsgName, Input, Pvname, RuleWord, Level, Permission}
 use Rattle.spec_grammar.specs.declared.Role.the-variants.{LogOption, UagNamed, HagNamed, CalcWord, Calculation, UnknownPredicate}
@@ -77,13 +76,15 @@ abbrev pub member-pieces : Role → List (List ℕ) → List (List Piece)
 member-pieces r [] = []
 member-pieces r (s ∷ ss) = list-pieces r s ss ∷ []
 
+-- a UAG or HAG, whose name has the role n and whose members have the role m
+abbrev pub group-pieces : Kind → Role → Role → List ℕ → Group → List (List Piece)
+group-pieces k n m w g = headed-pieces (called-pieces (word k NoRole w) (string n (g .name) ∷ [])) (member-pieces m (g .members))
+
 abbrev pub uag-pieces : Group → List (List Piece)
-uag-pieces g =
-    headed-pieces (called-pieces (word kind.Uag NoRole (bytes "UAG")) (string UagName (g .name) ∷ [])) (member-pieces User (g .members))
+uag-pieces = group-pieces kind.Uag UagName User (bytes "UAG")
 
 abbrev pub hag-pieces : Group → List (List Piece)
-hag-pieces g =
-    headed-pieces (called-pieces (word kind.Hag NoRole (bytes "HAG")) (string HagName (g .name) ∷ [])) (member-pieces Host (g .members))
+hag-pieces = group-pieces kind.Hag HagName Host (bytes "HAG")
 
 abbrev pub link-pieces : Link → List Piece
 link-pieces i = called-pieces (word kind.Inp Input (link-word (i .letter))) (string Pvname (i .name) ∷ [])

@@ -1,6 +1,6 @@
 -- A file without the places of its unknown predicates: nothing but whether there is one counts for a rule, for a table and for a text.
 use mathlib.Core.Bool.{cond}
-use mathlib.Core.List.{List, [], _∷_, map}
+use mathlib.Core.List.{[], _∷_, map}
 use Rattle.spec_lists.specs.Text.{lowered}
 use Rattle.spec_file.specs.Contents.{Group, Rule-text, Asg, File}
 use Rattle.spec_file.specs.Meaning.{switched-off}

@@ -15,7 +15,7 @@ use Rattle.spec_token.specs.declared.Kind.{Kind}
 use Rattle.spec_token.specs.declared.Kind.the-variants.{String}
 use Rattle.spec_token.specs.Word.{blank, newline, name-byte}
 use Rattle.spec_token.specs.Token as spelled
-use Rattle.spec_token.specs.Token.{Tokens, tokens, bad, then, Alone, open-paren, close-paren, open-brace, close-brace, comma}
+use Rattle.spec_token.specs.Token.{Tokens, bad, then, Alone, open-paren, close-paren, open-brace, close-brace, comma}
 use Rattle.spec_token.specs.Token.{Between-quotes, stringchar, escape, Spells, end, gap, bare-newline}
 use Rattle.spec_token.specs.Scanner.{Quoted, closed, broken, unclosed, also, quoted, alone, punctuation, Lexeme, nothing, comment, quote}
 use Rattle.spec_token.specs.Scanner.{stop, word, wrong, other, lexeme-of, scan, scanned}
@@ -61,7 +61,7 @@ stops-so open-brace = (refl, refl)
 stops-so close-brace = (refl, refl)
 stops-so comma = (refl, refl)
 
-unnamed : (b : ℕ) (cs : List ℕ) → Every (λ c. name-byte c ≡ false) cs → name-byte b ≡ true → one-of cs b ≡ false
+pub unnamed : (b : ℕ) (cs : List ℕ) → Every (λ c. name-byte c ≡ false) cs → name-byte b ≡ true → one-of cs b ≡ false
 unnamed b cs e h = go (one-of cs b) refl
   where
     go : (t : Bool) → one-of cs b ≡ t → t ≡ false

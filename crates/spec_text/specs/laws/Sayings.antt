@@ -8,7 +8,8 @@ use lib.ListN.{length}
 use borrow.Author.Tests.{not-false}
 use Rattle.spec_lists.specs.Text.{bytes}
 use Rattle.spec_lists.specs.Select.{joined, prepend-if}
-use Rattle.spec_lists.specs.laws.Joined.{joined-append, map-append}
+use Rattle.spec_lists.specs.laws.Alike.{map-same}
+use Rattle.spec_lists.specs.laws.Joined.{each-append, joined-each, map-map}
 use Rattle.spec_token.specs.declared.Kind.{Kind}
 use Rattle.spec_token.specs.declared.Kind.the-variants as kind
 use Rattle.spec_grammar.specs.declared.Role.{Role}
@@ -20,10 +21,10 @@ use Rattle.spec_grammar.specs.laws.Roles.{same-role-is}
 use Rattle.spec_file.specs.Contents.{text, Group, Link, Rule-text, Asg, File}
 use Rattle.spec_file.specs.Meaning.{switched-off}
 use Rattle.spec_text.specs.Lines.{link-word, level-word, permission-word, log-word}
-use Rattle.spec_text.specs.laws.Pieces.{Piece, mark, word, string, line-end, tagged, said-at, rp, lb, rb, list-pieces}
-use Rattle.spec_text.specs.laws.Pieces.{headed-pieces, member-pieces, uag-pieces, hag-pieces, link-pieces, head-pieces, reference-pieces}
-use Rattle.spec_text.specs.laws.Pieces.{calculation-pieces, unknown-pieces, predicate-pieces, rule-pieces, asg-pieces, line-pieces, ended-pieces}
-use Rattle.spec_text.specs.laws.Pieces.{file-pieces}
+use Rattle.spec_text.specs.laws.Pieces.{Piece, mark, word, string, line-end, tagged, said-at, rp, list-pieces, called-pieces, headed-pieces}
+use Rattle.spec_text.specs.laws.Pieces.{member-pieces, group-pieces, uag-pieces, hag-pieces, link-pieces, head-pieces, reference-pieces}
+use Rattle.spec_text.specs.laws.Pieces.{calculation-pieces, unknown-pieces, predicate-pieces, rule-pieces, asg-pieces, line-pieces, file-pieces}
+use Rattle.spec_text.specs.laws.Readings.{read, lines-read, body-read, headed-read, ended-read}
 
 -- a token that says r, at no place
 abbrev pub saying : Role → List ℕ → Tagged
@@ -32,13 +33,15 @@ saying r s = tagged kind.String r 0 s
 abbrev speaks : Role → Bool
 speaks r = not (same-role r NoRole)
 
--- what some pieces say
-abbrev pub sayings : List Piece → List Tagged
-sayings [] = []
-sayings (mark b k ∷ ps) = sayings ps
-sayings (word k r w ∷ ps) = prepend-if (speaks r) (saying r w) (sayings ps)
-sayings (string r s ∷ ps) = saying r s ∷ sayings ps
-sayings (line-end ∷ ps) = sayings ps
+-- what a piece says
+abbrev piece-says : Piece → List Tagged
+piece-says (mark b k) = []
+piece-says (word k r w) = prepend-if (speaks r) (saying r w) []
+piece-says (string r s) = saying r s ∷ []
+piece-says line-end = []
+
+abbrev sayings : List Piece → List Tagged
+sayings = read piece-says
 
 -- the tokens xs say ys: the same roles and texts, those that say nothing left out
 pub data Says : List Tagged → List Tagged → Type 0 where
@@ -46,14 +49,14 @@ pub data Says : List Tagged → List Tagged → Type 0 where
   silent : {x : Tagged} {xs ys : List Tagged} → x .role ≡ NoRole → Says xs ys → Says (x ∷ xs) ys
   aloud : {x y : Tagged} {xs ys : List Tagged} → x .role ≡ y .role → text x ≡ text y → Says xs ys → Says (x ∷ xs) (y ∷ ys)
 
-pub says-sayings : (p : ℕ) (ps : List Piece) → Says (said-at p ps) (sayings ps)
+says-sayings : (p : ℕ) (ps : List Piece) → Says (said-at p ps) (sayings ps)
 says-sayings p [] = nothing
 says-sayings p (mark b k ∷ ps) = silent refl (says-sayings (p + 1) ps)
 says-sayings p (word k r w ∷ ps) = go (speaks r) refl (says-sayings (p + length w) ps)
   where
     go :
         (b : Bool) → speaks r ≡ b → Says (said-at (p + length w) ps) (sayings ps)
-        → Says (tagged k r p w ∷ said-at (p + length w) ps) (prepend-if b (saying r w) (sayings ps))
+        → Says (tagged k r p w ∷ said-at (p + length w) ps) (prepend-if b (saying r w) [] ++ sayings ps)
     go true e h = aloud refl refl h
     go false e h = silent (same-role-is r NoRole (not-false (same-role r NoRole) e)) h
 says-sayings p (string r s ∷ ps) = aloud refl refl (says-sayings (p + 2 + length s) ps)
@@ -109,45 +112,22 @@ file-sayings f =
 
 -- ---- the pieces of a file say it
 
-sayings-append : (ps qs : List Piece) → sayings (ps ++ qs) ≡ sayings ps ++ sayings qs
-sayings-append [] qs = refl
-sayings-append (mark b k ∷ ps) qs = sayings-append ps qs
-sayings-append (word k r w ∷ ps) qs = go (speaks r) (sayings-append ps qs)
-  where
-    go :
-        (b : Bool) → sayings (ps ++ qs) ≡ sayings ps ++ sayings qs
-        → prepend-if b (saying r w) (sayings (ps ++ qs)) ≡ prepend-if b (saying r w) (sayings ps) ++ sayings qs
-    go true e = ap (λ (l : List Tagged). saying r w ∷ l) e
-    go false e = e
-sayings-append (string r s ∷ ps) qs = ap (λ (l : List Tagged). saying r s ∷ l) (sayings-append ps qs)
-sayings-append (line-end ∷ ps) qs = sayings-append ps qs
-
--- what lines say
 abbrev lines : List (List Piece) → List Tagged
-lines ls = joined (map sayings ls)
-
-lines-append : (ks ls : List (List Piece)) → lines (ks ++ ls) ≡ lines ks ++ lines ls
-lines-append ks ls = ap joined (map-append sayings ks ls) ∙ joined-append (map sayings ks) (map sayings ls)
-
-lines-ended : (ls : List (List Piece)) → sayings (ended-pieces ls) ≡ lines ls
-lines-ended [] = refl
-lines-ended (l ∷ ls) =
-    sayings-append (l ++ (line-end ∷ [])) (ended-pieces ls)
-    ∙ ap₂ (λ (a b : List Tagged). a ++ b) (sayings-append l (line-end ∷ []) ∙ append-nil (sayings l)) (lines-ended ls)
+lines = lines-read piece-says
 
 -- the lines of each of a list
 lines-joined :
     {A : Type 0} (h : A → List (List Piece)) (g : A → List Tagged) → ((x : A) → lines (h x) ≡ g x) → (xs : List A)
     → lines (joined (map h xs)) ≡ joined (map g xs)
-lines-joined h g e [] = refl
-lines-joined h g e (x ∷ xs) = lines-append (h x) (joined (map h xs)) ∙ ap₂ (λ (a b : List Tagged). a ++ b) (e x) (lines-joined h g e xs)
+lines-joined h g e xs = joined-each sayings h xs ∙ ap joined (map-same e xs)
 
+-- braces say nothing
 lines-headed : (head : List Piece) (ls : List (List Piece)) → lines (headed-pieces head ls) ≡ sayings head ++ lines ls
-lines-headed head [] = refl
-lines-headed head (l ∷ ls) =
-    ap₂ (λ (a b : List Tagged). a ++ b)
-    (sayings-append head (lb ∷ []) ∙ append-nil (sayings head))
-    (lines-append (l ∷ ls) ((rb ∷ []) ∷ []) ∙ append-nil (lines (l ∷ ls)))
+lines-headed head ls = headed-read piece-says head ls ∙ ap (λ (l : List Tagged). sayings head ++ l) (go ls)
+  where
+    go : (ls : List (List Piece)) → body-read piece-says ls ≡ lines ls
+    go [] = refl
+    go (l ∷ ls) = append-nil (lines (l ∷ ls))
 
 list-says : (r : Role) (s : List ℕ) (ss : List (List ℕ)) → sayings (list-pieces r s ss) ≡ strings r (s ∷ ss)
 list-says r s [] = refl
@@ -157,21 +137,19 @@ members-say : (r : Role) (ss : List (List ℕ)) → lines (member-pieces r ss) �
 members-say r [] = refl
 members-say r (s ∷ ss) = append-nil (sayings (list-pieces r s ss)) ∙ list-says r s ss
 
-uag-says : (g : Group) → lines (uag-pieces g) ≡ group-sayings UagName User g
-uag-says g = lines-headed _ (member-pieces User (g .members)) ∙ ap (λ (l : List Tagged). saying UagName (g .name) ∷ l) (members-say User (g .members))
-
-hag-says : (g : Group) → lines (hag-pieces g) ≡ group-sayings HagName Host g
-hag-says g = lines-headed _ (member-pieces Host (g .members)) ∙ ap (λ (l : List Tagged). saying HagName (g .name) ∷ l) (members-say Host (g .members))
+group-says : (k : Kind) (n m : Role) (w : List ℕ) (g : Group) → lines (group-pieces k n m w g) ≡ group-sayings n m g
+group-says k n m w g =
+    lines-headed (called-pieces (word k NoRole w) (string n (g .name) ∷ [])) (member-pieces m (g .members))
+    ∙ ap (λ (l : List Tagged). saying n (g .name) ∷ l) (members-say m (g .members))
 
 links-say : (is : List Link) → lines (map link-pieces is) ≡ joined (map link-sayings is)
-links-say [] = refl
-links-say (i ∷ is) = ap (λ (l : List Tagged). link-sayings i ++ l) (links-say is)
+links-say is = ap joined (map-map sayings link-pieces is)
 
 references-say : (k : Kind) (w : List ℕ) (r : Role) (ss : List (List ℕ)) → lines (reference-pieces (word k NoRole w) r ss) ≡ strings r ss
 references-say k w r [] = refl
 references-say k w r (s ∷ ss) =
     append-nil (sayings (list-pieces r s ss ++ (rp ∷ [])))
-    ∙ (sayings-append (list-pieces r s ss) (rp ∷ []) ∙ (append-nil (sayings (list-pieces r s ss)) ∙ list-says r s ss))
+    ∙ (each-append piece-says (list-pieces r s ss) (rp ∷ []) ∙ (append-nil (sayings (list-pieces r s ss)) ∙ list-says r s ss))
 
 calculation-says : (o : Option (List ℕ)) → lines (calculation-pieces o) ≡ calculation-sayings o
 calculation-says none = refl
@@ -183,11 +161,11 @@ unknown-says true = refl
 
 predicates-say : (r : Rule-text) → lines (predicate-pieces r) ≡ predicate-sayings r
 predicates-say r =
-    lines-append (reference-pieces (word kind.Uag NoRole (bytes "UAG")) UagNamed (r .uags)) _
+    each-append sayings (reference-pieces (word kind.Uag NoRole (bytes "UAG")) UagNamed (r .uags)) _
     ∙ ap₂ (λ (a b : List Tagged). a ++ b) (references-say kind.Uag (bytes "UAG") UagNamed (r .uags))
-    (lines-append (reference-pieces (word kind.Hag NoRole (bytes "HAG")) HagNamed (r .hags)) _
+    (each-append sayings (reference-pieces (word kind.Hag NoRole (bytes "HAG")) HagNamed (r .hags)) _
     ∙ ap₂ (λ (a b : List Tagged). a ++ b) (references-say kind.Hag (bytes "HAG") HagNamed (r .hags))
-    (lines-append (calculation-pieces (r .calculation)) _
+    (each-append sayings (calculation-pieces (r .calculation)) _
     ∙ ap₂ (λ (a b : List Tagged). a ++ b) (calculation-says (r .calculation)) (unknown-says (switched-off r))))
 
 rule-says : (r : Rule-text) → lines (rule-pieces r) ≡ rule-sayings r
@@ -199,16 +177,16 @@ asg-says : (a : Asg) → lines (asg-pieces a) ≡ asg-sayings a
 asg-says a =
     lines-headed _ (map link-pieces (a .inputs) ++ joined (map rule-pieces (a .rules)))
     ∙ ap (λ (l : List Tagged). saying AsgName (a .name) ∷ l)
-    (lines-append (map link-pieces (a .inputs)) _
+    (each-append sayings (map link-pieces (a .inputs)) _
     ∙ ap₂ (λ (a b : List Tagged). a ++ b) (links-say (a .inputs)) (lines-joined rule-pieces rule-sayings rule-says (a .rules)))
 
 file-says : (f : File) → sayings (file-pieces f) ≡ file-sayings f
 file-says f =
-    lines-ended (line-pieces f)
-    ∙ (lines-append (joined (map uag-pieces (f .uags))) _
-    ∙ ap₂ (λ (a b : List Tagged). a ++ b) (lines-joined uag-pieces (group-sayings UagName User) uag-says (f .uags))
-    (lines-append (joined (map hag-pieces (f .hags))) _
-    ∙ ap₂ (λ (a b : List Tagged). a ++ b) (lines-joined hag-pieces (group-sayings HagName Host) hag-says (f .hags))
+    ended-read piece-says refl (line-pieces f)
+    ∙ (each-append sayings (joined (map uag-pieces (f .uags))) _
+    ∙ ap₂ (λ (a b : List Tagged). a ++ b) (lines-joined uag-pieces (group-sayings UagName User) (group-says kind.Uag UagName User (bytes "UAG")) (f .uags))
+    (each-append sayings (joined (map hag-pieces (f .hags))) _
+    ∙ ap₂ (λ (a b : List Tagged). a ++ b) (lines-joined hag-pieces (group-sayings HagName Host) (group-says kind.Hag HagName Host (bytes "HAG")) (f .hags))
     (lines-joined asg-pieces asg-sayings asg-says (f .asgs))))
 
 -- the tokens of a file's text say the file
