@@ -44,7 +44,7 @@ fn decision_of_group(
     let mut so_far = ask_verdict::nothing_given();
     let mut i = 0;
     while i < n {
-        so_far = ask_rule::with_rule(
+        so_far = ask_given::with_rule(
             table,
             start + i,
             user,

@@ -1,10 +1,10 @@
-// What a line of the asker's input asks. 01, "Two programs".
+// The parts of a line of the asker's input. 01, "Two programs".
 ghost use mathlib.Core.Path.{_≡_};
 ghost use Prim.Native.Nat.{_-_, _≤_, _<_};
 ghost use lib.ListN.{length, drop};
-ghost use Rattle.prog_line.specs.Line.{group-of, readings-named};
-ghost use Rattle.prog_line.specs.Parts.{cut, Part, behind};
-ghost use Rattle.prog_line.specs.Meaning.{as-readings, Next-as, Level-as, Names-as, Asks-as};
+ghost use Rattle.prog_line.specs.Line.{readings-named};
+ghost use Rattle.prog_line.specs.Parts.{Part, behind};
+ghost use Rattle.prog_line.specs.Meaning.{as-readings, Next-as, Level-as, Names-as};
 use prog_reading::NamedReading;
 use spec_calc::Reading;
 
@@ -69,7 +69,7 @@ fn next_part(line: &[u8], at: usize) -> Place
 }
 
 // Group, user and host, none empty.
-fn find_names(line: &[u8]) -> Names
+pub fn find_names(line: &[u8]) -> Names
     ensures { λ r. ⌜ Names-as (now (line .entry)) r ⌝ }
 {
     let Place::At(user) = next_part(line, 0) else {
@@ -90,8 +90,8 @@ fn wide(b: u8) -> u32
     b as u32
 }
 
-// The level, a part of one digit.
-fn level_of(line: &[u8], at: usize) -> Level
+// The level, a part of one digit. Inner: prog_question has the offset from find_names.
+pub fn level_of(line: &[u8], at: usize) -> Level
     requires { ⌜ at ≤ length (now line) ⌝ }
     ensures { λ r. ⌜ Level-as (now (line .entry)) at r ⌝ }
 {
@@ -132,54 +132,4 @@ pub fn readings(line: &[u8], from: usize, allowed: &mut bool) -> [Reading; 21]
     }
     *allowed = true;
     values
-}
-
-// ---- the question
-
-// What a line asks.
-pub fn question(line: &[u8]) -> Line
-    ensures { λ r. ⌜ Asks-as (now (line .entry)) r ⌝ }
-{
-    if 255 < line.len() {
-        return Line::Refused;
-    }
-    let Names::At(user, host, level_at) = find_names(line) else {
-        return Line::Refused;
-    };
-    let Level::Is(level) = level_of(line, level_at) else {
-        return Line::Refused;
-    };
-    let mut allowed = false;
-    readings(line, level_at + 1, &mut allowed);
-    if allowed {
-        return Line::Question {
-            user,
-            host,
-            level_at,
-            level,
-        };
-    }
-    Line::Refused
-}
-
-// A name of a question, from its offset up to the space before the next.
-// Callers have both offsets from question, which says their order (Meaning: Ordered).
-pub fn part<'a>(line: &'a [u8], from: usize, next: usize) -> &'a [u8]
-    requires { ⌜ (from < next) × (next ≤ length (now line)) ⌝ }
-    ensures { λ r. ⌜ now r ≡ cut from (next - 1) (now (line .entry)) ⌝ }
-{
-    let end = next - 1;
-    &line[from..end]
-}
-
-// The group of a question whose user stands at an offset.
-// Callers have the offset from question (Meaning: Ordered).
-pub fn group<'a>(line: &'a [u8], user: usize) -> &'a [u8]
-    requires { ⌜ (0 < user) × (user ≤ length (now line)) ⌝ }
-    ensures { λ r. ⌜ now r ≡ group-of (cut 0 (user - 1) (now (line .entry))) ⌝ }
-{
-    if byte_compare::equal(part(line, 0, user), b"-") {
-        return &line[0..0];
-    }
-    part(line, 0, user)
 }

@@ -15,7 +15,7 @@ fn answer_line(table: &[u8], line: &[u8], out: &mut [u8], at: usize) -> usize
     requires { ⌜ (is-table (now table) ≡ true) × (at ≤ length (now out)) ⌝ }
     ensures { λ r. ⌜ Put (answered (now (table .entry)) (asks (now (line .entry)))) (now (out .entry)) at (now (out .exit)) r ⌝ }
 {
-    match prog_line::question(line) {
+    match prog_question::question(line) {
         Line::Refused => prog_answer::refused_text(out, at),
         Line::Question {
             user,
@@ -23,9 +23,9 @@ fn answer_line(table: &[u8], line: &[u8], out: &mut [u8], at: usize) -> usize
             level_at,
             level,
         } => {
-            let group = prog_line::group(line, user);
-            let user_name = prog_line::part(line, user, host);
-            let host_name = prog_line::part(line, host, level_at);
+            let group = prog_question::group(line, user);
+            let user_name = prog_question::part(line, user, host);
+            let host_name = prog_question::part(line, host, level_at);
             let mut allowed = false;
             let rs = prog_line::readings(line, level_at + 1, &mut allowed);
             let answer = decide_checked(table, group, user_name, host_name, b"", b"", level, rs);

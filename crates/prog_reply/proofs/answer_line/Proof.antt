@@ -7,9 +7,9 @@ use Rattle.prog_reply.proofs.answer_line.Tie as tie
 use Rattle.prog_reply.proofs.answer_line.Reads as reads
 use Rattle.prog_reply.proofs.answer_line.Lts as lts
 use Rattle.ask_checked.proofs.decide_checked.Reads as decide-checked-reads
-use Rattle.prog_line.proofs.group.Reads as group-reads
-use Rattle.prog_line.proofs.part.Reads as part-reads
-use Rattle.prog_line.proofs.question.Reads as question-reads
+use Rattle.prog_question.proofs.group.Reads as group-reads
+use Rattle.prog_question.proofs.part.Reads as part-reads
+use Rattle.prog_question.proofs.question.Reads as question-reads
 use Rattle.prog_line.proofs.readings.Reads as readings-reads
 use Rattle.prog_answer.proofs.answer_text.Reads as answer-text-reads
 use Rattle.prog_answer.proofs.refused_text.Reads as refused-text-reads

@@ -10,8 +10,8 @@ use borrow.Author.Tests.{not-true, not-false}
 use native.Mathlib.Omega.{arith}
 use mathlib.Core.Path.{sym, ap, _∙_}
 use borrow.Author.Needs.{needs}
-use Rattle.ask_rule.proofs.with_rule.Statement.{statement}
-use Rattle.ask_rule.proofs.with_rule.Tie as tie
+use Rattle.ask_given.proofs.with_rule.Statement.{statement}
+use Rattle.ask_given.proofs.with_rule.Tie as tie
 
 field-requires : tie.Need-field-requires
 field-requires c κs = (c .before .before .before .before .before .pre .0, omega arith)

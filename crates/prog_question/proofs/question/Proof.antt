@@ -1,13 +1,13 @@
 use native.Mathlib.Omega.{arith}
 use Rattle.prog_line.specs.laws.Question.{too-long, no-names, named, ill-level, levelled, refuses, questions}
 use borrow.Author.Needs.{needs}
-use Rattle.prog_line.proofs.question.Statement.{statement}
-use Rattle.prog_line.proofs.question.Tie as tie
-use Rattle.prog_line.proofs.question.Reads as reads
-use Rattle.prog_line.proofs.question.Lts as lts
+use Rattle.prog_question.proofs.question.Statement.{statement}
+use Rattle.prog_question.proofs.question.Tie as tie
+use Rattle.prog_question.proofs.question.Reads as reads
+use Rattle.prog_question.proofs.question.Lts as lts
 use Rattle.prog_line.proofs.find_names.Reads as find-names-reads
 use Rattle.prog_line.proofs.level_of.Reads as level-of-reads
 use Rattle.prog_line.proofs.readings.Reads as readings-reads
 
 -- src/lib.rt:246:9
 returns : tie.Need-returns

@@ -1,11 +1,11 @@
 use Rattle.prog_line.specs.Parts.{cut}
 use Prim.Native.Nat.{_-_}
 use Rattle.prog_line.specs.laws.Question.{no-group, a-group}
 use Rattle.spec_lists.specs.Text.{bytes, same}
 use mathlib.Core.Path.{ap, _∙_}
 use borrow.Author.Needs.{needs}
-use Rattle.prog_line.proofs.group.Statement.{statement}
-use Rattle.prog_line.proofs.group.Tie as tie
+use Rattle.prog_question.proofs.group.Statement.{statement}
+use Rattle.prog_question.proofs.group.Tie as tie
 
 part-requires : tie.Need-part-requires
 part-requires c κs = search needs
