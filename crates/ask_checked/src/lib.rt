@@ -82,7 +82,7 @@ pub fn decide_checked(
     if !ask_fit::fit(roles, lengths) {
         return Answer::BadRoles;
     }
-    match table_read::answering_group(table, group) {
+    match table_find::answering_group(table, group) {
         Index::Missing => Answer::Answered(Decision {
             access: Access::None,
             trap: false,

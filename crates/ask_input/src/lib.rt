@@ -14,9 +14,9 @@ pub fn input_of(table: &[u8], group: &[u8], letter: u32) -> Index
     requires { ⌜ is-table (now table) ≡ true ⌝ }
     ensures { λ r. ⌜ Finds-letter (now (table .entry)) (now (group .entry)) letter r ⌝ }
 {
-    match table_read::answering_group(table, group) {
+    match table_find::answering_group(table, group) {
         Index::Missing => Index::Missing,
-        Index::At(i) => table_read::first_input(table, i, letter as usize),
+        Index::At(i) => table_find::first_input(table, i, letter as usize),
     }
 }
 

@@ -96,7 +96,7 @@ pub fn kept_checked(
     ensures { λ r.
         ⌜ Keeps (kept-of (now (table .entry)) (now (states .entry)) (now (values .entry)) (now (group .entry)) level (now (user .entry)) (now (host .entry))) r ⌝ }
 {
-    match table_read::answering_group(table, group) {
+    match table_find::answering_group(table, group) {
         Index::Missing => nothing_kept(),
         Index::At(i) => kept_by_group(table, i, user, host, level, states, values),
     }

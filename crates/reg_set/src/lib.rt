@@ -36,9 +36,9 @@ fn group_with_input(table: &[u8], group: &[u8], letter: u32) -> Index
     requires { ⌜ is-table (now table) ≡ true ⌝ }
     ensures { λ r. ⌜ Has-input (now (table .entry)) (now (group .entry)) letter r ⌝ }
 {
-    match table_read::group_named(table, group) {
+    match table_find::group_named(table, group) {
         Index::Missing => Index::Missing,
-        Index::At(i) => match table_read::first_input(table, i, wide(letter)) {
+        Index::At(i) => match table_find::first_input(table, i, wide(letter)) {
             Index::Missing => Index::Missing,
             Index::At(_) => Index::At(i),
         },

@@ -1,4 +1,4 @@
-// The records of a checked table: counts, fields, names, the answering group, an input.
+// The records of a checked table: counts, fields, names.
 use spec_decision::Found;
 use table_fields::ACCESS_GROUPS;
 use table_fields::HOST_GROUPS;
@@ -12,16 +12,13 @@ ghost use mathlib.Core.Path.{_≡_};
 ghost use mathlib.Core.Bool.{true};
 ghost use Prim.Native.Nat.{_<_};
 ghost use lib.ListN.{length};
-ghost use Rattle.spec_file.specs.Limit.{access-groups};
 ghost use Rattle.spec_table.specs.Layout.{width};
 ghost use Rattle.spec_table.specs.View.{view};
 ghost use Rattle.spec_table.specs.Check.{is-table};
 ghost use Rattle.spec_table.specs.Policy.{name, row};
 ghost use Rattle.spec_decision.specs.LookUp.{name-part};
-ghost use Rattle.spec_decision.specs.Groups.{answering-number};
 ghost use Rattle.table_fields.specs.Field.{Word};
 ghost use Rattle.table_read.specs.Stored.{section, Ordered, name-word, Stored, word-of};
-ghost use Rattle.table_read.specs.Search.{index-of, number-named, number-full, Finds-input};
 
 // The records of a table that was checked: every function asks for that, or for a record of such a table (Stored). Callers have
 // asked is_table, or have the bytes of an accepted load; they know a record's number from a count, a run or a search.
@@ -110,59 +107,4 @@ pub fn name_part(table: &[u8], s: Section, i: usize) -> Found
     let at = strings + field(table, s, i, j);
     let length = field(table, s, i, j + 1);
     Found::Part { at, length }
-}
-
-// The first access group of a name; DEFAULT does not stand in for one that is missing. Inner: callers have a checked table.
-fn first_named(table: &[u8], group: &[u8]) -> Index
-    requires { ⌜ is-table (now table) ≡ true ⌝ }
-    ensures { λ r. ⌜ r ≡ index-of (number-named (now (table .entry)) (now (group .entry))) ⌝ }
-{
-    let n = count(table, Section::AccessGroups);
-    let mut i = 0;
-    while i < n {
-        if byte_compare::equal(name_of(table, Section::AccessGroups, i), group) {
-            return Index::At(i);
-        }
-        i += 1;
-    }
-    Index::Missing
-}
-
-// The access group of a name; the empty name is DEFAULT's. Inner: of a checked table, to set a reading of that group.
-pub fn group_named(table: &[u8], group: &[u8]) -> Index
-    requires { ⌜ is-table (now table) ≡ true ⌝ }
-    ensures { λ r. ⌜ r ≡ index-of (number-full (now (table .entry)) (now (group .entry))) ⌝ }
-{
-    if group.len() == 0 {
-        return first_named(table, b"DEFAULT");
-    }
-    first_named(table, group)
-}
-
-// The access group that answers for a name. Inner: ask_checked and ask_input call it, of a checked table.
-pub fn answering_group(table: &[u8], group: &[u8]) -> Index
-    requires { ⌜ is-table (now table) ≡ true ⌝ }
-    ensures { λ r. ⌜ r ≡ index-of (answering-number (now (table .entry)) (now (group .entry))) ⌝ }
-{
-    match group_named(table, group) {
-        Index::At(i) => Index::At(i),
-        Index::Missing => first_named(table, b"DEFAULT"),
-    }
-}
-
-// The first input of an access group that has the letter. Inner: ask_input calls it, with the answering group.
-pub fn first_input(table: &[u8], group: usize, letter: usize) -> Index
-    requires { ⌜ Stored (now table) access-groups group ⌝ }
-    ensures { λ r. ⌜ Finds-input (now (table .entry)) group letter r ⌝ }
-{
-    let start = field(table, Section::AccessGroups, group, 2);
-    let n = field(table, Section::AccessGroups, group, 3);
-    let mut i = 0;
-    while i < n {
-        if field(table, Section::Inputs, start + i, 0) == letter {
-            return Index::At(start + i);
-        }
-        i += 1;
-    }
-    Index::Missing
 }

@@ -15,8 +15,8 @@ use mathlib.Core.Bool.{Bool}
 use mathlib.Core.Path.{_≡_, refl, sym, _∙_}
 use Prim.Native.Nat.{ℕ, _≤_, _-_}
 use borrow.Author.Needs.{needs}
-use Rattle.table_read.proofs.first_input.Statement.{statement}
-use Rattle.table_read.proofs.first_input.Tie as tie
+use Rattle.table_find.proofs.first_input.Statement.{statement}
+use Rattle.table_find.proofs.first_input.Tie as tie
 
 abbrev has-letter : ℕ → List ℕ → Bool
 has-letter l w = eqb (letter-field w) l

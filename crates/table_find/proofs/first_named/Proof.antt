@@ -1,11 +1,11 @@
 use Rattle.table_read.specs.laws.Search.{Named-left, named-turn, named-hit, named-done}
 use Rattle.spec_lists.specs.Text.{same}
 use native.Mathlib.Omega.{arith}
 use mathlib.Core.Path.{refl, sym, ap, _∙_}
 use Prim.Native.Nat.{_≤_, _-_}
 use borrow.Author.Needs.{needs}
-use Rattle.table_read.proofs.first_named.Statement.{statement}
-use Rattle.table_read.proofs.first_named.Tie as tie
+use Rattle.table_find.proofs.first_named.Statement.{statement}
+use Rattle.table_find.proofs.first_named.Tie as tie
 
 abbrev Inv-loop : tie.InvT-loop
 Inv-loop table group n i₀ i = (i ≤ n) × Named-left table group i

@@ -1,7 +1,7 @@
 use Rattle.table_read.specs.laws.Search.{for-named, for-default}
 use borrow.Author.Needs.{needs}
-use Rattle.table_read.proofs.answering_group.Statement.{statement}
-use Rattle.table_read.proofs.answering_group.Tie as tie
+use Rattle.table_find.proofs.answering_group.Statement.{statement}
+use Rattle.table_find.proofs.answering_group.Tie as tie
 
 group-named-requires : tie.Need-group-named-requires
 group-named-requires c κs = search needs

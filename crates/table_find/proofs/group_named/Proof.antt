@@ -1,7 +1,7 @@
 use Rattle.table_read.specs.laws.Search.{named-empty, named-full}
 use borrow.Author.Needs.{needs}
-use Rattle.table_read.proofs.group_named.Statement.{statement}
-use Rattle.table_read.proofs.group_named.Tie as tie
+use Rattle.table_find.proofs.group_named.Statement.{statement}
+use Rattle.table_find.proofs.group_named.Tie as tie
 
 slice-aggregate-first-named : tie.Need-slice-aggregate-first-named
 slice-aggregate-first-named c = search needs
