@@ -4,6 +4,7 @@ use prog_output::put_number;
 use spec_export::Exported;
 use vec_words::word;
 ghost use Prim.Native.Nat.{_≤_};
+ghost use lib.ListN.{length};
 
 // No line lends more.
 const MOST: usize = 65535;
@@ -41,7 +42,10 @@ fn written(e: Exported) -> usize {
 
 // Whether the first bytes are those of a file, where one is named.
 fn put_text(lent: &[u8], length: usize, path: &[u8]) {
-    if path.len() == 0 || lent.len() < length {
+    if path.len() == 0 {
+        return;
+    }
+    if lent.len() < length {
         return;
     }
     let mut buf = io::large_buffer();
@@ -53,18 +57,23 @@ fn put_text(lent: &[u8], length: usize, path: &[u8]) {
     }
 }
 
-// Exports the bytes of a file into so many lent bytes. Its text is compared with that in a file, if one is named.
-fn export(path: &[u8], room: usize, expected: &[u8])
-    requires { ⌜ room ≤ 65535 ⌝ }
+// Exports a table into the first bytes of those that are lent.
+fn export(table: &[u8], lent: &mut [u8], room: usize, path: &[u8])
+    requires { ⌜ room ≤ length (now lent) ⌝ }
 {
+    let answer = text::export(table, &mut lent[..room]);
+    put_answer(answer);
+    let length = written(answer);
+    put_text(lent, length, path);
+    vec_load::put_rest(lent, length);
+}
+
+// Exports the bytes of a file into so many lent bytes. Its text is compared with that in a file, if one is named.
+fn read_and_export(path: &[u8], room: usize, expected: &[u8]) {
     let mut buf = io::large_buffer();
     let n = prog_input::read(path, &mut buf);
     let mut lent = [vec_load::BEFORE; MOST];
-    let answer = text::export(&buf[..n], &mut lent[..room]);
-    put_answer(answer);
-    let length = written(answer);
-    put_text(&lent, length, expected);
-    vec_load::put_rest(&lent, length);
+    export(&buf[..n], &mut lent, vec_load::at_most(room, MOST), expected);
 }
 
 // A line of the index: a file, how many bytes are lent, and the file of its text where there is one.
@@ -72,7 +81,7 @@ fn judge(line: &[u8]) {
     put(line);
     put(b"\n");
     let room = vec_words::number(word(line, 1)) as usize;
-    export(word(line, 0), vec_load::at_most(room, MOST), word(line, 2));
+    read_and_export(word(line, 0), room, word(line, 2));
 }
 
 fn judge_all(s: &[u8]) {
