@@ -8,10 +8,9 @@ ghost use Rattle.table_read.specs.Stored.{section};
 ghost use Rattle.text_marks.specs.Room.{Room};
 ghost use Rattle.text_marks.specs.Names.{run, Run-stored, names, listed, others};
 
-// Each function writes at a place, as byte_write does, and returns the place behind. Its callers have room for all that they write: no table's text
-// is near the greatest usize.
+// Each function writes at a place, as byte_write does, and returns the place behind. Room says that this is a usize.
 
-// The bytes of a word or of signs.
+// The bytes of a word or of signs. Inner: the callers write parts of a table's text, and have room for all of it.
 pub fn put_bytes(lent: &mut [u8], at: usize, t: &[u8]) -> usize
     requires { ⌜ Room at (now t) ⌝ }
     ensures { λ r. ⌜ Put (now (lent .entry)) (now (lent .exit)) at (now (t .entry)) r ⌝ }
@@ -29,7 +28,7 @@ fn put_quoted(lent: &mut [u8], at: usize, t: &[u8]) -> usize
     put_bytes(lent, end, b"\"")
 }
 
-// A word, and a name between its parentheses.
+// A word, and a name between its parentheses. Inner: as put_bytes.
 pub fn put_called(lent: &mut [u8], at: usize, word: &[u8], name: &[u8]) -> usize
     requires { ⌜ Room at (called (now word) (quoted (now name))) ⌝ }
     ensures { λ r. ⌜ Put (now (lent .entry)) (now (lent .exit)) at (called (now (word .entry)) (quoted (now (name .entry)))) r ⌝ }
@@ -57,7 +56,8 @@ fn put_others(lent: &mut [u8], at: usize, table: &[u8], s: Section, start: usize
     next
 }
 
-// The names of a run of records, parted by commas. Inner: a caller has the run from a record, and has seen that it is not empty.
+// The names of a run of records, parted by commas. Inner: a caller has the run from a record of a checked table, has seen that it is not empty, and
+// has room as for put_bytes.
 pub fn put_names(
     lent: &mut [u8],
     at: usize,
