@@ -73,7 +73,12 @@ fn read_and_export(path: &[u8], room: usize, expected: &[u8]) {
     let mut buf = io::large_buffer();
     let n = prog_input::read(path, &mut buf);
     let mut lent = [vec_load::BEFORE; MOST];
-    export(&buf[..n], &mut lent, vec_load::at_most(room, MOST), expected);
+    export(
+        &buf[..n],
+        &mut lent,
+        vec_load::at_most(room, MOST),
+        expected,
+    );
 }
 
 // A line of the index: a file, how many bytes are lent, and the file of its text where there is one.
