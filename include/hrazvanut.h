@@ -619,13 +619,13 @@ static inline bool hrazvanut_is_table(struct hrazvanut_table table)
  *
  * The groups stand in the table's order, user groups first, then host groups, then access groups. Each definition, list of members, input,
  * rule and condition of a rule has a line of its own; names and calculations are quoted. Comments and unknown items are lost, for a table
- * does not keep them; hosts are in lower case, as stored; a rule that is switched off says UNKNOWN(). If a load wrote the table, a text of
- * at most HRAZVANUT_FILE bytes loads again, its table answers every question alike, and the export of that one gives the same text. A text
- * that is longer than a file may be is written all the same: it can pass 65,535 bytes.
+ * does not keep them; hosts are in lower case, as stored; a rule that is switched off says UNKNOWN(). If a load of this version wrote the
+ * table, a text of at most HRAZVANUT_FILE bytes loads again to the same table, byte for byte, and the export of that one gives the same
+ * text. A text that is longer than a file may be is written all the same: it can pass 65,535 bytes.
  *
- * Refused: 20 not a table; then 27 a name or calculation that cannot be quoted, for it has a bare quote or a bare newline, or ends in half
- * an escape, or a text with a cause for a load's refusal but 1 and 11; then 28 a text longer than the room. Of the tables that a load
- * writes, 27 refuses those without any definition and no others. */
+ * Refused: 20 not a table; then 27 a name that cannot be quoted, for it has a bare quote or a bare newline, or ends in half an escape, or
+ * a text with a cause for a load's refusal but 1 and 11; then 28 a text longer than the room. Of the tables that a load of this version
+ * writes, 27 refuses those without any definition and no others; of those that an earlier one wrote also some with an undefined group. */
 static inline struct hrazvanut_exported hrazvanut_export(struct hrazvanut_table table, struct hrazvanut_text_room room)
 {
     uint8_t none = 0;

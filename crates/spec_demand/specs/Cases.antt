@@ -8,6 +8,7 @@ use Prim.Native.Nat.{ℕ, _+_, _-_}
 use Prim.Native.String.{String}
 use Prim.Native.Char.{code}
 use lib.ListN.{replicate, set}
+use lib.Seq.{sets}
 use lib.Ieee.{Float, nan, binary64, ofBits}
 use Rattle.spec_lists.specs.Text.{bytes}
 use Rattle.spec_token.specs.Word.{greatest-letter}
@@ -248,9 +249,17 @@ pub record Letter-cases : Type 0 where
 abbrev pub text-back : String → List ℕ
 text-back s = text-in (view (load buffer (bytes s) .bytes))
 
--- the table of `ASG(x)` with another byte for that name
+-- the table of a text with other bytes from a place on
+abbrev pub changed : String → ℕ → List ℕ → List ℕ
+changed s at bs = sets (load buffer (bytes s) .bytes) at bs
+
+-- that of `ASG(x)` with another byte for the name
 abbrev pub named-with : ℕ → List ℕ
-named-with b = set (load buffer (bytes "ASG(x)") .bytes) 48 b
+named-with b = changed "ASG(x)" 48 (b ∷ [])
+
+-- one whose rule refers to the group `a`
+abbrev pub referring : String
+referring = "UAG(a) ASG(x) {RULE(1,READ) {UAG(a)}}"
 
 -- 02, ticket 6
 pub record Text-cases : Type 0 where
@@ -269,11 +278,18 @@ pub record Text-cases : Type 0 where
   pub predicates :
       text-back "UAG(a) UAG(b) HAG(h) ASG(x) {INPA(p) RULE(0,WRITE,TRAPWRITE) {CALC(\"A=1\") HAG(h) UAG(b) UAG(a)}}"
       ≡ bytes "UAG(\"a\")\nUAG(\"b\")\nHAG(\"h\")\nASG(\"x\"){\nINPA(\"p\")\nRULE(0,WRITE,TRAPWRITE){\nUAG(\"b\",\"a\")\nHAG(\"h\")\nCALC(\"A=1\")\n}\n}\n"
-  -- "Refusals: 20; then 27 [..]; then 28": no table; no definition; a bare quote, a bare newline, a backslash without its byte, lent nothing; too little
+  -- "Refusals: 20; then 27 [..]; then 28": no table; no definition; a string with a bare quote, a bare newline, a backslash without its byte, and one whose
+  -- text would load as two members; a name again, a group that is not defined, a letter without input; lent nothing, or too little
   pub no-table : exported 256 [] ≡ NotTable
   pub no-definition : exported 256 (load buffer (bytes "FOO()") .bytes) ≡ Unwritable
   pub bare-quote : exported 256 (named-with (code "\"")) ≡ Unwritable
   pub bare-newline : exported 256 (named-with (code "\n")) ≡ Unwritable
   pub odd-backslash : exported 0 (named-with (code "\\")) ≡ Unwritable
-  pub control-byte : exported 256 (named-with 1) ≡ Written 9
+  pub two-members : exported 256 (changed "UAG(a) {x123y}" 50 (bytes "\",\"")) ≡ Unwritable
+  pub name-again : exported 256 (changed "ASG(x) ASG(y)" 61 (bytes "x")) ≡ Unwritable
+  pub not-defined : exported 256 (changed referring 78 (bytes "b")) ≡ Unwritable
+  pub no-input : exported 256 (changed "ASG(x) {INPA(p) RULE(1,READ) {CALC(\"A\")}}" 48 (1 ∷ [])) ≡ Unwritable
   pub too-little : exported 8 (named-with (code "x")) ≡ NoRoom 9
+  -- any other byte can be quoted; "references by their stored names", whatever number stands beside them
+  pub control-byte : exported 256 (named-with 1) ≡ Written 9
+  pub without-number : exported 256 (changed referring 70 (255 ∷ 255 ∷ [])) ≡ exported 256 (load buffer (bytes referring) .bytes)

@@ -523,13 +523,13 @@ pub record Written-back : Type 0 where
       → export lent b
       ≡ record { answer = exported.Written (length (text-in (view b))); bytes = text-in (view b) ++ drop (length (text-in (view b))) lent }
   -- a table can be written or not, so that one of these four applies
-  pub either : (lent b : List ℕ) → Table b → Unwritable (view b) ⊎ (Unwritable (view b) → ⊥)
+  pub either : (b : List ℕ) → Table b → Unwritable (view b) ⊎ (Unwritable (view b) → ⊥)
   -- 27 is answered exactly of these tables
   pub exactly-27 : (lent b : List ℕ) → (export-number (export lent b .answer) ≡ some 27) ↔ (Table b × Unwritable (view b))
   -- a refused call changes no lent byte
   pub refused :
       (lent b : List ℕ) (n : ℕ) → export-number (export lent b .answer) ≡ some n → ((n ≡ 20) ⊎ (n ≡ 27) ⊎ (n ≡ 28)) × (export lent b .bytes ≡ lent)
-  pub greatest : (lent b : List ℕ) → Table b → length (text-in (view b)) ≤ 213056
+  pub greatest : (b : List ℕ) → Table b → length (text-in (view b)) ≤ 213056
   -- of a table that today's loader made, 27 is answered only if its file defines nothing
   pub loaded-27 :
       (s : List ℕ) (xs : List Tagged) → Acceptable s xs → (rest : List ℕ) → Unwritable (view (table-of (file-of xs) ++ rest)) ↔ Defines-nothing (file-of xs)

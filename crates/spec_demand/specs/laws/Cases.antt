@@ -138,6 +138,11 @@ text-cases =
       bare-quote = refl;
       bare-newline = refl;
       odd-backslash = refl;
-      control-byte = refl;
+      two-members = refl;
+      name-again = refl;
+      not-defined = refl;
+      no-input = refl;
       too-little = refl;
+      control-byte = refl;
+      without-number = refl;
     }

@@ -27,6 +27,31 @@ formed : (b : List ℕ) → is-table b ≡ true → well-formed (view b) ≡ tru
 unfolding is-table
 formed b e = both (sections-stand b) (well-formed (view b)) e .1
 
+-- ---- of a table
+
+module _ (b : List ℕ) (t : Table b) where
+  checked : is-table b ≡ true
+  checked = table-is b .1 t
+
+  pub unwritable-or-not : Unwritable (view b) ⊎ (Unwritable (view b) → ⊥)
+  unwritable-or-not = go (unwritable (view b)) refl
+    where
+      go : (x : Bool) → unwritable (view b) ≡ x → Unwritable (view b) ⊎ (Unwritable (view b) → ⊥)
+      go true e = inl (unwritable-is (view b) (formed b checked) .0 e)
+      go false e = inr (λ u. false≢true (sym e ∙ unwritable-is (view b) (formed b checked) .1 u))
+
+  writable : (Unwritable (view b) → ⊥) → unwritable (view b) ≡ false
+  writable n = go (unwritable (view b)) refl
+    where
+      go : (x : Bool) → unwritable (view b) ≡ x → unwritable (view b) ≡ false
+      go true e = absurd (n (unwritable-is (view b) (formed b checked) .0 e))
+      go false e = e
+
+  pub text-short : length (text-in (view b)) ≤ greatest-text
+  text-short = text-in-bounded (view b) (formed b checked)
+
+-- ---- case by case
+
 module _ (lent b : List ℕ) where
   answered : {a : Exported} → exported (length lent) b ≡ a → export lent b ≡ record { answer = a; bytes = left lent (text-in (view b)) a }
   answered e = ap (λ (x : Exported). record { answer = x; bytes = left lent (text-in (view b)) x }) e
@@ -40,43 +65,23 @@ module _ (lent b : List ℕ) where
       go false e = refl
 
   module _ (t : Table b) where
-    checked : is-table b ≡ true
-    checked = table-is b .1 t
-
     -- what is answered of a table's content
     on-content : {a : Exported} → of-content (length lent) (view b) ≡ a → export lent b ≡ record { answer = a; bytes = left lent (text-in (view b)) a }
     unfolding exported
-    on-content e = answered (rw checked e)
-
-    pub unwritable-or-not : Unwritable (view b) ⊎ (Unwritable (view b) → ⊥)
-    unwritable-or-not = go (unwritable (view b)) refl
-      where
-        go : (x : Bool) → unwritable (view b) ≡ x → Unwritable (view b) ⊎ (Unwritable (view b) → ⊥)
-        go true e = inl (unwritable-is (view b) (formed b checked) .0 e)
-        go false e = inr (λ u. false≢true (sym e ∙ unwritable-is (view b) (formed b checked) .1 u))
+    on-content e = answered (rw (checked b t) e)
 
     pub exported-unwritable : Unwritable (view b) → export lent b ≡ record { answer = exports.Unwritable; bytes = lent }
-    exported-unwritable u = on-content (rw (unwritable-is (view b) (formed b checked) .1 u) refl)
-
-    writable : (Unwritable (view b) → ⊥) → unwritable (view b) ≡ false
-    writable n = go (unwritable (view b)) refl
-      where
-        go : (x : Bool) → unwritable (view b) ≡ x → unwritable (view b) ≡ false
-        go true e = absurd (n (unwritable-is (view b) (formed b checked) .0 e))
-        go false e = e
+    exported-unwritable u = on-content (rw (unwritable-is (view b) (formed b (checked b t)) .1 u) refl)
 
     pub exported-no-room :
         (Unwritable (view b) → ⊥) → length lent < length (text-in (view b))
         → export lent b ≡ record { answer = NoRoom (length (text-in (view b))); bytes = lent }
-    exported-no-room n l = on-content (rw (writable n, lt-leb (length (text-in (view b))) (length lent) l) refl)
+    exported-no-room n l = on-content (rw (writable b t n, lt-leb (length (text-in (view b))) (length lent) l) refl)
 
     pub exported-text :
         (Unwritable (view b) → ⊥) → length (text-in (view b)) ≤ length lent
         → export lent b ≡ record { answer = Written (length (text-in (view b))); bytes = text-in (view b) ++ drop (length (text-in (view b))) lent }
-    exported-text n l = on-content (rw (writable n, le-leb (length (text-in (view b))) (length lent) l) refl)
-
-    pub text-short : length (text-in (view b)) ≤ greatest-text
-    text-short = text-in-bounded (view b) (formed b checked)
+    exported-text n l = on-content (rw (writable b t n, le-leb (length (text-in (view b))) (length lent) l) refl)
 
 -- ---- refusals
 
