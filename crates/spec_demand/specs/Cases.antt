@@ -8,9 +8,9 @@ use Prim.Native.Nat.{ℕ, _+_, _-_}
 use Prim.Native.String.{String}
 use Prim.Native.Char.{code}
 use lib.ListN.{replicate, set}
-use lib.Seq.{sets}
 use lib.Ieee.{Float, nan, binary64, ofBits}
 use Rattle.spec_lists.specs.Text.{bytes}
+use Rattle.spec_lists.specs.Words.{spelled-out}
 use Rattle.spec_token.specs.Word.{greatest-letter}
 use Rattle.spec_calc.specs.declared.Reading.{Reading}
 use Rattle.spec_calc.specs.declared.Reading.the-variants.{NeverHeard, Value}
@@ -249,17 +249,26 @@ pub record Letter-cases : Type 0 where
 abbrev pub text-back : String → List ℕ
 text-back s = text-in (view (load buffer (bytes s) .bytes))
 
--- the table of a text with other bytes from a place on
-abbrev pub changed : String → ℕ → List ℕ → List ℕ
-changed s at bs = sets (load buffer (bytes s) .bytes) at bs
+-- a table of words and strings
+abbrev pub laid : List ℕ → List ℕ → List ℕ
+laid ws s = spelled-out ws ++ s
 
--- that of `ASG(x)` with another byte for the name
+-- the tables of `ASG(x)` with another byte for the name; of a user group with the member `x","y`; of two access groups `x`; of a rule that reads for a
+-- user group, its number and the string of its name given, beside the user group `a`; of an input B and a calculation A
 abbrev pub named-with : ℕ → List ℕ
-named-with b = changed "ASG(x)" 48 (b ∷ [])
+named-with b = laid (1 ∷ 49 ∷ 0 ∷ 36 ∷ 0 ∷ 36 ∷ 0 ∷ 36 ∷ 1 ∷ 36 ∷ 0 ∷ 48 ∷ 0 ∷ 48 ∷ 0 ∷ 48 ∷ 1 ∷ 48 ∷ 0 ∷ 1 ∷ 0 ∷ 0 ∷ 0 ∷ 0 ∷ []) (b ∷ [])
 
--- one whose rule refers to the group `a`
-abbrev pub referring : String
-referring = "UAG(a) ASG(x) {RULE(1,READ) {UAG(a)}}"
+abbrev pub member-of-two : List ℕ
+member-of-two = laid (1 ∷ 54 ∷ 1 ∷ 36 ∷ 0 ∷ 44 ∷ 1 ∷ 44 ∷ 0 ∷ 48 ∷ 0 ∷ 48 ∷ 0 ∷ 48 ∷ 0 ∷ 48 ∷ 6 ∷ 48 ∷ 0 ∷ 1 ∷ 0 ∷ 1 ∷ 1 ∷ 5 ∷ []) (bytes "ax\",\"y")
+
+abbrev pub twice : List ℕ
+twice = laid (1 ∷ 62 ∷ 0 ∷ 36 ∷ 0 ∷ 36 ∷ 0 ∷ 36 ∷ 2 ∷ 36 ∷ 0 ∷ 60 ∷ 0 ∷ 60 ∷ 0 ∷ 60 ∷ 2 ∷ 60 ∷ 0 ∷ 1 ∷ 0 ∷ 0 ∷ 0 ∷ 0 ∷ 1 ∷ 1 ∷ 0 ∷ 0 ∷ 0 ∷ 0 ∷ []) (bytes "xx")
+
+abbrev pub referring : ℕ → String → List ℕ
+referring n s = laid (1 ∷ 79 ∷ 1 ∷ 36 ∷ 0 ∷ 44 ∷ 0 ∷ 44 ∷ 1 ∷ 44 ∷ 0 ∷ 56 ∷ 1 ∷ 56 ∷ 1 ∷ 70 ∷ 3 ∷ 76 ∷ 0 ∷ 1 ∷ 0 ∷ 0 ∷ 1 ∷ 1 ∷ 0 ∷ 0 ∷ 0 ∷ 1 ∷ 3 ∷ 0 ∷ 1 ∷ 1 ∷ 0 ∷ 0 ∷ 0 ∷ n ∷ 2 ∷ 1 ∷ []) (bytes "ax" ++ bytes s)
+
+abbrev pub input-lost : List ℕ
+input-lost = laid (1 ∷ 71 ∷ 0 ∷ 36 ∷ 0 ∷ 36 ∷ 0 ∷ 36 ∷ 1 ∷ 36 ∷ 1 ∷ 48 ∷ 1 ∷ 54 ∷ 0 ∷ 68 ∷ 3 ∷ 68 ∷ 0 ∷ 1 ∷ 0 ∷ 1 ∷ 0 ∷ 1 ∷ 1 ∷ 1 ∷ 1 ∷ 3 ∷ 0 ∷ 0 ∷ 0 ∷ 0 ∷ 2 ∷ 1 ∷ []) (bytes "xpA")
 
 -- 02, ticket 6
 pub record Text-cases : Type 0 where
@@ -285,11 +294,12 @@ pub record Text-cases : Type 0 where
   pub bare-quote : exported 256 (named-with (code "\"")) ≡ Unwritable
   pub bare-newline : exported 256 (named-with (code "\n")) ≡ Unwritable
   pub odd-backslash : exported 0 (named-with (code "\\")) ≡ Unwritable
-  pub two-members : exported 256 (changed "UAG(a) {x123y}" 50 (bytes "\",\"")) ≡ Unwritable
-  pub name-again : exported 256 (changed "ASG(x) ASG(y)" 61 (bytes "x")) ≡ Unwritable
-  pub not-defined : exported 256 (changed referring 78 (bytes "b")) ≡ Unwritable
-  pub no-input : exported 256 (changed "ASG(x) {INPA(p) RULE(1,READ) {CALC(\"A\")}}" 48 (1 ∷ [])) ≡ Unwritable
+  pub two-members : exported 256 member-of-two ≡ Unwritable
+  pub name-again : exported 256 twice ≡ Unwritable
+  pub not-defined : exported 256 (referring 0 "b") ≡ Unwritable
+  pub no-input : exported 256 input-lost ≡ Unwritable
   pub too-little : exported 8 (named-with (code "x")) ≡ NoRoom 9
   -- any other byte can be quoted; "references by their stored names", whatever number stands beside them
   pub control-byte : exported 256 (named-with 1) ≡ Written 9
-  pub without-number : exported 256 (changed referring 70 (255 ∷ 255 ∷ [])) ≡ exported 256 (load buffer (bytes referring) .bytes)
+  pub by-number : exported 256 (referring 0 "a") ≡ Written 58
+  pub without-number : exported 256 (referring 65535 "a") ≡ Written 58

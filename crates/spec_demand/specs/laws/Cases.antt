@@ -144,5 +144,6 @@ text-cases =
       no-input = refl;
       too-little = refl;
       control-byte = refl;
+      by-number = refl;
       without-number = refl;
     }
