@@ -60,7 +60,7 @@ fn three_lines() {
     assert_eq!(programs::check(mended.as_bytes()), indented("is accepted, and it prints"));
 }
 
-/// The indented blocks of a section: a command, a file, and what `export` prints for it.
+/// The indented blocks of a section: commands, then a file, and what `export` prints for it.
 #[test]
 fn exports() {
     let section =
@@ -73,6 +73,6 @@ fn exports() {
         }
     }
     blocks.retain(|block| !block.is_empty());
-    let [_, file, printed] = &blocks[..] else { panic!("{blocks:?}") };
+    let [.., file, printed] = &blocks[..] else { panic!("{blocks:?}") };
     assert_eq!(programs::export(file.as_bytes()), printed.as_bytes());
 }
