@@ -13,6 +13,9 @@
 void check(bool good, const char *what, int line);
 #define CHECK(what) check((what), #what, __LINE__)
 
+/* The table of a text that is accepted, at the start of what is lent. */
+struct hrazvanut_table table_in(uint8_t *lent, size_t length, const char *text);
+
 /* The parts: export.c, walk.c, passed.c and register.c. */
 void exports(void);
 void walks(void);

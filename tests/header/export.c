@@ -8,18 +8,6 @@
 static uint8_t lent[HRAZVANUT_TABLE + 16], stored[sizeof lent], again[sizeof lent];
 static char page[HRAZVANUT_TEXT + 16];
 
-/* The table of a text that is accepted, at the start of `lent`. */
-static struct hrazvanut_table table_of(const char *text)
-{
-    struct hrazvanut_room room = ZERO;
-    struct hrazvanut_loaded loaded;
-    room.start = lent;
-    room.length = sizeof lent;
-    loaded = hrazvanut_load(hrazvanut_string(text), room);
-    CHECK(loaded.refusal == HRAZVANUT_NOT_REFUSED);
-    return loaded.table;
-}
-
 static size_t word(const uint8_t *at) { return (size_t)(at[0] | at[1] << 8); }
 
 /* The byte `from` of the table's strings, which are its last section, is `to`. */
@@ -80,7 +68,7 @@ enum { WRITTEN = sizeof written - 1 };
 /* Each length of the room: one byte too few, all of them, more. */
 static void rooms(void)
 {
-    struct hrazvanut_table table = table_of(site);
+    struct hrazvanut_table table = table_in(lent, sizeof lent, site);
     struct hrazvanut_text_room nowhere = ZERO;
     size_t length;
     for (length = 0; length < WRITTEN; length++)
@@ -97,7 +85,7 @@ static void rooms(void)
 /* The text loads, to the same table, whose text is the same. */
 static void there_and_back(void)
 {
-    struct hrazvanut_table table = table_of(site);
+    struct hrazvanut_table table = table_in(lent, sizeof lent, site);
     struct hrazvanut_room room = ZERO;
     struct hrazvanut_loaded loaded;
     room.start = again;
@@ -111,7 +99,7 @@ static void there_and_back(void)
 /* 20, then 27, then 28. */
 static void order(void)
 {
-    struct hrazvanut_table none = ZERO, table = table_of("FOO()");
+    struct hrazvanut_table none = ZERO, table = table_in(lent, sizeof lent, "FOO()");
     static const size_t lengths[] = {0, 1, HRAZVANUT_TEXT};
     size_t i;
     for (i = 0; i < sizeof lengths / sizeof *lengths; i++) {
@@ -128,17 +116,17 @@ static void each_byte(void)
     char text[] = "UAG(\"a?b\")\n";
     int byte;
     for (byte = 0; byte < 256; byte++) {
-        struct hrazvanut_table table = table_of("UAG(\"a@b\")");
+        struct hrazvanut_table table = table_in(lent, sizeof lent, "UAG(\"a@b\")");
         change_strings(table, '@', (char)byte);
         text[6] = (char)byte;
         if (byte == '"' || byte == '\n')
             CHECK(refuses(table, sizeof page - 1, HRAZVANUT_REFUSED_UNWRITABLE, 0));
         else
             CHECK(writes(table, sizeof page - 1, text, sizeof text - 1));
-        table = table_of("UAG(\"\\@\")");
+        table = table_in(lent, sizeof lent, "UAG(\"\\@\")");
         change_strings(table, '@', (char)byte);
         CHECK(export_into(table, sizeof page).text.length == 10);
-        table = table_of("UAG(\"a@\")");
+        table = table_in(lent, sizeof lent, "UAG(\"a@\")");
         change_strings(table, '@', (char)byte);
         CHECK((export_into(table, sizeof page).refusal == 27) == (byte == '"' || byte == '\n' || byte == '\\'));
     }
@@ -147,14 +135,14 @@ static void each_byte(void)
 /* Tables that no load writes: `x","y` is one member, and not two; a name twice; a name that is not defined, whatever its number. */
 static void by_no_load(void)
 {
-    struct hrazvanut_table table = table_of("UAG(a) {\"x@,@y\"}");
+    struct hrazvanut_table table = table_in(lent, sizeof lent, "UAG(a) {\"x@,@y\"}");
     uint8_t *reference;
     change_strings(table, '@', '"');
     CHECK(refuses(table, HRAZVANUT_TEXT, HRAZVANUT_REFUSED_UNWRITABLE, 0));
-    table = table_of("UAG(a) UAG(b)");
+    table = table_in(lent, sizeof lent, "UAG(a) UAG(b)");
     change_strings(table, 'b', 'a');
     CHECK(refuses(table, HRAZVANUT_TEXT, HRAZVANUT_REFUSED_UNWRITABLE, 0));
-    table = table_of("UAG(a) ASG(b) {RULE(1,READ) {UAG(a)}}");
+    table = table_in(lent, sizeof lent, "UAG(a) ASG(b) {RULE(1,READ) {UAG(a)}}");
     reference = lent + word(lent + 30);
     reference[0] = reference[1] = 0xff;
     CHECK(export_into(table, sizeof page).text.length == strlen("UAG(\"a\")\nASG(\"b\"){\nRULE(1,READ,NOTRAPWRITE){\nUAG(\"a\")\n}\n}\n"));
@@ -172,7 +160,7 @@ static void long_text(void)
     size_t i, at = 0;
     for (i = 0; i < 64; i++)
         at += (size_t)sprintf(text + at, "UAG(g%059d) {x,x,x,x,x,x,x,x,x,x,x,x,x,x,x,x}", (int)i);
-    table = table_of(text);
+    table = table_in(lent, sizeof lent, text);
     for (i = 0; i < 1024; i++)
         memcpy(lent + word(lent + 14) + 4 * i, lent + word(lent + 6), 4);
     CHECK(hrazvanut_is_table(table));

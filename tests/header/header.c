@@ -18,6 +18,17 @@ void check(bool good, const char *what, int line)
     }
 }
 
+struct hrazvanut_table table_in(uint8_t *lent, size_t length, const char *text)
+{
+    struct hrazvanut_room room = ZERO;
+    struct hrazvanut_loaded loaded;
+    room.start = lent;
+    room.length = length;
+    loaded = hrazvanut_load(hrazvanut_string(text), room);
+    CHECK(loaded.refusal == HRAZVANUT_NOT_REFUSED && hrazvanut_is_table(loaded.table));
+    return loaded.table;
+}
+
 static uint8_t lent[HRAZVANUT_TABLE + 16];
 
 static struct hrazvanut_room room_of(size_t length)

@@ -6,17 +6,12 @@
 
 static uint8_t lent[HRAZVANUT_TABLE + 16], stored[sizeof lent];
 
-/* The table of a text that is accepted, at the start of `lent`. */
+/* The table of a text that is accepted, at the start of `lent`; its bytes are kept. */
 static struct hrazvanut_table table_of(const char *text)
 {
-    struct hrazvanut_room room = ZERO;
-    struct hrazvanut_loaded loaded;
-    room.start = lent;
-    room.length = sizeof lent;
-    loaded = hrazvanut_load(hrazvanut_string(text), room);
-    CHECK(loaded.refusal == HRAZVANUT_NOT_REFUSED && hrazvanut_is_table(loaded.table));
+    struct hrazvanut_table table = table_in(lent, sizeof lent, text);
     memcpy(stored, lent, sizeof lent);
-    return loaded.table;
+    return table;
 }
 
 static size_t word(const uint8_t *at) { return (size_t)(at[0] | at[1] << 8); }

@@ -3,7 +3,8 @@
 
 use crate::calculation;
 use crate::random::Random;
-use paper::table::{HEADER_BYTES, UNDEFINED, WIDTHS};
+use crate::table::stored;
+use paper::table::{UNDEFINED, WIDTHS};
 use paper::{CALCULATION_BYTES, LETTERS, MOST, NAME_BYTES};
 
 /// What a table says, before it is laid out.
@@ -254,7 +255,7 @@ struct Layout<'r> {
 fn laid_out(random: &mut Random, site: &Site, shared: usize) -> Vec<u8> {
     let mut layout = Layout { random, sections: Default::default(), strings: Vec::new(), shared };
     layout.site(site);
-    layout.finish()
+    stored(layout.sections, layout.strings)
 }
 
 impl Layout<'_> {
@@ -311,19 +312,6 @@ impl Layout<'_> {
         }
         let [offset, length] = rule.calculation.as_ref().map_or([0, 0], |text| self.string(text));
         self.sections[5].extend([rule.flags, first, users, first + users, hosts, offset, length]);
-    }
-
-    fn finish(self) -> Vec<u8> {
-        let mut header = Vec::new();
-        let mut offset = HEADER_BYTES;
-        for (words, width) in self.sections.iter().zip(WIDTHS) {
-            header.extend([(words.len() / width) as u16, offset as u16]);
-            offset += 2 * words.len();
-        }
-        header.extend([self.strings.len() as u16, offset as u16]);
-        let total = (offset + self.strings.len()) as u16;
-        let words = [1, total].into_iter().chain(header).chain(self.sections.into_iter().flatten());
-        words.flat_map(u16::to_le_bytes).chain(self.strings).collect()
     }
 }
 

@@ -253,17 +253,22 @@ impl Parts {
     }
 
     fn finish(self) -> Vec<u8> {
-        let mut header = Vec::new();
-        let mut offset = HEADER_BYTES;
-        for (words, width) in self.sections.iter().zip(WIDTHS) {
-            header.extend([(words.len() / width) as u16, offset as u16]);
-            offset += 2 * words.len();
-        }
-        header.extend([self.strings.len() as u16, offset as u16]);
-        let total = (offset + self.strings.len()) as u16;
-        let words = [1, total].into_iter().chain(header).chain(self.sections.into_iter().flatten());
-        words.flat_map(u16::to_le_bytes).chain(self.strings).collect()
+        stored(self.sections, self.strings)
     }
+}
+
+/// The bytes of a table: its header, its records and its strings.
+pub(crate) fn stored(sections: [Vec<u16>; 7], strings: Vec<u8>) -> Vec<u8> {
+    let mut header = Vec::new();
+    let mut offset = HEADER_BYTES;
+    for (words, width) in sections.iter().zip(WIDTHS) {
+        header.extend([(words.len() / width) as u16, offset as u16]);
+        offset += 2 * words.len();
+    }
+    header.extend([strings.len() as u16, offset as u16]);
+    let total = (offset + strings.len()) as u16;
+    let words = [1, total].into_iter().chain(header).chain(sections.into_iter().flatten());
+    words.flat_map(u16::to_le_bytes).chain(strings).collect()
 }
 
 fn rule_flags(random: &mut Random) -> u16 {
