@@ -1,4 +1,3 @@
 pub mod Runs
 pub mod Digits
 pub mod Numerals
-pub mod Table

@@ -27,30 +27,18 @@ pub fn peek(s: &[u8], at: usize) -> u8
     if at < s.len() { s[at] } else { 0 }
 }
 
-const TENS: [u64; 16] = [
-    1,
-    10,
-    100,
-    1_000,
-    10_000,
-    100_000,
-    1_000_000,
-    10_000_000,
-    100_000_000,
-    1_000_000_000,
-    10_000_000_000,
-    100_000_000_000,
-    1_000_000_000_000,
-    10_000_000_000_000,
-    100_000_000_000_000,
-    1_000_000_000_000_000,
-];
-
+// The divisor of a number with k digits behind its point.
 fn ten_to(k: usize) -> u64
     requires { ⌜ k ≤ 15 ⌝ }
     ensures { λ r. ⌜ r ≡ 10 ^ k ⌝ }
 {
-    TENS[k]
+    let mut d: u64 = 1;
+    let mut i = 0;
+    while i < k {
+        d *= 10;
+        i += 1;
+    }
+    d
 }
 
 // Both are exact, so one division rounds once.
