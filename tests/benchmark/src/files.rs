@@ -45,6 +45,14 @@ pub fn long() -> Sample {
     written("long", &text, "DEFAULT", "ann", "pc1")
 }
 
+/// As many rules whose numbers have as many places as they may.
+pub fn places() -> Sample {
+    let sum = [".999999999999999"; 4].join("+");
+    let rule = format!("RULE(1,WRITE){{CALC(\"{sum}<A\")}}");
+    let text = format!("ASG(DEFAULT){{INPA(x){}RULE(1,WRITE){{CALC(\"A<0.3\")}}}}\n", rule.repeat(150));
+    written("places", &text, "DEFAULT", "ann", "pc1")
+}
+
 fn written(name: &'static str, text: &str, group: &str, user: &str, host: &str) -> Sample {
     let [text, group, user, host] = [text, group, user, host].map(str::to_string);
     Sample { name, text, group, user, host }
