@@ -4,7 +4,7 @@ use crate::compare::{Comparison, Go};
 use crate::{register, stray};
 use inputs::question::{all_good, Names, Owned};
 use inputs::random::Random;
-use inputs::{calculation, export, file, letters, question, table};
+use inputs::{calculation, every, export, file, letters, question, table};
 use paper::calculation::{parse, value};
 use paper::{text_of, FILE_BYTES, LETTERS, TABLE_BYTES, TEXT_BYTES};
 
@@ -291,6 +291,20 @@ fn of_values(random: &mut Random, comparison: &mut Comparison) -> Go {
         comparison.decide(&table, &all_heard(&values))?;
         values[LETTERS - 1] = f64::from_bits(values[LETTERS - 1].to_bits() ^ 1);
         comparison.decide(&table, &all_heard(&values))?;
+    }
+    Ok(())
+}
+
+/// Each number's value to the bit: a rule compares it with U, which reads that value,
+/// and then the one next to it.
+pub fn numbers(comparison: &mut Comparison) -> Go {
+    for number in every::numbers() {
+        let text = [&number, &b"=U"[..]].concat();
+        let table = table_of(&rule_of(&text)).expect("it is short enough");
+        let value = paper::calculation::number(&number).expect("15 digits at most");
+        for bits in [value.to_bits(), value.to_bits() ^ 1] {
+            comparison.decide(&table, &all_heard(&[f64::from_bits(bits); LETTERS]))?;
+        }
     }
     Ok(())
 }

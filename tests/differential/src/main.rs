@@ -14,7 +14,7 @@ mod rooms;
 mod slices;
 mod stray;
 
-use compare::{Comparison, Stop};
+use compare::{Comparison, Go, Stop};
 use inputs::random::Random;
 use std::process::exit;
 
@@ -27,12 +27,18 @@ fn number(text: &str) -> u64 {
     text.parse().unwrap_or_else(|_| usage())
 }
 
-/// The version and the limits, then cases until there are enough comparisons.
+/// What is the same for each seed: the version, the limits, numbers of each form.
+fn once(comparison: &mut Comparison) -> Go {
+    comparison.version()?;
+    comparison.limits()?;
+    cases::numbers(comparison)
+}
+
+/// These, then cases until there are enough comparisons.
 fn compare(comparison: &mut Comparison, seed: u64, only: Option<u64>) {
     let first = only.unwrap_or(0);
     for case in first.. {
-        let once =
-            if case == first { comparison.version().and_then(|()| comparison.limits()) } else { Ok(()) };
+        let once = if case == first { once(comparison) } else { Ok(()) };
         match once.and_then(|()| cases::run(&mut Random::of_case(seed, case), comparison)) {
             Ok(()) if only.is_some() => return,
             Ok(()) => {}

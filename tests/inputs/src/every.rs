@@ -1,4 +1,4 @@
-//! Lines and files that are the same in each run: few enough to be all asked.
+//! Lines, files and numbers that are the same in each run: few enough to be all asked.
 
 const PLACES: [&str; 18] = [
     "@ ann pc1 1",
@@ -26,6 +26,35 @@ pub fn lines() -> Vec<u8> {
     let values = [each_short_value(), each_number_of_digits()].concat();
     let asked = values.iter().map(|value| [b"- ann pc1 1 A:", &value[..]].concat()).collect();
     [each_byte(), asked, each_number_of_letters(), each_length()].concat().join(&b'\n')
+}
+
+/// Numbers with each number of digits before and behind the point, 15 at most in all.
+pub fn numbers() -> Vec<Vec<u8>> {
+    let mut numbers = Vec::new();
+    for run in [b"999999999999999", b"123456789012345", b"700000000000003", b"050000000000007"] {
+        for digits in 1..=run.len() {
+            let run = &run[..digits];
+            numbers.push(run.to_vec());
+            numbers.extend((0..digits).map(|point| [&run[..point], b".", &run[point..]].concat()));
+        }
+    }
+    numbers
+}
+
+/// A group for each number of places, whose rule holds at one value; and each asked at that
+/// value and at others, which differ in the last digit or in the sign.
+pub fn read_places() -> (Vec<u8>, Vec<u8>) {
+    let (mut rules, mut lines) = (String::new(), String::new());
+    for places in 0..=15 {
+        let (before, behind) = "123456789012345".split_at(15 - places);
+        let number = if places == 0 { before.to_string() } else { format!("{before}.{behind}") };
+        rules.push_str(&format!("ASG(p{places}){{INPA(x)RULE(1,WRITE){{CALC(\"A={number}\")}}}}\n"));
+        let next = format!("{}6", &number[..number.len() - 1]);
+        for value in [&number, &next, &format!("-{number}")] {
+            lines.push_str(&format!("p{places} ann pc1 1 A:{value}\n"));
+        }
+    }
+    (rules.into_bytes(), lines.into_bytes())
 }
 
 /// A comment of a megabyte and a half.

@@ -15,7 +15,7 @@ const RULES: &[u8] =
 const QUESTION: &[u8] = b"- ann pc1 1 A:0.25\n";
 
 /// How many cases are the same for each seed.
-pub const FIXED: u64 = 8;
+pub const FIXED: u64 = 9;
 
 /// The first cases are the same for each seed; the others are made.
 pub fn run(case: u64, random: &mut Random, bench: &mut Bench) -> Go {
@@ -28,6 +28,10 @@ pub fn run(case: u64, random: &mut Random, bench: &mut Bench) -> Go {
         5 => spelt(bench),
         6 => asked(Some(RULES), b"", bench),
         7 => exports(bench),
+        8 => {
+            let (rules, lines) = every::read_places();
+            asked(Some(&rules), &lines, bench)
+        }
         _ => made(random, bench),
     }
 }

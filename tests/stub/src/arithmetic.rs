@@ -1,6 +1,7 @@
 //! The calculation with the faults 106 to 122, and tables that answer by it.
 
 use crate::fault;
+use crate::numbers::misnumbered;
 use paper::calculation::{apply, bad_letter, from_truth, is_true, parse, Operator, Tree};
 use paper::table::{View, ACCESS_GROUPS, RULES};
 use paper::Readings;
@@ -93,7 +94,8 @@ pub fn judged(table: &[u8], by_result: bool, readings: impl Fn(usize) -> Reading
         let (_, _, (first, count)) = view.access_group(group);
         for (number, rule) in (first..first + count).map(|n| (n, view.rule(n))) {
             let record = &mut judged[start + 14 * number..][..14];
-            match parse(view.string(rule.calculation)) {
+            let text = view.string(rule.calculation);
+            match parse(text).map(|tree| misnumbered(tree, text)) {
                 Some(tree) if !holds(&tree, &readings(group), by_result) => record[0] |= 16,
                 _ => record[10..].fill(0),
             }

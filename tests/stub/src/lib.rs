@@ -8,6 +8,7 @@ mod export;
 mod exports;
 pub mod groups;
 mod letters;
+mod numbers;
 mod register;
 mod roles;
 mod walk;
@@ -27,7 +28,8 @@ use std::sync::OnceLock;
 /// 195 to 199 of the asker's, 200 to 219 of the library's groups by number and its
 /// version, 220 to 226 of its register's loads into another room, 227 to 237 of the
 /// library's look-ups without the check, 238 to 266 of its export, 267 to
-/// 274 of the program `export`.
+/// 274 of the program `export`, 275 to 283 of the library's numbers, 284 of the
+/// asker's.
 pub fn fault(number: u32) -> bool {
     static CHOSEN: OnceLock<u32> = OnceLock::new();
     let chosen = CHOSEN.get_or_init(|| {

@@ -1,5 +1,5 @@
 //! The asker by `paper`, with a fault of its own: HRAZVANUT_FAULT, 23 to 38, 105,
-//! 124, 152 and 195 to 199.
+//! 124, 152, 195 to 199 and 284.
 
 use paper::programs::{self, answer_line, question};
 use paper::{Reading, LETTERS, TABLE_BYTES};
@@ -7,6 +7,16 @@ use std::io::{self, Read, Write};
 use stub::arithmetic::judged;
 use stub::fault;
 use stub::groups::taken;
+
+/// A reading of 15 places by the power of 14: as if it had no last digit.
+fn misnumbered(part: &[u8]) -> &[u8] {
+    let digits = part.strip_prefix(b"A:.").unwrap_or_default();
+    if digits.len() == 15 {
+        &part[..part.len() - 1]
+    } else {
+        part
+    }
+}
 
 /// What the line would be read as, if it is misread. None if it is skipped.
 fn misread(line: &[u8]) -> Option<Vec<u8>> {
@@ -33,6 +43,7 @@ fn misread(line: &[u8]) -> Option<Vec<u8>> {
             parts().take(4).collect::<Vec<_>>().join(&b' ')
         }
         _ if fault(32) => line.split(|b| *b == 0).next().unwrap_or_default().to_vec(),
+        _ if fault(284) => parts().map(misnumbered).collect::<Vec<_>>().join(&b' '),
         _ if fault(33) && line.ends_with(b":-nan") => [&line[..line.len() - 4], b"nan"].concat(),
         _ => line.to_vec(),
     })
