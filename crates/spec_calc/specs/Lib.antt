@@ -6,4 +6,3 @@ pub mod Readings
 pub mod States
 pub mod Scanner
 pub mod Reader
-pub mod laws

@@ -1,5 +1,5 @@
--- The scanner of a calculation: a machine that decides which symbols a text has. That it agrees with Spells and Number is proved (laws/Spelling,
--- laws/Numeral), so nobody has to believe it.
+-- The scanner of a calculation: a machine that decides which symbols a text has. That it agrees with Spells and Number is proved (proofs/laws/Spelling,
+-- proofs/laws/Numeral), so nobody has to believe it.
 use Rattle.std.specs.Prelude.{◌&&◌, cond, List, [], ◌∷◌, ◌++◌, ℕ, zero, suc, ◌+◌, ◌-◌, leb, length, take, drop, Float}
 use Rattle.std.proofs.Math.Option.{Option, none, some}
 use Prim.Native.Char.{code}

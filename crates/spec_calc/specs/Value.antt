@@ -54,7 +54,7 @@ heard NeverHeard = zero_value
 heard Invalid = zero_value
 heard (Value x) = x
 
--- 01: "only the chosen branch counts". An infinite or not_a_number value goes on by IEEE 754, but then the whole is bad (finite_throughout).
+-- 01: "only the chosen branch counts". An infinite or not-a-number value goes on by IEEE 754, but then the whole is bad (finite_throughout).
 unfoldable pub value : List Reading → Tree → Float
 value rs (number_tree x) = x
 value rs (letter_tree i) = heard (reading rs i)
@@ -63,7 +63,7 @@ value rs (negation t) = truth (not (is_true (value rs t)))
 value rs (binary o t u) = apply o (value rs t) (value rs u)
 value rs (choice c x y) = cond (is_true (value rs c)) (value rs x) (value rs y)
 
--- neither infinite nor not_a_number
+-- neither infinite nor not-a-number
 abbrev pub finite : Float → Bool
 finite nan = false
 finite (inf s) = false
@@ -93,14 +93,14 @@ evaluated rs (negation t) = negation t ∷ evaluated rs t
 evaluated rs (binary o t u) = binary o t u ∷ (evaluated rs t ++ evaluated rs u)
 evaluated rs (choice c x y) = choice c x y ∷ (evaluated rs c ++ cond (is_true (value rs c)) (evaluated rs x) (evaluated rs y))
 
--- no evaluated part has "an infinite or not_a_number value"; as a statement, and as the test that decides it
+-- no evaluated part has "an infinite or not-a-number value"; as a statement, and as the test that decides it
 abbrev pub FiniteParts : List Reading → Tree → Type 0
 FiniteParts rs t = Every (λ u. finite (value rs u) ≡ true) (evaluated rs t)
 
 abbrev pub finite_throughout : List Reading → Tree → Bool
 finite_throughout rs t = all (λ u. finite (value rs u)) (evaluated rs t)
 
--- 02, ticket 5: "the lowest letter in its text whose reading is bad"; as a statement, and as the function that finds it (laws/Lowest.antt: lowest_bad_is)
+-- 02, ticket 5: "the lowest letter in its text whose reading is bad"; as a statement, and as the function that finds it (proofs/laws/Lowest.antt: lowest_bad_is)
 pub record LowestBad (rs : List Reading) (is : List ℕ) (i : ℕ) : Type 0 where
   pub among : Memᴰ i is
   pub bad : good (reading rs i) ≡ false
@@ -124,7 +124,7 @@ worth_by (some i) whole x = BadBy i
 worth_by none true x = Is x
 worth_by none false x = BadByArithmetic
 
--- 01: "If any letter in the text, in either branch, has a bad reading"; 02: "An infinite or not_a_number value of any evaluated part"
+-- 01: "If any letter in the text, in either branch, has a bad reading"; 02: "An infinite or not-a-number value of any evaluated part"
 abbrev pub tree_worth : List Reading → Tree → Worth
 tree_worth rs t = worth_by (lowest_bad rs (letters t)) (finite_throughout rs t) (value rs t)
 

@@ -1,5 +1,8 @@
+#![tactic(auto)]
+
 // 01, "The question": a reading is never heard, or invalid, or a binary64 value.
-#[derive(Drop)]
+
+#[derive(Clone, Copy)]
 pub enum Reading {
     NeverHeard,
     Invalid,
@@ -8,7 +11,7 @@ pub enum Reading {
 
 // What a text comes to: no calculation; bad by a letter, A being 0, the lowest of it whose reading is bad; bad by arithmetic, where an evaluated
 // part of it is not finite; or a value.
-#[derive(Drop)]
+#[derive(Clone, Copy)]
 pub enum Worth {
     NoCalculation,
     BadBy(u8),
@@ -17,7 +20,7 @@ pub enum Worth {
 }
 
 // The operators of a calculation that stand between two operands.
-#[derive(Drop)]
+#[derive(Clone, Copy)]
 pub enum Operator {
     Or,
     And,

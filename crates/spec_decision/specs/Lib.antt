@@ -3,4 +3,3 @@ pub mod LookUp
 pub mod Groups
 pub mod Walk
 pub mod Privilege
-pub mod laws

@@ -1,4 +1,4 @@
--- The look_up of an input's process variable name. 01, "The question".
+-- The look-up of an input's process variable name. 01, "The question".
 use Rattle.std.specs.Prelude.{◌≡◌, cond, List, [], ℕ, ◌+◌, eqb}
 use Rattle.std.proofs.Math.Option.{Option, none, some}
 use Rattle.spec_lists.specs.Select.{first}
@@ -32,7 +32,7 @@ part_in (Part at length) b = part (record { first = at; count = length }) b
 part_in NotTable b = []
 part_in NoInput b = []
 
--- "The look_up takes a letter's first input": the one of the group that answers for g, and what it has
+-- "The look-up takes a letter's first input": the one of the group that answers for g, and what it has
 module _ {G I A : Type 0} (name : G → List ℕ) (links : G → List I) (letter_of : I → ℕ) (what : I → A) where
   pub record FirstInput (gs : List G) (g : List ℕ) (letter : ℕ) (a : A) : Type 0 where
     pub group : G
@@ -57,7 +57,7 @@ links_in c row = part (inputs_run row) (c.records inputs)
 abbrev pub FindsInput : List ℕ → List ℕ → ℕ → Found → Type 0
 FindsInput b = FirstInput (name (view b) access_groups) (links_in (view b)) letter_field (name_part inputs b) ((view b).records access_groups)
 
--- ---- A machine that looks up. That it agrees with FindsInput is proved (laws/LookUp.antt), so nobody has to believe it.
+-- ---- A machine that looks up. That it agrees with FindsInput is proved (proofs/laws/LookUp.antt), so nobody has to believe it.
 
 abbrev pub input_of : Content → ℕ → Option (List ℕ) → Option (List ℕ)
 input_of c letter none = none

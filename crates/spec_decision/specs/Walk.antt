@@ -18,7 +18,7 @@ pub record NamesGroup (b : List ℕ) (n : ℕ) (p : Found) : Type 0 where
   pub number : group.number ≡ n
   pub has : name_part access_groups b group.row ≡ p
 
--- ---- A machine that finds it. That it agrees with NamesGroup is proved (laws/Walk.antt), so nobody has to believe it.
+-- ---- A machine that finds it. That it agrees with NamesGroup is proved (proofs/laws/Walk.antt), so nobody has to believe it.
 
 abbrev pub row_at : List (List ℕ) → ℕ → Option (List ℕ)
 row_at rows n = cond (leb (suc n) (length rows)) (some (get_or rows n [])) none

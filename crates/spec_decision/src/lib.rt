@@ -1,5 +1,7 @@
+#![tactic(auto)]
+
 // What a question is answered: the decision of the rules, or a refusal.
-#[derive(Drop)]
+#[derive(Clone, Copy)]
 pub enum Answer {
     Answered(spec_rule::Decision),
     NotTable,
@@ -8,7 +10,7 @@ pub enum Answer {
 }
 
 // What the look-up finds: the part of the table that holds the name, or a refusal.
-#[derive(Drop)]
+#[derive(Clone, Copy)]
 pub enum Found {
     Part { at: usize, length: usize },
     NotTable,

@@ -110,7 +110,7 @@ exported_told exports.NotTable = some (no_place not_table_number)
 exported_told exports.Unwritable = some (no_place unwritable_number)
 exported_told (exports.NoRoom n) = some (record { number = no_room_number; place = some n })
 
--- What a call on a table's bytes is refused with. A check and the calculation's calls never are; of a look_up, find_input tells the number.
+-- What a call on a table's bytes is refused with. A check and the calculation's calls never are; of a look-up, find_input tells the number.
 abbrev pub refusal_of : List ℕ → Call → Option Told
 refusal_of b (load_text s) = load_told (load b s).answer
 refusal_of b (list_warnings s skip) = listing_told (listing skip [] [] s).answer

@@ -114,7 +114,7 @@ pub record ArithmeticCases : Type 0 where
   pub guarded_ratio : true_with one_value one_value "B=0?0:A/B" ≡ true
   pub chosen : true_of "(1?1/0:0)>1" ≡ false
   pub condition : true_of "0/0?1:1" ≡ false
-  -- "An infinite or not_a_number value": no comparison, division or prefix makes it good again; an overflow is one too
+  -- "An infinite or not-a-number value": no comparison, division or prefix makes it good again; an overflow is one too
   pub compared : true_of "1/0>1" ≡ false
   pub divided_by : true_of "1/(1/0)=0" ≡ false
   pub negated : true_of "-(1/0)<0" ≡ false

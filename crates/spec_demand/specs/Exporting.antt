@@ -13,7 +13,7 @@ pub record DefinesNothing (f : File) : Type 0 where
   pub hags : f.hags ≡ []
   pub asgs : f.asgs ≡ []
 
--- the look_up of a group's letter finds the name n
+-- the look-up of a group's letter finds the name n
 pub record LooksUp (b g : List ℕ) (letter : ℕ) (n : List ℕ) : Type 0 where
   pub found : number (look_up b g letter) ≡ none
   pub named : part_in (look_up b g letter) b ≡ n

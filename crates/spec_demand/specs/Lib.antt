@@ -7,4 +7,3 @@ pub mod Exporting
 pub mod ByFile
 pub mod Cases
 pub mod Front
-pub mod laws

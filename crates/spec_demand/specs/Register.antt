@@ -15,11 +15,11 @@ use Rattle.spec_register.specs.Calls.{Call, add, change, remove, set_reading, lo
 use Rattle.spec_register.specs.Sentences.{begun, NotRefused, EachDone, NoLoad}
 use Rattle.spec_places.specs.Storage.{Lent, places_bytes, all_readings, zeroed, register_in, right_in}
 use Rattle.spec_places.specs.Calls.{has_room, left_by_calls}
-use Rattle.spec_demand.specs.Calls.{load_text, check_table, Call as Table-call}
+use Rattle.spec_demand.specs.Calls.{load_text, check_table, Call as TableCall}
 
 -- A register's call as one of the calls on the table: its load is a load, unless the storage lent for the register is too short; any other reads the table, as
 -- a check does. So demand 3 holds with a register's calls between, on this table or on others.
-abbrev pub on_table : Lent → Call → Table-call
+abbrev pub on_table : Lent → Call → TableCall
 on_table s (add c) = check_table
 on_table s (change p c) = check_table
 on_table s (remove p) = check_table

@@ -1,3 +1,2 @@
 pub mod Edition
 pub mod Machine
-pub mod laws

@@ -1,4 +1,4 @@
--- The later edition as functions. Nobody has to believe them: laws/Agreement.antt proves that they give what Edition.antt says.
+-- The later edition as functions. Nobody has to believe them: proofs/laws/Agreement.antt proves that they give what Edition.antt says.
 use Rattle.std.specs.Prelude.{Bool, cond, ◌&&◌, List, [], map}
 use Rattle.std.proofs.Math.Option.{Option, none, some}
 use Rattle.spec_lists.specs.Select.{all, select}

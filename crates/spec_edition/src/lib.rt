@@ -1,1 +1,3 @@
+#![tactic(auto)]
+
 // Definitions of the later edition only: see specs/.

@@ -1,4 +1,3 @@
 pub mod Says
 pub mod Unwritable
 pub mod Export
-pub mod laws

@@ -24,7 +24,7 @@ pub data Unwritable (c : Content) : Type 0 where
   unquotable : Some (λ s. BetweenQuotes s → ⊥) (strings_in c) → Unwritable c
   caused : {r : Refusal} {p : ℕ} → HasCause (text_in c) r p → Unwritable c
 
--- ---- A machine that decides it of every table. That it agrees is proved (laws/Unwritable.antt), so nobody has to believe it.
+-- ---- A machine that decides it of every table. That it agrees is proved (proofs/laws/Unwritable.antt), so nobody has to believe it.
 
 abbrev pub unwritable : Content → Bool
 unwritable c = not (all quotable (strings_in c)) || faulty (file_in c)

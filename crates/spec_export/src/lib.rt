@@ -1,5 +1,7 @@
+#![tactic(auto)]
+
 // What an export answers: the text's length, or a refusal.
-#[derive(Drop)]
+#[derive(Clone, Copy)]
 pub enum Exported {
     Written(usize),
     NotTable,

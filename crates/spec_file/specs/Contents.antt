@@ -35,7 +35,7 @@ pub record Clause : Type 0 where
   pub body : List Tagged
 
 -- Each token of the role r, with what follows it up to the next one of that role. A body runs past its closing brace; that nothing is taken from
--- there is a law: laws/Items.antt, file_by_items.
+-- there is a law: proofs/laws/Items.antt, file_by_items.
 abbrev pub clauses : Role → List Tagged → List Clause
 clauses r [] = []
 clauses r (x ∷ xs) = cond (has_role r x) (record { head = x; body = until r xs } ∷ clauses r xs) (clauses r xs)

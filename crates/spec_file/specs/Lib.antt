@@ -7,4 +7,3 @@ pub mod Warning
 pub mod Load
 pub mod Acceptance
 pub mod Defined
-pub mod laws

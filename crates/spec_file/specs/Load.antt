@@ -1,4 +1,4 @@
--- A machine that decides what Acceptance.antt says of a text. That it agrees is proved in laws/Theorem.antt, so nobody has to believe it.
+-- A machine that decides what Acceptance.antt says of a text. That it agrees is proved in proofs/laws/Theorem.antt, so nobody has to believe it.
 use Rattle.std.specs.Prelude.{Bool, cond, not, ◌&&◌, List, [], ◌∷◌, ℕ, leb, length}
 use Rattle.std.proofs.Math.Option.{Option, none, some}
 use Rattle.spec_lists.specs.Select.{holds_of, first}

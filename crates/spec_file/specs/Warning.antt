@@ -29,7 +29,7 @@ pub record Given (xs : List Tagged) (w : Warned) : Type 0 where
   pub warns : Warns token w.warning
   pub at : w.place ≡ place token
 
--- ---- A machine that lists them. laws/Warnings.antt proves that it lists exactly these, by place; nobody has to believe it.
+-- ---- A machine that lists them. proofs/laws/Warnings.antt proves that it lists exactly these, by place; nobody has to believe it.
 
 abbrev pub warning_of : Tagged → Option Warning
 warning_of x = cond (has_role role.UnknownItem x) (some UnknownItem) (cond (has_role role.UnknownPredicate x) (some UnknownPredicate) none)

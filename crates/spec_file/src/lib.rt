@@ -1,5 +1,8 @@
+#![tactic(auto)]
+
 // The load's refusals: 01, "Load refusals, in their order", and 02. specs/Refusal.antt gives each its number.
-#[derive(Drop)]
+
+#[derive(Clone, Copy)]
 pub enum Refusal {
     FileTooLong,
     BadByte,
@@ -16,7 +19,7 @@ pub enum Refusal {
 }
 
 // The warnings of an accepted load. specs/Warning.antt gives each its number.
-#[derive(Drop)]
+#[derive(Clone, Copy)]
 pub enum Warning {
     UnknownItem,
     UnknownPredicate,

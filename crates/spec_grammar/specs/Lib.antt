@@ -2,4 +2,3 @@ pub mod Production
 pub mod Reader
 pub mod Codes
 pub mod Sentence
-pub mod laws

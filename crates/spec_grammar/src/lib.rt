@@ -1,5 +1,8 @@
+#![tactic(auto)]
+
 // What a token says in its place in the grammar.
-#[derive(Drop)]
+
+#[derive(Clone, Copy)]
 pub enum Role {
     // nothing: punctuation, the words UAG, HAG and ASG, all inside an unknown element
     NoRole,

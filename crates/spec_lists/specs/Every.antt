@@ -1,6 +1,5 @@
 -- A property of every element of a list.
 use Rattle.std.specs.Prelude.{◌≡◌, Bool, true, false, List, [], ◌∷◌, ◌++◌}
-use Rattle.spec_lists.specs.Select.{first}
 
 module _ {A : Type 0} where
   pub data Every (P : A → Type 0) : List A → Type 0 where

@@ -3,4 +3,3 @@ pub mod Select
 pub mod Runs
 pub mod Words
 pub mod Every
-pub mod laws

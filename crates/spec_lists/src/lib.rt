@@ -1,1 +1,3 @@
+#![tactic(auto)]
+
 // Definitions and laws over lists only: see specs/.

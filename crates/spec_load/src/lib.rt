@@ -1,5 +1,7 @@
+#![tactic(auto)]
+
 // What a load answers: the table's length and the number of warnings, or a refusal with its place.
-#[derive(Drop)]
+#[derive(Clone, Copy)]
 pub enum Loaded {
     Accepted {
         length: usize,
@@ -12,7 +14,7 @@ pub enum Loaded {
 }
 
 // What listing the warnings of a text answers: how many there are, or why the text is refused.
-#[derive(Drop)]
+#[derive(Clone, Copy)]
 pub enum Listed {
     Warnings(usize),
     Refused {

@@ -9,7 +9,6 @@ use Rattle.spec_decision.specs.Groups.{Numbered, group_named}
 use Rattle.spec_load.specs.declared.Loaded.{Loaded}
 use Rattle.spec_load.specs.declared.Loaded.TheVariants as loaded
 use Rattle.spec_load.specs.Load.{load}
-use Rattle.spec_register.specs.declared.Refused.{Refused}
 use Rattle.spec_register.specs.declared.Refused.TheVariants.{NotRegister}
 use Rattle.spec_register.specs.declared.Added.{Added}
 use Rattle.spec_register.specs.declared.Added.TheVariants as added

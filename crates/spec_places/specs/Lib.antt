@@ -1,4 +1,3 @@
 pub mod Storage
 pub mod Writing
 pub mod Calls
-pub mod laws

@@ -1,1 +1,3 @@
+#![tactic(auto)]
+
 // How a register stands in lent storage.

@@ -3,4 +3,3 @@ pub mod Right
 pub mod Refusal
 pub mod Calls
 pub mod Sentences
-pub mod laws

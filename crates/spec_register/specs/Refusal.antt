@@ -1,5 +1,5 @@
 -- When a call of the register is refused. 02, ticket 1: "Refusals".
--- Functions that decide what Sentences.antt states (laws/Refused.antt); only `number` has to be read.
+-- Functions that decide what Sentences.antt states (proofs/laws/Refused.antt); only `number` has to be read.
 use Rattle.std.specs.Prelude.{Bool, true, not, List, [], ◌∷◌, ℕ, suc, leb, eqb, length}
 use Rattle.std.proofs.Math.Option.{Option, none, some}
 use Rattle.spec_lists.specs.Select.{any, first_if, missing}

@@ -1,5 +1,7 @@
+#![tactic(auto)]
+
 // Why a call of the register is refused.
-#[derive(Drop)]
+#[derive(Clone, Copy)]
 pub enum Refused {
     NotRegister,
     NotTable,
@@ -11,21 +13,21 @@ pub enum Refused {
 }
 
 // What adding a client answers: its place, and which places' rights have changed, a bit for each.
-#[derive(Drop)]
+#[derive(Clone, Copy)]
 pub enum Added {
     At { place: usize, changed: u64 },
     Refused(Refused),
 }
 
 // What changing or removing a client and setting a reading answer: which places' rights have changed.
-#[derive(Drop)]
+#[derive(Clone, Copy)]
 pub enum Changed {
     Places(u64),
     Refused(Refused),
 }
 
 // What a load under a register answers.
-#[derive(Drop)]
+#[derive(Clone, Copy)]
 pub enum Reloaded {
     Accepted {
         length: usize,

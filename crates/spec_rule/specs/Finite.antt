@@ -1,4 +1,4 @@
--- What a grant rests on. 02, ticket 3: "An infinite or not_a_number value of any evaluated part makes the whole calculation false".
+-- What a grant rests on. 02, ticket 3: "An infinite or not-a-number value of any evaluated part makes the whole calculation false".
 use Rattle.std.specs.Prelude.{◌≡◌, List, ℕ}
 use Rattle.std.proofs.Math.Option.{some}
 use Rattle.spec_calc.specs.declared.Reading.{Reading}

@@ -9,4 +9,3 @@ pub mod Privilege
 pub mod Finite
 pub mod Letter
 pub mod Number
-pub mod laws

@@ -58,7 +58,7 @@ pub data MatchesClient (user : List ℕ) (roles : List (List ℕ)) (member : Lis
   by_role : Some (λ role. member ≡ role_prefix ++ role) roles → MatchesClient user roles member
 
 -- "If any of the INP fields associated with this calculation are in INVALID alarm severity the calculation is considered false. The actual test for
--- TRUE is .99 <result <1.01." 02: "An infinite or not_a_number value of any evaluated part makes the whole calculation false"
+-- TRUE is .99 <result <1.01." 02: "An infinite or not-a-number value of any evaluated part makes the whole calculation false"
 pub record YieldsTrue (rs : List Reading) (s : List ℕ) : Type 0 where
   pub tree : Tree
   pub says : Parses s tree

@@ -38,6 +38,6 @@ pub record Valid (q : Question) : Type 0 where
   pub level : q.level ≤ greatest_level
   pub roles : RolesFit q.roles
 
--- the same as a test (laws/Roles.antt: valid_is)
+-- the same as a test (proofs/laws/Roles.antt: valid_is)
 abbrev pub valid : Question → Bool
 valid q = a_level q.level && roles_fit q.roles

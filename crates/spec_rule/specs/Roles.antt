@@ -19,7 +19,7 @@ pub record RolesFit (roles : List (List ℕ)) : Type 0 where
   pub count : length roles ≤ most_roles
   pub each : Every (λ r. length r ≤ longest_role) roles
 
--- the same as a test (laws/Roles.antt: roles_fit_is)
+-- the same as a test (proofs/laws/Roles.antt: roles_fit_is)
 abbrev pub roles_fit : List (List ℕ) → Bool
 roles_fit roles = leb (length roles) most_roles && all (λ r. leb (length r) longest_role) roles
 

@@ -48,7 +48,7 @@ rank access.None = 0
 rank access.Read = 1
 rank access.Write = 2
 
--- ---- Functions that decide what Privilege.antt states. Nobody has to believe them: laws/Asked.antt, Stopped.antt and Privilege.antt
+-- ---- Functions that decide what Privilege.antt states. Nobody has to believe them: proofs/laws/Asked.antt, Stopped.antt and Privilege.antt
 -- prove that they agree with it.
 
 -- 01: "the user is a member of one of its UAGs (or it names none)"; "Several UAG lists in one rule count as one."
@@ -90,7 +90,7 @@ abbrev pub passes : Question → Rule → Bool
 passes q r = not r.switched_off && asks r q
 
 -- what a rule asks that does not depend on readings: "it isn't switched off, the field's level is at most the rule's, the user is a member of one of its
--- UAGs (or it names none), the host likewise". It passes exactly if it stands and its calculation is true (laws/Passing.antt: passes_stands).
+-- UAGs (or it names none), the host likewise". It passes exactly if it stands and its calculation is true (proofs/laws/Passing.antt: passes_stands).
 abbrev pub stands : Question → Rule → Bool
 stands q r =
     not r.switched_off

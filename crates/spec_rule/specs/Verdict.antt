@@ -1,5 +1,5 @@
 -- What rules give one by one, before it is known what they give together: the first stops are kept until then. A machine; that it finds the decision is proved
--- (laws/Decision.antt: decision_settled), so nobody has to believe it.
+-- (proofs/laws/Decision.antt: decision_settled), so nobody has to believe it.
 use Rattle.std.specs.Prelude.{Bool, false, cond, List, eqb}
 use Rattle.spec_rule.specs.declared.Access.{Access}
 use Rattle.spec_rule.specs.declared.Access.TheVariants as access

@@ -1,5 +1,8 @@
+#![tactic(auto)]
+
 // The permissions of a rule and the access that a question gets: NONE, READ, WRITE.
-#[derive(Drop)]
+
+#[derive(Clone, Copy)]
 pub enum Access {
     None,
     Read,
@@ -7,14 +10,14 @@ pub enum Access {
 }
 
 // Which reading stopped a question: that of a letter, A being 0, or of none.
-#[derive(Drop)]
+#[derive(Clone, Copy)]
 pub enum Stop {
     Nothing,
     Letter(u8),
 }
 
 // What the rules of a group give a question: an access, whether writes are trapped, and the letter whose reading stopped more.
-#[derive(Drop)]
+#[derive(Clone, Copy)]
 pub struct Decision {
     pub access: Access,
     pub trap: bool,
@@ -22,7 +25,7 @@ pub struct Decision {
 }
 
 // What a rule's calculation comes to: true, as where it has none; false; or bad by a letter.
-#[derive(Drop)]
+#[derive(Clone, Copy)]
 pub enum Outcome {
     True,
     False,
@@ -30,7 +33,7 @@ pub enum Outcome {
 }
 
 // What rules give before it is known which access they give together with others: low is the first stop of a rule above NONE, high of one above READ.
-#[derive(Drop)]
+#[derive(Clone, Copy)]
 pub struct Verdict {
     pub access: Access,
     pub trap: bool,

@@ -1,4 +1,4 @@
--- A machine that decides whether a slice is a table. That it agrees with Table is proved (laws/Table.antt: table-is), so nobody has to believe it.
+-- A machine that decides whether a slice is a table. That it agrees with Table is proved (proofs/laws/Table.antt: table_is), so nobody has to believe it.
 use Rattle.std.specs.Prelude.{Bool, not, ◌&&◌, ◌||◌, List, ℕ}
 use Rattle.spec_lists.specs.Select.{all, missing}
 use Rattle.spec_lists.specs.Runs.{Run, part}

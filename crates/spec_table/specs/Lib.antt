@@ -5,4 +5,3 @@ pub mod Check
 pub mod Policy
 pub mod Written
 pub mod Fields
-pub mod laws

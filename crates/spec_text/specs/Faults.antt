@@ -1,5 +1,5 @@
 -- A machine that finds on what a file says whether its text has a cause for a refusal 2 to 10 or 12, where the file keeps the limits that every table
--- keeps and its strings can be quoted. That it agrees is proved (laws/Clear.antt, laws/Accepted.antt), so nobody has to believe it.
+-- keeps and its strings can be quoted. That it agrees is proved (proofs/laws/Clear.antt, proofs/laws/Accepted.antt), so nobody has to believe it.
 use Rattle.std.specs.Prelude.{Bool, true, false, not, ◌&&◌, ◌||◌, List, [], ◌∷◌, map, ℕ, eqb}
 use Rattle.std.proofs.Math.Option.{Option, none, some}
 use Rattle.spec_lists.specs.Text.{same, among}

@@ -1,1 +1,3 @@
+#![tactic(auto)]
+
 // Definitions of the text of a file only: see specs/.

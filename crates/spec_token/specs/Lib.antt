@@ -3,4 +3,3 @@ pub mod Token
 pub mod Place
 pub mod Scanner
 pub mod Spans
-pub mod laws

@@ -1,4 +1,4 @@
--- A machine that decides what Word.antt and Token.antt say. That it agrees with them is proved in laws/Agreement.antt, so nobody has to believe it.
+-- A machine that decides what Word.antt and Token.antt say. That it agrees with them is proved in proofs/laws/Agreement.antt, so nobody has to believe it.
 use Rattle.std.specs.Prelude.{Bool, true, false, not, ◌&&◌, cond, List, [], ◌∷◌, ℕ, zero, suc, ◌+◌, eqb, length, drop, get_or, take}
 use Prim.Native.Char.{code}
 use Rattle.spec_lists.specs.Text.{bytes, same, among, within, digit}
@@ -7,7 +7,7 @@ use Rattle.spec_token.specs.declared.Kind.{Kind}
 use Rattle.spec_token.specs.declared.Kind.TheVariants.{Uag, Hag, Asg, Rule, Calc, Inp, Int, Float, String, OpenParen, CloseParen, OpenBrace}
 use Rattle.spec_token.specs.declared.Kind.TheVariants.{CloseBrace, Comma}
 use Rattle.spec_token.specs.Word.{blank, newline, name_byte, unsigned}
-use Rattle.spec_token.specs.Token.{Token, Tokens, tokens, bad, then}
+use Rattle.spec_token.specs.Token.{Tokens, tokens, bad, then}
 
 -- ---- words
 

@@ -1,5 +1,5 @@
 -- A run of bytes of a class, from a place to a place.
-use Rattle.std.specs.Prelude.{◌≡◌, Bool, List, ℕ, ◌+◌, ◌-◌, ◌≤◌, length, drop}
+use Rattle.std.specs.Prelude.{◌≡◌, Bool, List, ℕ, ◌+◌, ◌≤◌, length, drop}
 use Rattle.spec_lists.specs.Select.{run}
 
 -- the run of bytes that pass p, from a place to a place

@@ -1,5 +1,8 @@
+#![tactic(auto)]
+
 // The terminals of the grammar: 001, "Lexical tokens".
-#[derive(Drop)]
+
+#[derive(Clone, Copy)]
 pub enum Kind {
     Uag,
     Hag,
