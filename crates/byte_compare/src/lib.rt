@@ -1,4 +1,6 @@
 // Comparing bytes, as they are or with ASCII letters in lower case.
+#![tactic(auto)]
+
 ghost use Rattle.std.specs.Prelude.{◌≡◌};
 ghost use Rattle.spec_lists.specs.Text.{same, lower_byte, lowered};
 

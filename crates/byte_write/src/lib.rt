@@ -1,4 +1,6 @@
 // Writing bytes, words and texts into lent bytes. What stands past the end is skipped, so that one code measures and writes.
+#![tactic(auto)]
+
 ghost use Rattle.std.specs.Prelude.{◌≡◌, [], ◌∷◌, map, ◌+◌, ◌*◌, ◌<◌, length};
 ghost use Rattle.spec_lists.specs.Words.{word_bytes, spelled_out};
 ghost use Rattle.byte_write.specs.Put.{Put, cased, usize_limit};
@@ -6,6 +8,7 @@ ghost use Rattle.byte_write.specs.Put.{Put, cased, usize_limit};
 // Each function writes at a place and returns the place behind what it wrote. A byte past the end is not written, so that the same
 // code measures and writes. Callers keep their places far below the greatest usize.
 
+#[tactic(auto, using(crate::specs::laws::Puts::put_one, crate::specs::laws::Puts::put_past))]
 fn put_byte(lent: &mut [u8], at: usize, b: u8) -> usize
     requires { at + 1 < usize_limit }
     ensures { Put lent.old lent.new at (b ∷ []) result }

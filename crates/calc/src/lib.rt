@@ -1,4 +1,6 @@
 // Whether a calculation is allowed, its value, and whether it is true.
+#![tactic(auto)]
+
 ghost use Rattle.std.specs.Prelude.{◌≡◌, not, cond};
 ghost use Rattle.spec_lists.specs.Select.{missing};
 ghost use Rattle.spec_calc.specs.Value.{finite, worth, true_worth};

@@ -1,5 +1,5 @@
--- Operations that let no value slip through that is infinite or not_a_number: where a side or a condition is one, the result is not_a_number.
--- 02: "An infinite or not_a_number value of any evaluated part makes the whole calculation false".
+-- Operations that let no value slip through that is infinite or not-a-number: where a side or a condition is one, the result is not-a-number.
+-- 02: "An infinite or not-a-number value of any evaluated part makes the whole calculation false".
 use Rattle.std.specs.Prelude.{not, cond, ◌&&◌, Float}
 use Rattle.std.specs.Float.{nan}
 use Rattle.spec_calc.specs.declared.Operator.{Operator}

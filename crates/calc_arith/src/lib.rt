@@ -1,4 +1,6 @@
-// Operations on the values of a calculation, and the test for true. Of a side or a condition that is not finite comes not_a_number.
+// Operations on the values of a calculation, and the test for true. Of a side or a condition that is not finite comes not-a-number.
+#![tactic(auto)]
+
 ghost use Rattle.std.specs.Prelude.{◌≡◌, ◌&&◌};
 ghost use Rattle.std.specs.Float.{nan};
 ghost use Rattle.spec_calc.specs.Value.{finite, near_one};
@@ -7,7 +9,7 @@ ghost use Rattle.calc_arith.specs.Strict.{strict_not, strict_apply, strict_choic
 use calc_operator::{is_true_value, operation, truth_of};
 use spec_calc::Operator;
 
-// Whether a value lies between the infinities: not_a_number is in no order.
+// Whether a value lies between the infinities: not-a-number is in no order.
 pub fn is_finite(x: f64) -> bool
     ensures { result ≡ finite x }
 {
@@ -27,7 +29,7 @@ fn not_a_number() -> f64
     0.0 / 0.0
 }
 
-// Not v; not_a_number where v is not finite.
+// Not v; not-a-number where v is not finite.
 pub fn denied(v: f64) -> f64
     ensures { result ≡ strict_not v }
 {
@@ -38,7 +40,7 @@ pub fn denied(v: f64) -> f64
     }
 }
 
-// The value of `c ? x : y`; not_a_number where c is not finite. The branch that is not chosen may be anything.
+// The value of `c ? x : y`; not-a-number where c is not finite. The branch that is not chosen may be anything.
 pub fn chosen(c: f64, x: f64, y: f64) -> f64
     ensures { result ≡ strict_choice c x y }
 {
@@ -49,7 +51,7 @@ pub fn chosen(c: f64, x: f64, y: f64) -> f64
     }
 }
 
-// The operator o between x and y; not_a_number where a side is not finite.
+// The operator o between x and y; not-a-number where a side is not finite.
 pub fn applied(o: Operator, x: f64, y: f64) -> f64
     ensures { result ≡ strict_apply o x y }
 {

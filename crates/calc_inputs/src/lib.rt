@@ -1,11 +1,13 @@
 // The inputs of a question: its readings as values, and which of them are good.
+#![tactic(auto)]
+
 ghost use Rattle.std.specs.Prelude.{◌≡◌, map};
 ghost use Rattle.spec_calc.specs.Value.{heard, good};
 
 use spec_calc::Reading;
 
 // The inputs of a question: the value of each letter, and whether it is good.
-#[derive(Drop)]
+#[derive(Clone, Copy)]
 pub struct Inputs {
     pub values: [f64; 21],
     pub good: [bool; 21],

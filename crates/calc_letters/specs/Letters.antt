@@ -1,7 +1,7 @@
 -- Letters by their bytes.
 use Rattle.std.specs.Prelude.{Bool, false, cond, List, [], ◌∷◌, ◌++◌, ℕ, min, get_or}
 use Rattle.spec_calc.specs.Scanner.{Start, blank, figure, wrong, sign, start}
-use Rattle.spec_calc.specs.laws.Letters.{letter_of}
+use Rattle.spec_calc.proofs.laws.Letters.{letter_of}
 
 -- a letter is among those given
 abbrev pub given_letter : List Bool → ℕ → Bool

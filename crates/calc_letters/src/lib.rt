@@ -1,4 +1,6 @@
 // The letters of a calculation by its bytes: whether all are among those given, and the lowest whose reading is bad.
+#![tactic(auto)]
+
 ghost use Rattle.std.specs.Prelude.{◌≡◌, []};
 ghost use Rattle.spec_lists.specs.Select.{all};
 ghost use Rattle.spec_calc.specs.Scanner.{start};

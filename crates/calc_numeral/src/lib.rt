@@ -1,18 +1,20 @@
 // A number in a calculation's text.
+#![tactic(auto)]
+
 ghost use Rattle.std.specs.Prelude.{◌≡◌, ℕ, ◌+◌, ◌-◌, ◌^◌, ◌<◌, ◌≤◌, true, List, [], ◌∷◌, length, slice_index};
 ghost use Rattle.spec_lists.specs.Text.{digit, whole};
 ghost use Rattle.spec_calc.specs.Symbol.{decimal, numeral_byte};
 ghost use Rattle.calc_numeral.specs.Numeral.{Counts, Fraction, Numbered};
 
 // Digits: the number they make, the offset behind them, and how many more were allowed.
-#[derive(Drop)]
+#[derive(Clone, Copy)]
 pub enum Digits {
     Are(u64, usize, usize),
     TooMany,
 }
 
 // A number, and the offset behind it.
-#[derive(Drop)]
+#[derive(Clone, Copy)]
 pub enum Figure {
     Is(f64, usize),
     Wrong,

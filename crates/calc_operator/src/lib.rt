@@ -1,4 +1,6 @@
 // The operators of a calculation on any values, by IEEE 754.
+#![tactic(auto)]
+
 ghost use Rattle.std.specs.Prelude.{◌≡◌};
 ghost use Rattle.spec_calc.specs.Value.{truth, is_true, apply};
 

@@ -1,4 +1,6 @@
 // Readings from the states and values that a caller in C lends.
+#![tactic(auto)]
+
 ghost use Rattle.std.specs.Prelude.{◌≡◌, ◌+◌, get_or};
 ghost use Rattle.std.specs.Float.{nan};
 ghost use Rattle.spec_calc.specs.States.{reading, readings};

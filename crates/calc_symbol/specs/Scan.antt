@@ -12,7 +12,6 @@ use Rattle.calc_symbol.specs.declared.Sign.{Sign}
 use Rattle.calc_symbol.specs.declared.Sign.TheVariants as code
 use Rattle.calc_symbol.specs.declared.Spelled.{Spelled}
 use Rattle.calc_symbol.specs.declared.Spelled.TheVariants.{As, Nothing}
-use Rattle.calc_numeral.specs.declared.Figure.{Figure}
 use Rattle.calc_symbol.specs.declared.Next.{Next}
 use Rattle.calc_symbol.specs.declared.Next.TheVariants.{Is, Wrong}
 

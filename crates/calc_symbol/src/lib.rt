@@ -1,4 +1,6 @@
 // Which symbol of a calculation comes next.
+#![tactic(auto)]
+
 ghost use Rattle.std.specs.Prelude.{◌≡◌, List, [], ◌∷◌, ℕ, ◌+◌, ◌≤◌, ◌<◌, length};
 ghost use Rattle.spec_lists.specs.Text.{bytes, among};
 ghost use Rattle.spec_calc.specs.Scanner.{wrong, start, spelling};
@@ -10,7 +12,7 @@ use calc_numeral::Figure;
 use spec_calc::Operator;
 
 // What a byte of a calculation is, by itself.
-#[derive(Drop)]
+#[derive(Clone, Copy)]
 pub enum Class {
     Blank,
     Figure,
@@ -19,7 +21,7 @@ pub enum Class {
 }
 
 // A symbol of a calculation that is neither a number nor a letter.
-#[derive(Drop)]
+#[derive(Clone, Copy)]
 pub enum Sign {
     Operator(Operator),
     Not,
@@ -30,21 +32,21 @@ pub enum Sign {
 }
 
 // What some bytes spell.
-#[derive(Drop)]
+#[derive(Clone, Copy)]
 pub enum Spelled {
     As(Sign),
     Nothing,
 }
 
 // A sign, and the offset behind it.
-#[derive(Drop)]
+#[derive(Clone, Copy)]
 pub enum Next {
     Is(Sign, usize),
     Wrong,
 }
 
 // What an operand begins with, and the offset behind that.
-#[derive(Drop)]
+#[derive(Clone, Copy)]
 pub enum First {
     Number(f64, usize),
     Letter(usize, usize),
@@ -55,7 +57,7 @@ pub enum First {
 }
 
 // What continues behind an operand, and the offset behind that.
-#[derive(Drop)]
+#[derive(Clone, Copy)]
 pub enum Joint {
     By(Operator, usize),
     Choice(usize),
@@ -63,7 +65,7 @@ pub enum Joint {
 }
 
 // The offset behind a sign that is looked for.
-#[derive(Drop)]
+#[derive(Clone, Copy)]
 pub enum Place {
     At(usize),
     Missing,

@@ -1,4 +1,6 @@
 // What a calculation comes to, of the inputs of a question: true, false, or bad by a letter.
+#![tactic(auto)]
+
 ghost use Rattle.std.specs.Prelude.{◌≡◌, false, length};
 ghost use Rattle.spec_lists.specs.Select.{missing};
 ghost use Rattle.spec_calc.specs.Reader.{tree_of};

@@ -1,4 +1,6 @@
 // The value of a calculation's text: recursion over its expression.
+#![tactic(auto)]
+
 ghost use Rattle.std.specs.Prelude.{◌≡◌, map, ◌+◌, ◌≤◌, length};
 ghost use Rattle.spec_calc.specs.Expression.{Tree, longest_calculation};
 ghost use Rattle.spec_calc.specs.Reader.{wanted, have, tree_of};
@@ -12,14 +14,14 @@ use spec_calc::Reading;
 const LONGEST: usize = 79;
 
 // A value, and the offset behind its text.
-#[derive(Drop)]
+#[derive(Clone, Copy)]
 pub enum Parsed {
     Value(f64, usize),
     Bad,
 }
 
 // The value of a calculation, if a text is one, whatever its readings.
-#[derive(Drop)]
+#[derive(Clone, Copy)]
 pub enum Computed {
     NoCalculation,
     Is(f64),

@@ -2,7 +2,7 @@
 use Rattle.std.specs.Prelude.{◌≡◌, refl, Bool, true, false, List, map, ℕ, ◌+◌, ◌≤◌, ◌<◌, length, drop, get_or}
 use Rattle.std.proofs.Common.{sym, ap, ◌∙◌, arith}
 use Rattle.spec_lists.specs.Text.{same}
-use Rattle.spec_lists.specs.laws.Same.{same_length, same_on, same_off, same_end, unchanged}
+use Rattle.spec_lists.proofs.laws.Same.{same_length, same_on, same_off, same_end, unchanged}
 
 module _ (f : ℕ → ℕ) where
   -- the bytes before i are the same, so the rest decides

@@ -3,7 +3,7 @@ use Rattle.std.specs.Prelude.{List, [], ◌∷◌, ◌++◌, map, ◌≡◌, ref
 use Rattle.std.proofs.Common.{sym, ap, ◌∙◌, add-zero, add-suc, suc-add, add_assoc, add-one, arith, length-append, take-suc}
 use Rattle.std.proofs.lemmas.List.Edits.{sets}
 use Rattle.std.proofs.Math.Seq.{length-sets, set_out}
-use Rattle.spec_lists.specs.laws.Joined.{map_append}
+use Rattle.spec_lists.proofs.laws.Joined.{map_append}
 use Rattle.spec_lists.specs.Words.{word_bytes, spelled_out}
 use Rattle.byte_write.specs.Put.{Put}
 

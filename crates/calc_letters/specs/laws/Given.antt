@@ -6,7 +6,7 @@ use types.Run.{OneOf}
 use denote.Enum.Declared.{tag_of}
 use Rattle.std.proofs.Math.Seq.{drop-cons}
 use Rattle.spec_lists.specs.Select.{all, holds_of, missing}
-use Rattle.spec_lists.specs.laws.Every.{all_append}
+use Rattle.spec_lists.proofs.laws.Every.{all_append}
 use Rattle.spec_calc.specs.Scanner.{start}
 use Rattle.spec_calc.specs.Expression.{Tree}
 use Rattle.spec_calc.specs.Value.{letters}

@@ -7,18 +7,18 @@ use types.Run.{OneOf, miss}
 use denote.Enum.Declared.{tag_of}
 use Rattle.spec_lists.specs.Text.{same}
 use Rattle.spec_lists.specs.Select.{all, first, after, skip_if}
-use Rattle.spec_lists.specs.laws.Both.{both}
-use Rattle.spec_lists.specs.laws.Member.{all_member, first_member}
-use Rattle.spec_lists.specs.laws.Range.{bounded}
+use Rattle.spec_lists.proofs.laws.Both.{both}
+use Rattle.spec_lists.proofs.laws.Member.{all_member, first_member}
+use Rattle.spec_lists.proofs.laws.Range.{bounded}
 use Rattle.spec_calc.specs.Symbol.{Symbol, numeral_byte, Spelling, spellings, Spells, end, skipped, numbered, capital, small, signed}
 use Rattle.spec_calc.specs.Scanner.{sign_of, start, spelling}
 use Rattle.spec_calc.specs.Expression.{Tree}
 use Rattle.spec_calc.specs.Value.{letters}
 use Rattle.spec_calc.specs.Reader.{tree_of}
-use Rattle.spec_calc.specs.laws.Symbols.{blank_start, start_upper, start_lower}
-use Rattle.spec_calc.specs.laws.Spelling.{numeral_start}
-use Rattle.spec_calc.specs.laws.Theorem.{parses_sound}
-use Rattle.spec_calc.specs.laws.Letters.{letters_in, nothing, nothing_is, sign_letters, parsed_letters}
+use Rattle.spec_calc.proofs.laws.Symbols.{blank_start, start_upper, start_lower}
+use Rattle.spec_calc.proofs.laws.Spelling.{numeral_start}
+use Rattle.spec_calc.proofs.laws.Theorem.{parses_sound}
+use Rattle.spec_calc.proofs.laws.Letters.{letters_in, nothing, nothing_is, sign_letters, parsed_letters}
 use Rattle.calc_symbol.specs.declared.Class.{Class}
 use Rattle.calc_symbol.specs.declared.Class.TheVariants as class
 use Rattle.calc_symbol.specs.Scan.{started}

@@ -11,15 +11,15 @@ use types.Run.{OneOf}
 use denote.Enum.Declared.{tag_of}
 use Rattle.std.proofs.Math.Seq.{drop-cons}
 use Rattle.spec_lists.specs.Select.{all}
-use Rattle.spec_lists.specs.laws.Both.{both}
-use Rattle.spec_lists.specs.laws.Member.{every_member}
+use Rattle.spec_lists.proofs.laws.Both.{both}
+use Rattle.spec_lists.proofs.laws.Member.{every_member}
 use Rattle.spec_calc.specs.Scanner.{start}
 use Rattle.spec_calc.specs.Expression.{Tree}
 use Rattle.spec_calc.specs.Value.{letters, lower, lowest}
 use Rattle.spec_calc.specs.Reader.{tree_of}
-use Rattle.spec_calc.specs.laws.Theorem.{parses_sound}
-use Rattle.spec_calc.specs.laws.Letters.{letters_bounded}
-use Rattle.spec_calc.specs.laws.Lowest.{lowest_among}
+use Rattle.spec_calc.proofs.laws.Theorem.{parses_sound}
+use Rattle.spec_calc.proofs.laws.Letters.{letters_bounded}
+use Rattle.spec_calc.proofs.laws.Lowest.{lowest_among}
 use Rattle.calc_symbol.specs.declared.Class.{Class}
 use Rattle.calc_symbol.specs.declared.Class.TheVariants as class
 use Rattle.calc_symbol.specs.Scan.{started}

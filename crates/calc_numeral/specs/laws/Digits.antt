@@ -4,7 +4,7 @@ use Rattle.std.proofs.Common.{sym, ◌∙◌, ap, subst, arith, pow-suc, leb-tru
 use Rattle.std.proofs.Math.Nat.{pow-le-pow_right}
 use Rattle.spec_lists.specs.Text.{digit, whole}
 use Rattle.spec_lists.specs.Select.{run}
-use Rattle.spec_lists.specs.laws.Both.{both}
+use Rattle.spec_lists.proofs.laws.Both.{both}
 use Rattle.calc_numeral.specs.declared.Digits.{Digits}
 use Rattle.calc_numeral.specs.declared.Digits.TheVariants.{Are, TooMany}
 use Rattle.calc_numeral.specs.Numeral.{Counted, Counts}

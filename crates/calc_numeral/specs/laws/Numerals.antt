@@ -10,9 +10,9 @@ use Rattle.spec_calc.specs.Scanner.{pointed, within_digits, numeral}
 use Rattle.calc_numeral.specs.declared.Figure.{Figure}
 use Rattle.calc_numeral.specs.declared.Figure.TheVariants.{Is, Wrong}
 use Rattle.calc_numeral.specs.Numeral.{Counted, Fraction, Numbered}
-use Rattle.spec_lists.specs.laws.Both.{absurd_bool}
-use Rattle.spec_lists.specs.laws.Front.{all_run}
-use Rattle.spec_calc.specs.laws.Numeral.{within_some, digits_behind}
+use Rattle.spec_lists.proofs.laws.Both.{absurd_bool}
+use Rattle.spec_lists.proofs.laws.Front.{all_run}
+use Rattle.spec_calc.proofs.laws.Numeral.{within_some, digits_behind}
 use Rattle.calc_numeral.specs.laws.Runs.{after_head, head_at, passed_inside, run_more, after_more, stops}
 
 -- ---- figures are digits, and then points and digits

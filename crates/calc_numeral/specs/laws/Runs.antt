@@ -2,7 +2,7 @@
 use Rattle.std.specs.Prelude.{◌≡◌, ℕ, ◌+◌, ◌<◌, Bool, true, false, List, [], ◌∷◌, length, drop, nat_le, slice_index, slice_index_or, refl}
 use Rattle.std.proofs.Common.{sym, ◌∙◌, ap, arith, add-one, leb-true, leb-false, drop-cons, get_or-drop}
 use Rattle.std.proofs.Math.ListN.{get_or-eq_default}
-use Rattle.spec_lists.specs.laws.Both.{absurd_bool}
+use Rattle.spec_lists.proofs.laws.Both.{absurd_bool}
 use Rattle.spec_lists.specs.Select.{run, after, skip_if}
 
 -- ---- a run from an offset on, of a test that 0 does not pass

@@ -8,8 +8,8 @@ use Rattle.std.proofs.Math.Option.{Option, none, some}
 use borrow.Author.Tests.{ne_eqb, eqb-true, ltb-true}
 use Rattle.spec_lists.specs.Text.{same, within, among, digit}
 use Rattle.spec_lists.specs.Select.{all, first}
-use Rattle.spec_lists.specs.laws.Both.{both, absurd_bool}
-use Rattle.spec_lists.specs.laws.Member.{all_member, first_member}
+use Rattle.spec_lists.proofs.laws.Both.{both, absurd_bool}
+use Rattle.spec_lists.proofs.laws.Member.{all_member, first_member}
 use Rattle.spec_calc.specs.declared.Operator.{Operator}
 use Rattle.spec_calc.specs.declared.Operator.TheVariants as op
 use Rattle.spec_calc.specs.Symbol.{Symbol, number, letter, operator, not_sign, question, colon, open_paren, close_paren, Spelling, spellings}
@@ -18,7 +18,7 @@ use Rattle.spec_calc.specs.Scanner.{sign, sign_of, wrong, start, spelling}
 use Rattle.calc_symbol.specs.declared.Spelled.{Spelled}
 use Rattle.calc_symbol.specs.declared.Spelled.TheVariants.{As, Nothing}
 use Rattle.calc_symbol.specs.Scan.{single, PairOk}
-use Rattle.spec_calc.specs.laws.Symbols.{start_by}
+use Rattle.spec_calc.proofs.laws.Symbols.{start_by}
 
 -- what a byte begins that is neither blank nor part of a number nor a letter
 module _ (b : ℕ) (n9 : b ≡ 9 → ⊥) (n32 : b ≡ 32 → ⊥) (n46 : b ≡ 46 → ⊥) where

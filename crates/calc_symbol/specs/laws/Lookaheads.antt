@@ -1,6 +1,6 @@
 -- What the reader makes of the next symbol. Assumes nothing.
 use Rattle.std.proofs.Math.Path.{◌≡◌}
-use Rattle.std.specs.Prelude.{refl, true, false, ◌⊎◌, ℕ, ◌+◌, ◌≤◌, ◌<◌, length, get_or, drop, Float}
+use Rattle.std.specs.Prelude.{refl, true, false, ◌⊎◌, ℕ, ◌+◌, ◌≤◌, ◌<◌, length, get_or, drop}
 use Rattle.std.proofs.Common.{sym, ◌∙◌, subst, inl, inr, ⊎_elim, arith, eqb-true}
 use mathlib.Core.List.{List, [], ◌∷◌}
 use Rattle.std.proofs.Math.Option.{Option, none, some}
@@ -20,7 +20,7 @@ use Rattle.calc_symbol.specs.declared.Joint.{Joint}
 use Rattle.calc_symbol.specs.declared.Joint.TheVariants as joint
 use Rattle.calc_symbol.specs.declared.Place.TheVariants as place
 use Rattle.calc_symbol.specs.Lookahead.{from, ends_of, Begins, Joins, awaited, MarkAt, IsEnd}
-use Rattle.spec_lists.specs.laws.Both.{absurd_bool}
+use Rattle.spec_lists.proofs.laws.Both.{absurd_bool}
 use Rattle.calc_symbol.specs.laws.Bytes.{begins_with, sign_begins_with}
 use Rattle.calc_symbol.specs.laws.Scans.{Signed, no_symbol, spelled, Stands, finished, numbered, lettered, signed, at_end, is_byte, stands, past_blanks}
 

@@ -11,7 +11,7 @@ use Rattle.spec_calc.specs.Symbol.{Symbol, number, letter, operator, not_sign, S
 use Rattle.spec_calc.specs.Scanner.{blank, figure, wrong, sign, sign_of, start, spelling, then}
 use Rattle.spec_calc.specs.Symbol.{numeral_byte}
 use Rattle.spec_calc.specs.Scanner.{then_number, numeral, symbols}
-use Rattle.spec_calc.specs.laws.Symbols.{start_by, blank_start, blank_byte, figure_byte, scan_end, scan_blank, scan_figure, scan_wrong, scan_sign}
+use Rattle.spec_calc.proofs.laws.Symbols.{start_by, blank_start, blank_byte, figure_byte, scan_end, scan_blank, scan_figure, scan_wrong, scan_sign}
 use Rattle.spec_calc.specs.declared.Operator.TheVariants as op
 use Rattle.calc_symbol.specs.declared.Class.{Class}
 use Rattle.calc_symbol.specs.declared.Class.TheVariants as class
@@ -24,7 +24,7 @@ use Rattle.calc_symbol.specs.declared.Next.TheVariants.{Is, Wrong}
 use Rattle.calc_symbol.specs.Scan.{syms, start_at, spelling_at, SignOnly, symbol_of, single, started, ClassOk, spelled_as, PairOk}
 use Rattle.calc_symbol.specs.Scan.{SymbolAt, SignAt, BlanksTo}
 use Rattle.calc_numeral.specs.Numeral.{Numbered}
-use Rattle.spec_lists.specs.laws.Both.{absurd_bool}
+use Rattle.spec_lists.proofs.laws.Both.{absurd_bool}
 use Rattle.calc_numeral.specs.laws.Runs.{passed_inside, head_at}
 use Rattle.calc_symbol.specs.laws.Bytes.{two_bytes, sign_nonzero, sign_start, not_start, differs_start}
 

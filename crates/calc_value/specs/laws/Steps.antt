@@ -14,7 +14,7 @@ use Rattle.spec_calc.specs.Expression.{Tree, number_tree, letter_tree, binary, c
 use Rattle.spec_calc.specs.Value.{heard, reading}
 use Rattle.spec_calc.specs.Reader.{Begun, minus_of, not_of, left_of, else_of, ended, tightness, begun, paren, if_of, Stack, State, wanted, have, ends, reduce}
 use Rattle.spec_calc.specs.Reader.{first_of, run, top}
-use Rattle.spec_calc.specs.laws.Levels.{level_bound, ends_bound}
+use Rattle.spec_calc.proofs.laws.Levels.{level_bound, ends_bound}
 use Rattle.calc_value.specs.declared.Parsed.{Parsed}
 use Rattle.calc_value.specs.declared.Parsed.TheVariants as parsed
 use Rattle.calc_symbol.specs.Scan.{syms, SymbolAt}

@@ -9,7 +9,7 @@ use Rattle.spec_calc.specs.declared.Operator.{Operator}
 use Rattle.spec_calc.specs.declared.Reading.{Reading}
 use Rattle.spec_calc.specs.Expression.{Tree, number_tree, letter_tree, minus, negation, binary, choice}
 use Rattle.spec_calc.specs.Value.{truth, is_true, apply, heard, reading, value, finite, evaluated, finite_throughout, near_one}
-use Rattle.spec_calc.specs.laws.Evaluated.{minus_throughout, negation_throughout, binary_throughout, choice_throughout}
+use Rattle.spec_calc.proofs.laws.Evaluated.{minus_throughout, negation_throughout, binary_throughout, choice_throughout}
 use Rattle.calc_arith.specs.Strict.{strict_not, strict_apply, strict_choice}
 use Rattle.calc_value.specs.Strict.{strict_value}
 

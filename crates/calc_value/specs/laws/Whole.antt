@@ -8,7 +8,7 @@ use Rattle.spec_calc.specs.Symbol.{Symbol}
 use Rattle.spec_calc.specs.Scanner.{symbols}
 use Rattle.spec_calc.specs.Expression.{longest_calculation}
 use Rattle.spec_calc.specs.Reader.{wanted, reduce, run, read_spelled, tree_of}
-use Rattle.spec_calc.specs.laws.Theorem.{short_tree, long_tree}
+use Rattle.spec_calc.proofs.laws.Theorem.{short_tree, long_tree}
 use Rattle.calc_value.specs.declared.Parsed.{Parsed}
 use Rattle.calc_value.specs.declared.Parsed.TheVariants as parsed
 use Rattle.calc_value.specs.declared.Computed.TheVariants as outcome

@@ -1,0 +1,19 @@
+// Finding a byte in lent bytes.
+#![tactic(auto)]
+
+ghost use Rattle.std.specs.Prelude.{◌≡◌, ◌+◌, ◌≤◌, length};
+ghost use Rattle.byte_find.specs.Find.{index_of, slice};
+
+// The offset of the first b from an offset on and before another one, or that one, where there is none.
+pub fn find(s: &[u8], from: usize, to: usize, b: u8) -> usize
+    requires order { from ≤ to }
+    requires in_bounds { to ≤ length s.now }
+    ensures first { result ≡ from + index_of b (slice from to s.now) }
+    ensures within { result ≤ to }
+{
+    let mut at = from;
+    while at < to && s[at] != b {
+        at += 1;
+    }
+    at
+}
