@@ -1,4 +1,6 @@
 // Whether bytes are a table.
+#![tactic(auto)]
+
 ghost use Rattle.std.specs.Prelude.{◌≡◌, true, ◌<◌};
 ghost use Rattle.spec_lists.specs.Select.{all};
 ghost use Rattle.spec_table.specs.Layout.{sections};

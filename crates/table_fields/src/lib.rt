@@ -1,4 +1,6 @@
 // The words of a table's header and records, and the sections with their numbers and widths.
+#![tactic(auto)]
+
 ghost use Rattle.std.specs.Prelude.{◌≡◌, ◌+◌, ◌*◌, ◌<◌, ◌≤◌, length, get_or};
 ghost use Rattle.spec_table.specs.Layout.{header_bytes, width};
 ghost use Rattle.spec_table.specs.View.{header_word, count_of, offset_of};

@@ -1,4 +1,6 @@
 // Searches in a checked table: an access group by its name, the answering group, an input.
+#![tactic(auto)]
+
 ghost use Rattle.std.specs.Prelude.{◌≡◌, true};
 ghost use Rattle.spec_file.specs.Limit.{access_groups};
 ghost use Rattle.spec_table.specs.Check.{is_table};

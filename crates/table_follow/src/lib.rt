@@ -1,4 +1,6 @@
 // Whether runs are those of a table: those of a kind follow each other and use up their section.
+#![tactic(auto)]
+
 ghost use Rattle.std.specs.Prelude.{◌≡◌, true, [], ◌∷◌, ◌+◌, ◌<◌, length};
 ghost use Rattle.spec_table.specs.View.{view};
 ghost use Rattle.spec_table.specs.Check.{run_at, in_turn, sections_stand, runs_stand};

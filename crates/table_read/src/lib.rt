@@ -1,4 +1,6 @@
 // The records of a checked table: counts, fields, names.
+#![tactic(auto)]
+
 ghost use Rattle.std.specs.Prelude.{◌≡◌, true, ◌<◌, length};
 ghost use Rattle.spec_table.specs.Layout.{width};
 ghost use Rattle.spec_table.specs.View.{view};
@@ -17,7 +19,7 @@ use table_fields::{
 // asked is_table, or have the bytes of an accepted load; they know a record's number from a count, a run or a search.
 
 // The sections that hold records.
-#[derive(Drop)]
+#[derive(Clone, Copy)]
 pub enum Section {
     UserGroups,
     HostGroups,
@@ -29,7 +31,7 @@ pub enum Section {
 }
 
 // What a search among records finds.
-#[derive(Drop)]
+#[derive(Clone, Copy)]
 pub enum Index {
     At(usize),
     Missing,

@@ -1,4 +1,6 @@
 // What is asked of the words of a record: strings, flags and numbers of groups. Inner: table calls it, where the sections stand.
+#![tactic(auto)]
+
 ghost use Rattle.std.specs.Prelude.{◌≡◌, true, ◌+◌, ◌<◌};
 ghost use Rattle.spec_table.specs.View.{view};
 ghost use Rattle.spec_table.specs.Check.{run_at, sections_stand, string_fits, flags_stand, no_calculation, numbers_fit};

@@ -1,4 +1,6 @@
 // Whether sections and counts are those of a table.
+#![tactic(auto)]
+
 ghost use Rattle.std.specs.Prelude.{◌≡◌, true, map, ◌<◌, ◌≤◌, length};
 ghost use Rattle.spec_file.specs.Limit.{most};
 ghost use Rattle.spec_table.specs.Layout.{sections, header_bytes};
@@ -12,7 +14,7 @@ use table_fields::STRINGS;
 const MOST: [usize; 7] = [64, 64, 1024, 64, 512, 256, 1024];
 
 // Where runs that follow each other end, or that one of them starts elsewhere.
-#[derive(Drop)]
+#[derive(Clone, Copy)]
 pub enum RunEnd {
     At(usize),
     Gap,

@@ -5,9 +5,9 @@ use Rattle.std.proofs.Math.ListN.{get_or-map}
 use Rattle.spec_file.specs.Limit.{Section, references, order}
 use Rattle.spec_table.specs.Layout.{sections, width}
 use Rattle.spec_table.specs.View.{count_of, offset_of, view}
-use Rattle.spec_table.specs.laws.Bytes.{each}
+use Rattle.spec_table.proofs.laws.Bytes.{each}
 use Rattle.spec_table.specs.Fields.{word_at}
-use Rattle.spec_table.specs.laws.Fields.{view_count, field_inside, field_at}
+use Rattle.spec_table.proofs.laws.Fields.{view_count, field_inside, field_at}
 use Rattle.table_fields.specs.Field.{section_at, record_at, HasField}
 
 pub order_at : (n : ℕ) → n < 7 → order (section_at n) ≡ n

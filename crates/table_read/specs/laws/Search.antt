@@ -6,7 +6,7 @@ use Rattle.std.proofs.Math.Option.{Option, none, some, map, map-eq-none_iff, map
 use Rattle.spec_lists.specs.Text.{same}
 use Rattle.spec_lists.specs.Select.{any, first, first_if, missing}
 use Rattle.spec_lists.specs.Runs.{Run, part}
-use Rattle.spec_rule.specs.laws.Walk.{list_on, list_end, part_on, part_end, first_off, first_on}
+use Rattle.spec_rule.proofs.laws.Walk.{list_on, list_end, part_on, part_end, first_off, first_on}
 use Rattle.spec_rule.specs.Answering.{named, or_default, default_name}
 use Rattle.spec_file.specs.Limit.{access_groups}
 use Rattle.spec_table.specs.View.{view}
@@ -14,7 +14,7 @@ use Rattle.spec_table.specs.Check.{is_table, letter_field}
 use Rattle.spec_table.specs.Policy.{name, row}
 use Rattle.spec_decision.specs.LookUp.{links_in}
 use Rattle.spec_decision.specs.Groups.{Numbered, groups_of, group_name, group_named, group_answering, answering_number}
-use Rattle.spec_decision.specs.laws.Groups.{length_numbered, numbered_at, group_stands, answering_stands, by_number, answering_row}
+use Rattle.spec_decision.proofs.laws.Groups.{length_numbered, numbered_at, group_stands, answering_stands, by_number, answering_row}
 use Rattle.table_read.specs.declared.Index.{Index}
 use Rattle.table_read.specs.declared.Index.TheVariants.{At, Missing}
 use Rattle.table_read.specs.Stored.{Stored}

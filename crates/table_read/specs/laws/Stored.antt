@@ -7,9 +7,9 @@ use Rattle.spec_table.specs.Layout.{width, header_bytes}
 use Rattle.spec_table.specs.View.{view, strings_order, count_of, offset_of}
 use Rattle.spec_table.specs.Check.{is_table, run_at, name_run}
 use Rattle.spec_table.specs.Policy.{name, row}
-use Rattle.spec_table.specs.laws.Bytes.{each}
-use Rattle.spec_table.specs.laws.Fields.{has_header, view_count, strings_inside, strings_count, string_at}
-use Rattle.spec_table.specs.laws.Standing.{stands, name_within}
+use Rattle.spec_table.proofs.laws.Bytes.{each}
+use Rattle.spec_table.proofs.laws.Fields.{has_header, view_count, strings_inside, strings_count, string_at}
+use Rattle.spec_table.proofs.laws.Standing.{stands, name_within}
 use Rattle.spec_decision.specs.declared.Found.TheVariants.{Part}
 use Rattle.spec_decision.specs.LookUp.{name_part}
 use Rattle.table_fields.specs.Field.{Word, section_at, record_at, HasField}

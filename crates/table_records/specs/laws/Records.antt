@@ -3,14 +3,14 @@ use Rattle.std.specs.Prelude.{◌≡◌, Bool, true, false, not, ◌&&◌, ◌||
 use Rattle.std.proofs.Common.{sym, ap, ap₂, ◌∙◌, arith, length-take, get_or-take, leb-true}
 use Rattle.std.proofs.Math.Nat.{add-sub_cancel_left}
 use Rattle.spec_lists.specs.Select.{all, missing}
-use Rattle.spec_lists.specs.laws.Both.{both}
+use Rattle.spec_lists.proofs.laws.Both.{both}
 use Rattle.spec_lists.specs.Runs.{part}
 use Rattle.spec_calc.specs.Reader.{tree_of}
 use Rattle.spec_file.specs.Limit.{user_groups, host_groups, references, longest_calculation}
 use Rattle.spec_table.specs.View.{strings_order, count_of, offset_of, view}
 use Rattle.spec_table.specs.Check.{run_at, sections_stand, string_fits, no_calculation, calculation_run, calculation_stands, numbers_fit, flags_field}
 use Rattle.spec_table.specs.Check.{flags_stand, rule_stands}
-use Rattle.spec_table.specs.laws.Fields.{strings_count, strings_inside, string_at}
+use Rattle.spec_table.proofs.laws.Fields.{strings_count, strings_inside, string_at}
 use Rattle.table_fields.specs.Field.{section_at, record_at}
 use Rattle.table_fields.specs.laws.Fields.{rows_count}
 use Rattle.table_records.specs.Records.{number_stands}

@@ -3,7 +3,7 @@ use Rattle.std.specs.Prelude.{◌≡◌, Bool, true, false, ◌&&◌, List, [], 
 use Rattle.std.proofs.Common.{ap, ◌∙◌, zero-add, suc-add, drop_of_length-le}
 use Rattle.std.proofs.Math.Seq.{take-nil, drop-nil}
 use Rattle.spec_lists.specs.Select.{all}
-use Rattle.spec_rule.specs.laws.Walk.{list_on}
+use Rattle.spec_rule.proofs.laws.Walk.{list_on}
 
 module _ {A : Type 0} (p : A → Bool) (d : A) (xs : List A) (i : ℕ) where
   at : i < length xs → all p (drop i xs) ≡ p (get_or xs i d) && all p (drop (i + 1) xs)

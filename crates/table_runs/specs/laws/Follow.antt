@@ -4,7 +4,7 @@ use Rattle.std.proofs.Common.{sym, ap, subst, ◌∙◌, append_assoc, append-ni
 use Rattle.std.proofs.Math.Seq.{drop-length}
 use Rattle.spec_lists.specs.Select.{joined}
 use Rattle.spec_lists.specs.Runs.{Run}
-use Rattle.spec_rule.specs.laws.Walk.{list_on}
+use Rattle.spec_rule.proofs.laws.Walk.{list_on}
 use Rattle.spec_table.specs.Check.{run_at, in_turn}
 use Rattle.table_runs.specs.declared.RunEnd.{RunEnd}
 use Rattle.table_runs.specs.declared.RunEnd.TheVariants.{At, Gap}

@@ -8,7 +8,7 @@ use Rattle.spec_file.specs.Limit.{Section, references, most, most_bytes}
 use Rattle.spec_table.specs.Layout.{sections, width, form, header_bytes}
 use Rattle.spec_table.specs.View.{form_of, total_of, strings_order, count_of, offset_of, extent, strings_extent, extents, view}
 use Rattle.spec_table.specs.Check.{in_turn, sections_stand, counts_fit}
-use Rattle.spec_table.specs.laws.Fields.{strings_count}
+use Rattle.spec_table.proofs.laws.Fields.{strings_count}
 use Rattle.table_runs.specs.declared.RunEnd.TheVariants.{At, Gap}
 use Rattle.table_fields.specs.Field.{section_at}
 use Rattle.table_fields.specs.laws.Fields.{order_at, rows_count, width_small}

@@ -3,7 +3,7 @@ use Rattle.std.specs.Prelude.{◌≡◌, refl, Bool, true, false, ◌&&◌, List
 use Rattle.std.proofs.Common.{sym, ap, ap₂, subst, ◌∙◌}
 use Rattle.spec_lists.specs.Select.{joined}
 use Rattle.spec_lists.specs.Runs.{Run}
-use Rattle.spec_lists.specs.laws.Joined.{map_append}
+use Rattle.spec_lists.proofs.laws.Joined.{map_append}
 use Rattle.spec_file.specs.Limit.{user_groups, host_groups, members, access_groups, rules}
 use Rattle.spec_table.specs.View.{count_of, view}
 use Rattle.spec_table.specs.Check.{run_at, members_run, users_run, hosts_run, in_turn, runs_stand}
