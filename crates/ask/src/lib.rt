@@ -1,5 +1,7 @@
-// The answer to a question on any bytes, the look_up of an input, and of a group by its number. ask_checked and ask_input have them for a table that was
+// The answer to a question on any bytes, the look-up of an input, and of a group by its number. ask_checked and ask_input have them for a table that was
 // checked before.
+#![tactic(auto)]
+
 ghost use Rattle.std.specs.Prelude.{◌≡◌};
 ghost use Rattle.spec_rule.specs.Question.{lent_question};
 ghost use Rattle.spec_decision.specs.Decision.{decide};

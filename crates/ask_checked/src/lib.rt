@@ -1,4 +1,6 @@
 // The answer to a question on a table that was checked before.
+#![tactic(auto)]
+
 ghost use Rattle.std.specs.Prelude.{◌≡◌, true, length};
 ghost use Rattle.spec_rule.specs.Roles.{cut_roles};
 ghost use Rattle.spec_rule.specs.Question.{lent_question};
@@ -58,7 +60,7 @@ fn decision_of_group(
 }
 
 // The answer to a question on a table that was checked before: only the answering group's rules are tried.
-// Callers have asked is_table, or have the bytes of an accepted load (spec_demand/specs/laws/Exact: leaves-table); others call ask::decide.
+// Callers have asked is_table, or have the bytes of an accepted load (spec_demand/proofs/laws/Exact: leaves_table); others call ask::decide.
 pub fn decide_checked(
     table: &[u8],
     group: &[u8],

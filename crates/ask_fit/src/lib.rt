@@ -1,4 +1,6 @@
 // Whether a question may carry the roles that a caller lends: one behind the other in one pool of bytes, and the length of each.
+#![tactic(auto)]
+
 ghost use Rattle.std.specs.Prelude.{◌≡◌};
 ghost use Rattle.spec_rule.specs.Roles.{roles_fit, lent_roles};
 

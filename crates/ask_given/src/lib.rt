@@ -1,4 +1,6 @@
 // What one rule of a checked table gives behind others.
+#![tactic(auto)]
+
 ghost use Rattle.std.specs.Prelude.{◌≡◌, length};
 ghost use Rattle.spec_rule.specs.Roles.{cut_roles};
 ghost use Rattle.spec_file.specs.Limit.{rules};

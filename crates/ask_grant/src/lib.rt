@@ -1,4 +1,6 @@
 // What a rule's flags give if it passes.
+#![tactic(auto)]
+
 ghost use Rattle.std.specs.Prelude.{◌≡◌};
 ghost use Rattle.spec_rule.specs.Decision.{with_trap};
 ghost use Rattle.spec_table.specs.Policy.{permission, set_bit};

@@ -1,4 +1,6 @@
-// The look_up of an input, and of a group by its number, on a table that was checked before.
+// The look-up of an input, and of a group by its number, on a table that was checked before.
+#![tactic(auto)]
+
 ghost use Rattle.std.specs.Prelude.{◌≡◌, true};
 ghost use Rattle.spec_table.specs.Check.{is_table};
 ghost use Rattle.spec_decision.specs.LookUp.{look_up};

@@ -1,4 +1,6 @@
 // An access group's decision in two parts, as bytes: which of its rules stand for a client, and what their calculations come to.
+#![tactic(auto)]
+
 ghost use Rattle.std.specs.Prelude.{◌≡◌, [], ◌+◌, ◌≤◌, length};
 ghost use Rattle.std.proofs.lemmas.List.Edits.{sets};
 ghost use Rattle.spec_rule.specs.Rule.{stands};

@@ -1,4 +1,6 @@
 // An access group's decision by two bytes of each of its rules: whether it stands for a client, and what its calculation comes to.
+#![tactic(auto)]
+
 ghost use Rattle.std.specs.Prelude.{◌≡◌, ◌+◌, ◌≤◌, length};
 ghost use Rattle.spec_rule.specs.Kept.{byte_outcome};
 ghost use Rattle.spec_file.specs.Limit.{access_groups, rules, most};

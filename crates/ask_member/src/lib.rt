@@ -1,4 +1,6 @@
 // Whether a user, by name or by a role, or a host is a member of one of the groups that a rule of a checked table names.
+#![tactic(auto)]
+
 ghost use Rattle.std.specs.Prelude.{◌≡◌, ◌<◌};
 ghost use Rattle.spec_lists.specs.Select.{any};
 ghost use Rattle.spec_rule.specs.Roles.{cut_roles};
@@ -11,7 +13,7 @@ ghost use Rattle.ask_member.specs.Members.{groups, matches, references_word, mem
 use table_read::Section;
 
 // Users and user groups, or hosts and host groups.
-#[derive(Drop)]
+#[derive(Clone, Copy)]
 pub enum GroupKind {
     Users,
     Hosts,

@@ -1,4 +1,6 @@
 // A decision as a number, as a register's place keeps it and as it goes to callers in C; and back.
+#![tactic(auto)]
+
 ghost use Rattle.std.specs.Prelude.{◌≡◌};
 ghost use Rattle.spec_rule.specs.Rule.{rank};
 ghost use Rattle.spec_rule.specs.Number.{letter_number, decision_number, access_from, letter_from, decision_from};

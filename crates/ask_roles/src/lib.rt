@@ -1,4 +1,6 @@
 // Roles as a caller lends them, one behind the other in one pool of bytes, and the length of each; a member that matches one.
+#![tactic(auto)]
+
 ghost use Rattle.std.specs.Prelude.{◌≡◌, min};
 ghost use Rattle.spec_lists.specs.Text.{same};
 ghost use Rattle.spec_lists.specs.Select.{any};

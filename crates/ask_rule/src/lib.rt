@@ -1,4 +1,6 @@
 // What one rule of a checked table asks of a question: members, level, calculation.
+#![tactic(auto)]
+
 ghost use Rattle.std.specs.Prelude.{◌≡◌, [], length};
 ghost use Rattle.spec_rule.specs.Roles.{cut_roles};
 ghost use Rattle.spec_rule.specs.Rule.{stands};

@@ -1,4 +1,6 @@
 // What rules give one by one, and the decision in the end.
+#![tactic(auto)]
+
 ghost use Rattle.std.specs.Prelude.{◌≡◌, leb};
 ghost use Rattle.spec_rule.specs.Rule.{rank, stop_above, or_else};
 ghost use Rattle.spec_rule.specs.Verdict.{nothing_given, by_outcome, then, normal, normal_by, settled};

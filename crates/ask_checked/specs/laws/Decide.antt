@@ -10,7 +10,7 @@ use Rattle.spec_rule.specs.Question.{Question}
 use Rattle.spec_rule.specs.Decision.{no_access, decision_by}
 use Rattle.spec_rule.specs.Rule.{Rule}
 use Rattle.spec_rule.specs.Verdict.{nothing_given, by_rule, then, verdict_by, normal, settled}
-use Rattle.spec_rule.specs.laws.Decision.{nothing_then, verdict_first, decision_settled, turned, normal_normal, settled_end}
+use Rattle.spec_rule.proofs.laws.Decision.{nothing_then, verdict_first, decision_settled, turned, normal_normal, settled_end}
 use Rattle.spec_file.specs.Limit.{access_groups}
 use Rattle.spec_table.specs.View.{view}
 use Rattle.spec_table.specs.Check.{is_table}

@@ -3,12 +3,12 @@ use Rattle.std.specs.Prelude.{◌≡◌, List, [], ◌∷◌, ℕ, ◌+◌, ◌�
 use Rattle.std.proofs.Common.{sym, ap, ◌∙◌, arith}
 use Rattle.std.proofs.lemmas.List.{length-map}
 use Rattle.spec_lists.specs.Runs.{part}
-use Rattle.spec_rule.specs.laws.Walk.{part_count, read_on, read_end}
+use Rattle.spec_rule.proofs.laws.Walk.{part_count, read_on, read_end}
 use Rattle.spec_file.specs.Limit.{access_groups, rules, most}
 use Rattle.spec_table.specs.View.{view}
 use Rattle.spec_table.specs.Check.{rules_run}
 use Rattle.spec_table.specs.Policy.{rule_of, row}
-use Rattle.spec_table.specs.laws.Standing.{stands, rules_within, records_few}
+use Rattle.spec_table.proofs.laws.Standing.{stands, rules_within, records_few}
 use Rattle.table_fields.specs.Field.{Word}
 use Rattle.table_read.specs.Stored.{Stored, word_of}
 use Rattle.ask_rule.specs.Rules.{rule_at}

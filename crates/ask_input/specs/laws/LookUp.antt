@@ -1,4 +1,4 @@
--- The look_up, from the input that a search finds.
+-- The look-up, from the input that a search finds.
 use Rattle.std.specs.Prelude.{◌≡◌, true, false, List, ℕ}
 use Rattle.std.proofs.Common.{sym, ap, subst, ◌∙◌}
 use Rattle.std.proofs.Math.Option.{Option, none, some}
@@ -6,8 +6,8 @@ use Rattle.spec_file.specs.Limit.{access_groups, inputs}
 use Rattle.spec_table.specs.View.{view}
 use Rattle.spec_table.specs.Check.{is_table, name_run}
 use Rattle.spec_table.specs.Policy.{name, row}
-use Rattle.spec_table.specs.laws.Fields.{string_at, strings_count}
-use Rattle.spec_table.specs.laws.Standing.{stands, name_within}
+use Rattle.spec_table.proofs.laws.Fields.{string_at, strings_count}
+use Rattle.spec_table.proofs.laws.Standing.{stands, name_within}
 use Rattle.spec_decision.specs.declared.Found.{Found}
 use Rattle.spec_decision.specs.declared.Found.TheVariants as found
 use Rattle.spec_decision.specs.LookUp.{part_in, name_part, input_of, named_part, look_up}

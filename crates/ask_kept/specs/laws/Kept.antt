@@ -5,7 +5,7 @@ use Rattle.std.proofs.lemmas.List.{length-map}
 use Rattle.std.proofs.lemmas.List.Edits.{sets}
 use Rattle.std.proofs.lemmas.Bool.{lt-leb}
 use Rattle.spec_lists.specs.Runs.{part}
-use Rattle.spec_lists.specs.laws.Sets.{part_sets_all}
+use Rattle.spec_lists.proofs.laws.Sets.{part_sets_all}
 use Rattle.spec_calc.specs.declared.Reading.{Reading}
 use Rattle.spec_rule.specs.declared.Outcome.TheVariants as outcomes
 use Rattle.spec_rule.specs.declared.Verdict.{Verdict}
@@ -13,9 +13,9 @@ use Rattle.spec_rule.specs.Rule.{Rule, stands, outcome}
 use Rattle.spec_rule.specs.Decision.{granted, decision_by}
 use Rattle.spec_rule.specs.Verdict.{nothing_given, by_outcome, then, normal, settled}
 use Rattle.spec_rule.specs.Kept.{bit, outcome_byte, byte_outcome, outcome_bytes, by_kept, kept_verdict, kept_decision}
-use Rattle.spec_rule.specs.laws.Decision.{nothing_then, failed, normal_normal, settled_end}
-use Rattle.spec_rule.specs.laws.Kept.{kept_is, outcome_bytes_enough, kept_turn}
-use Rattle.spec_rule.specs.laws.Walk.{list_on, part_on, mapped_on, mapped_end, sets_on}
+use Rattle.spec_rule.proofs.laws.Decision.{nothing_then, failed, normal_normal, settled_end}
+use Rattle.spec_rule.proofs.laws.Kept.{kept_is, outcome_bytes_enough, kept_turn}
+use Rattle.spec_rule.proofs.laws.Walk.{list_on, part_on, mapped_on, mapped_end, sets_on}
 use Rattle.spec_file.specs.Limit.{access_groups, rules, most}
 use Rattle.table_fields.specs.Field.{Word}
 use Rattle.table_read.specs.Stored.{Stored, word_of}

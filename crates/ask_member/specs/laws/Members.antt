@@ -4,15 +4,15 @@ use Rattle.std.proofs.Common.{ap, ◌∙◌, arith, eq-eqb, ne_eqb}
 use Rattle.std.proofs.lemmas.List.{length-map}
 use Rattle.spec_lists.specs.Select.{any}
 use Rattle.spec_lists.specs.Runs.{Run, part}
-use Rattle.spec_lists.specs.laws.Runs.{Within}
+use Rattle.spec_lists.proofs.laws.Runs.{Within}
 use Rattle.spec_rule.specs.Rule.{belongs}
-use Rattle.spec_rule.specs.laws.Walk.{part_count}
+use Rattle.spec_rule.proofs.laws.Walk.{part_count}
 use Rattle.spec_file.specs.Limit.{Section, members, rules, references}
 use Rattle.spec_table.specs.Layout.{Content}
 use Rattle.spec_table.specs.View.{view}
 use Rattle.spec_table.specs.Check.{well_formed, members_run, number_field, undefined_number}
 use Rattle.spec_table.specs.Policy.{members_of, referred, row}
-use Rattle.spec_table.specs.laws.Standing.{stands, users_members, hosts_members, references_within, user_number, host_number}
+use Rattle.spec_table.proofs.laws.Standing.{stands, users_members, hosts_members, references_within, user_number, host_number}
 use Rattle.table_fields.specs.Field.{Word}
 use Rattle.table_read.specs.Stored.{Stored, word_of}
 use Rattle.ask_member.specs.declared.GroupKind.{GroupKind}

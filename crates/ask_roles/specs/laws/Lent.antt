@@ -6,7 +6,7 @@ use Rattle.std.proofs.Math.Seq.{take-length, drop-length}
 use Rattle.spec_lists.specs.Text.{same}
 use Rattle.spec_lists.specs.Select.{all, any, total}
 use Rattle.spec_rule.specs.Roles.{most_roles, longest_role, roles_fit, cut_roles, too_many_roles, lent_roles}
-use Rattle.spec_rule.specs.laws.Walk.{list_on, list_end, any_off, any_on}
+use Rattle.spec_rule.proofs.laws.Walk.{list_on, list_end, any_off, any_on}
 
 -- ---- roles that fit
 

@@ -3,7 +3,7 @@ use Rattle.std.specs.Prelude.{◌≡◌, true, false, List, ℕ, ◌-◌, ◌≤
 use Rattle.std.proofs.Common.{ap, arith, length-take, length-drop, take_all}
 use Rattle.spec_lists.specs.Text.{same}
 use Rattle.spec_lists.specs.Select.{any}
-use Rattle.spec_lists.specs.laws.Same.{same_true, same_length, unchanged}
+use Rattle.spec_lists.proofs.laws.Same.{same_true, same_length, unchanged}
 use Rattle.spec_rule.specs.Roles.{role_prefix}
 use Rattle.spec_rule.specs.Rule.{begins, matches_client}
 

@@ -1,0 +1,15 @@
+use Rattle.ask_kept.specs.Kept.{decision_kept}
+use Rattle.ask_checked.specs.Group.{group_rules}
+use Rattle.spec_rule.specs.Kept.{kept_verdict}
+use Rattle.spec_rule.specs.Verdict.{then, normal, settled}
+use Rattle.spec_lists.specs.Runs.{part}
+use lib.ListN.{length, drop}
+use Prim.Native.Nat.{◌≤◌, ◌-◌}
+use mathlib.Core.Path.{◌≡◌}
+use Rattle.ask_kept.proofs.kept_decision.Given as goal
+
+abbrev pub invariant-loop-i : goal.invariant-loop-i
+invariant-loop-i l = (l.i ≤ l.n) × (normal l.so_far ≡ l.so_far) × (decision_kept l.table l.group l.kept l.at l.outcomes ≡ settled (then l.so_far (kept_verdict (drop l.i (part (record { first = l.at; count = length (group_rules l.table l.group) }) l.kept)) (drop l.i l.outcomes) (drop l.i (group_rules l.table l.group)))))
+
+abbrev pub decreases-loop-i : goal.decreases-loop-i
+decreases-loop-i l = l.n - l.i
