@@ -1,4 +1,6 @@
 // The load: from a text to a table in lent bytes, or a refusal that leaves them as they are.
+#![tactic(auto)]
+
 ghost use Rattle.std.specs.Prelude.{◌≡◌, ◌≤◌, length};
 ghost use Rattle.spec_load.specs.Load.{load};
 ghost use Rattle.load_judge.specs.Judged.{Space};

@@ -1,5 +1,7 @@
 // The blocks behind an unknown item or predicate: recursion for nested blocks, a loop for siblings.
 // Each function asks that there are as many roles as kinds: load_parse::read cuts both slices to one length, and its callees hand them on.
+#![tactic(auto)]
+
 ghost use Rattle.std.specs.Prelude.{◌≡◌, [], ◌∷◌, length};
 ghost use Rattle.spec_grammar.specs.Reader.{once, perhaps, block, block_inside, block_name, block_number, top, inner};
 ghost use Rattle.load_elements.specs.Reads.{Reads};
@@ -9,7 +11,7 @@ use load_elements::{Cursor, arguments, expect, kind_at, list, second_block};
 use load_tokens::{CLOSE_BRACE, COMMA, FLOAT, INT, NO_ROLE, OPEN_BRACE, OPEN_PAREN, is_name};
 
 // How a block begins: with one element and its "}", done, or with an element that may nest, up to its "(".
-#[derive(Drop)]
+#[derive(Clone, Copy)]
 pub enum Opened {
     One(Cursor),
     Done(Cursor),

@@ -12,8 +12,8 @@ use Rattle.spec_lists.specs.Every.{Every, nil, cons}
 use Rattle.spec_calc.specs.Expression.{Tree}
 use Rattle.spec_calc.specs.Value.{letters}
 use Rattle.spec_calc.specs.Reader.{tree_of}
-use Rattle.spec_calc.specs.laws.Theorem.{parses_sound}
-use Rattle.spec_calc.specs.laws.Letters.{letters_bounded}
+use Rattle.spec_calc.proofs.laws.Theorem.{parses_sound}
+use Rattle.spec_calc.proofs.laws.Letters.{letters_bounded}
 use Rattle.spec_file.specs.Refusal.{letters_among}
 
 all_agree : (p q : ℕ → Bool) → ((i : ℕ) → i < 21 → p i ≡ q i) → {ls : List ℕ} → Every (λ i. i ≤ 20) ls → all p ls ≡ all q ls

@@ -1,4 +1,6 @@
 // Cause 10: a calculation not allowed.
+#![tactic(auto)]
+
 ghost use Rattle.std.specs.Prelude.{◌≡◌, true, false, ◌+◌, ◌<◌, length, set, get_or};
 ghost use Rattle.spec_lists.specs.Select.{all, holds_of};
 ghost use Rattle.spec_calc.specs.Value.{letters};

@@ -1,4 +1,6 @@
 // Refusals 5 to 7, 12, 8 to 10: the causes in their order.
+#![tactic(auto)]
+
 ghost use Rattle.std.specs.Prelude.{◌≡◌, List, ℕ, ◌≤◌, length};
 ghost use Rattle.load_tokens.specs.Stores.{arrays_of};
 ghost use Rattle.load_tokens.specs.Scratch.{Scratch};

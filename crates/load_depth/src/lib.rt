@@ -1,4 +1,6 @@
 // The braces rule: how many braces are open at once.
+#![tactic(auto)]
+
 ghost use Rattle.std.specs.Prelude.{◌≡◌, List, ℕ, ◌≤◌, length};
 ghost use Rattle.spec_file.specs.Depth.{opened};
 ghost use Rattle.spec_file.specs.Limit.{most_braces};
@@ -11,7 +13,7 @@ use load_tokens::{CLOSE_BRACE, OPEN_BRACE};
 const MOST_BRACES: usize = 16;
 
 // Where the brace stands that makes too many open at once.
-#[derive(Drop)]
+#[derive(Clone, Copy)]
 pub enum Deep {
     No,
     At(usize),

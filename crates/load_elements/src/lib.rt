@@ -1,6 +1,8 @@
 // A parser's cursor over the kinds of a file's tokens, and what 001 allows in an unknown part: elements, lists and heads.
 // Each function writes the roles of the tokens that it reads. It asks that there are as many roles as kinds: load_parse::read cuts
 // both slices to one length, and every caller hands them on. A kind that is expected is a constant, or one that was seen.
+#![tactic(auto)]
+
 ghost use Rattle.std.specs.Prelude.{◌≡◌, [], ◌∷◌, ◌<◌, length};
 ghost use Rattle.spec_token.specs.declared.Kind.TheVariants as kind;
 ghost use Rattle.spec_grammar.specs.Reader.{once, perhaps, element, more_until, arguments, headed, second_block};
@@ -10,7 +12,7 @@ ghost use Rattle.load_elements.specs.Reads.{kind_at, expected, Reads};
 use load_tokens::{CLOSE_BRACE, CLOSE_PAREN, COMMA, END, NO_ROLE, OPEN_BRACE, OPEN_PAREN, STRING};
 
 // Where a parser stands: before a token, or stopped at one for good.
-#[derive(Drop)]
+#[derive(Clone, Copy)]
 pub enum Cursor {
     At(usize),
     Stopped(usize),

@@ -1,4 +1,6 @@
 // What stands behind a token in its clause, and the flags of a rule.
+#![tactic(auto)]
+
 ghost use Rattle.std.specs.Prelude.{◌≡◌, ◌+◌, ◌-◌, ◌≤◌, length};
 ghost use Rattle.spec_file.specs.Contents.{rule_text};
 ghost use Rattle.spec_table.specs.Written.{flags};

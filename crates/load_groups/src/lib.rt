@@ -1,4 +1,6 @@
 // Cause 12: a group that a rule names and that the file does not define.
+#![tactic(auto)]
+
 ghost use Rattle.std.specs.Prelude.{◌≡◌, ◌≤◌, length};
 ghost use Rattle.load_tokens.specs.Arrays.{role_of_number};
 ghost use Rattle.load_tokens.specs.Scratch.{Scratch};

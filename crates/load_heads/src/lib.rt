@@ -1,4 +1,6 @@
 // Causes 8 and 9: the level, permission and log word in a rule's head.
+#![tactic(auto)]
+
 ghost use Rattle.std.specs.Prelude.{◌≡◌, ◌<◌};
 ghost use Rattle.spec_lists.specs.Select.{missing};
 ghost use Rattle.spec_file.specs.Contents.{level_of, permission_of, log_of};

@@ -1,4 +1,6 @@
 // Refusals 2 to 10 and 12: the judgment on a text.
+#![tactic(auto)]
+
 ghost use Rattle.std.specs.Prelude.{◌≤◌, length};
 ghost use Rattle.load_tokens.specs.Stores.{arrays_of};
 ghost use Rattle.load_tokens.specs.Scratch.{Scratch};

@@ -1,4 +1,6 @@
 // The kinds of words.
+#![tactic(auto)]
+
 ghost use Rattle.std.specs.Prelude.{◌≡◌};
 ghost use Rattle.spec_token.specs.Scanner.{inp, word_kind};
 ghost use Rattle.spec_grammar.specs.Codes.{kind_number};

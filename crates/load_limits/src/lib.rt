@@ -1,4 +1,6 @@
 // Causes 5 and 6: a string too long, a limit of the table passed.
+#![tactic(auto)]
+
 ghost use Rattle.std.specs.Prelude.{◌≡◌, map, ℕ, ◌<◌};
 ghost use Rattle.spec_grammar.specs.declared.Role.{Role};
 ghost use Rattle.load_tokens.specs.Arrays.{role_of_number};

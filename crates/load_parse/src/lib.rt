@@ -1,5 +1,7 @@
 // The items of a file by 001's grammar, over the kinds of its tokens: the role of each token, or where reading stops.
 // The inner functions ask that there are as many roles as kinds, since `read` cuts both slices to n.
+#![tactic(auto)]
+
 ghost use Rattle.std.specs.Prelude.{◌≡◌, [], ◌∷◌, ◌≤◌, ◌<◌, length};
 ghost use Rattle.spec_token.specs.declared.Kind.TheVariants as kind;
 ghost use Rattle.spec_grammar.specs.declared.Role.TheVariants as role;
@@ -19,7 +21,7 @@ use load_tokens::{
 };
 
 // Every token was read and has its role, or reading stops at a token, by its index.
-#[derive(Drop)]
+#[derive(Clone, Copy)]
 pub enum ParseEnd {
     File,
     Stopped(usize),

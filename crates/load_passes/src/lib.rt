@@ -1,4 +1,6 @@
 // The records or strings for all tokens of a role.
+#![tactic(auto)]
+
 ghost use Rattle.std.specs.Prelude.{◌<◌};
 ghost use Rattle.load_spans.specs.Spans.{ListedSpansFit};
 ghost use Rattle.load_records.specs.Cursor.{cursor, Bounded};

@@ -1,9 +1,11 @@
 // Where a quoted text ends.
+#![tactic(auto)]
+
 ghost use Rattle.std.specs.Prelude.{◌≡◌, ◌≤◌, length};
 ghost use Rattle.load_quote.specs.Quote.{act, QuoteRead};
 
 // What a byte inside quotes does: the text goes on, behind a backslash or not; the quote closes; a bare newline breaks it.
-#[derive(Drop)]
+#[derive(Clone, Copy)]
 pub enum Act {
     On(bool),
     Close,
@@ -25,7 +27,7 @@ fn quote_act(escaped: bool, b: u8) -> Act
 }
 
 // Where a quoted text ends; where a bare newline breaks it; or that it has no end.
-#[derive(Drop)]
+#[derive(Clone, Copy)]
 pub enum Quote {
     Closed(usize),
     Broken(usize),

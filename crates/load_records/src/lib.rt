@@ -1,4 +1,6 @@
 // The record or string of the table that is written for one token.
+#![tactic(auto)]
+
 ghost use Rattle.std.specs.Prelude.{cond, map, [], ◌≡◌, ◌<◌, length};
 ghost use Rattle.load_spans.specs.Spans.{SpanFits, ListedSpansFit};
 ghost use Rattle.byte_write.specs.Put.{cased};
@@ -9,7 +11,7 @@ ghost use Rattle.load_records.specs.declared.Work.TheVariants.{Groups, Access, I
 use load_tokens::{ASG_NAME, HAG_NAMED, INPUT, RULE_WORD, UAG_NAMED};
 
 // What is written for each token of a role: a record of a section, or a string.
-#[derive(Drop)]
+#[derive(Clone, Copy)]
 pub enum Work {
     Groups,
     Names,
@@ -23,7 +25,7 @@ pub enum Work {
 }
 
 // The next byte's place, the next string's offset, and the numbers of the next records that a run begins with.
-#[derive(Drop)]
+#[derive(Clone, Copy)]
 pub struct Cursor {
     pub at: usize,
     pub string: usize,

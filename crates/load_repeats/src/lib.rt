@@ -1,4 +1,6 @@
 // Cause 7: a name or letter given again.
+#![tactic(auto)]
+
 ghost use Rattle.std.specs.Prelude.{◌≡◌, ◌≤◌, min, length};
 ghost use Rattle.load_tokens.specs.Arrays.{role_of_number};
 ghost use Rattle.load_tokens.specs.Scratch.{Scratch};

@@ -1,4 +1,6 @@
 // The whole table of an accepted file, written where there is room for it.
+#![tactic(auto)]
+
 ghost use Rattle.std.specs.Prelude.{◌≤◌, length};
 ghost use Rattle.spec_table.specs.Layout.{greatest_table};
 ghost use Rattle.load_passes.specs.Passed.{Source};

@@ -1,6 +1,8 @@
 // A rule of an access security group.
 // Each function asks that there are as many roles as kinds: load_parse::read cuts both slices to one length, and its callees hand them on.
 // A kind that is expected is a constant, or one that was seen.
+#![tactic(auto)]
+
 ghost use Rattle.std.specs.Prelude.{◌≡◌, [], ◌∷◌, ◌++◌, ◌<◌, length};
 ghost use Rattle.spec_grammar.specs.declared.Role.TheVariants as role;
 ghost use Rattle.spec_grammar.specs.Codes.{role_number};

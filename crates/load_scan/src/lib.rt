@@ -1,4 +1,6 @@
 // The tokens of a text, found in one pass and kept in arrays.
+#![tactic(auto)]
+
 ghost use Rattle.std.specs.Prelude.{◌+◌, ◌≤◌, ◌<◌, length};
 ghost use Rattle.spec_token.specs.Scanner.{quote, stop, word};
 ghost use Rattle.load_tokens.specs.Stores.{arrays_of, Room};
@@ -10,7 +12,7 @@ use load_quote::Quote;
 use load_word::{Class, Start};
 
 // The numbers of a token: its kind, its place, and where its text starts and ends.
-#[derive(Drop)]
+#[derive(Clone, Copy)]
 pub struct Entry {
     pub kind: u8,
     pub place: usize,
@@ -19,7 +21,7 @@ pub struct Entry {
 }
 
 // What stands at a place: a token, or none, and where the scan goes on; or a bad byte.
-#[derive(Drop)]
+#[derive(Clone, Copy)]
 pub enum Step {
     Token(Entry, usize),
     Skip(usize),
@@ -115,7 +117,7 @@ fn put(
 }
 
 // How many tokens the arrays hold, or the place of the first bad byte.
-#[derive(Drop)]
+#[derive(Clone, Copy)]
 pub enum Scanned {
     Tokens(usize),
     Bad(usize),

@@ -1,4 +1,6 @@
 // The sections of the table, and its strings.
+#![tactic(auto)]
+
 ghost use Rattle.load_spans.specs.Roles.{SpansFit};
 ghost use Rattle.byte_write.specs.Put.{Put};
 ghost use Rattle.load_flags.specs.Tokens.{tokens_in};
@@ -13,7 +15,7 @@ use load_tokens::{
 };
 
 // Where sections 2 and 3 begin, and the cursor behind section 3.
-#[derive(Drop)]
+#[derive(Clone, Copy)]
 pub struct GroupSections {
     pub two: usize,
     pub three: usize,
@@ -57,7 +59,7 @@ pub fn group_sections(
 }
 
 // Where section 5 begins, and the cursor behind it.
-#[derive(Drop)]
+#[derive(Clone, Copy)]
 pub struct AccessSections {
     pub five: usize,
     pub cursor: Cursor,
@@ -97,7 +99,7 @@ pub fn access_sections(
 }
 
 // Where section 7 begins, how many references there are, and the cursor behind them.
-#[derive(Drop)]
+#[derive(Clone, Copy)]
 pub struct RuleSections {
     pub seven: usize,
     pub references: usize,

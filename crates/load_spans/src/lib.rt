@@ -1,4 +1,6 @@
 // The texts of tokens in the file, and the tokens of a role.
+#![tactic(auto)]
+
 ghost use Rattle.std.specs.Prelude.{◌≡◌, map, ◌≤◌, ◌<◌, length, set};
 ghost use Rattle.spec_lists.specs.Text.{same};
 ghost use Rattle.spec_token.specs.Word.{link_letter};

@@ -1,4 +1,6 @@
 // The table of a judged text in the lent bytes, and how many warnings it has.
+#![tactic(auto)]
+
 ghost use Rattle.std.specs.Prelude.{List, ℕ};
 ghost use Rattle.load_tokens.specs.Stores.{arrays_of};
 ghost use Rattle.load_spans.specs.Bounded.{Bounded};

@@ -1,6 +1,8 @@
 // Strings in parentheses and braces, as groups, inputs and rules have them.
 // Each function asks that there are as many roles as kinds: load_parse::read cuts both slices to one length, and its callees hand them on.
 // The kinds that are expected are constants of the callers, load_rules and load_parse.
+#![tactic(auto)]
+
 ghost use Rattle.std.specs.Prelude.{◌≡◌, [], ◌∷◌, ◌<◌, length};
 ghost use Rattle.spec_grammar.specs.Reader.{named, string_list};
 ghost use Rattle.load_tokens.specs.Arrays.{role_of_number};

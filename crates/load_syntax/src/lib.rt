@@ -1,11 +1,13 @@
 // Refusals 2 to 4: bytes, braces, grammar.
+#![tactic(auto)]
+
 ghost use Rattle.std.specs.Prelude.{◌≡◌, cond, List, ℕ, ◌≤◌, ltb, length, get_or};
 ghost use Rattle.load_tokens.specs.Stores.{arrays_of};
 ghost use Rattle.load_tokens.specs.Scratch.{Scratch, ScratchArrays};
 ghost use Rattle.load_syntax.specs.Syntax.{Capacity, Parsed, Read};
 
 // How many tokens of the arrays are the file's, or why the text is refused.
-#[derive(Drop)]
+#[derive(Clone, Copy)]
 pub enum Judgment {
     Tokens(usize),
     Refused(spec_file::Refusal, usize),

@@ -1,4 +1,6 @@
 // How a load keeps tokens in arrays: the codes of kinds and roles, and in specs/ what the arrays mean.
+#![tactic(auto)]
+
 ghost use Rattle.std.specs.Prelude.{◌≡◌};
 ghost use Rattle.load_tokens.specs.Names.{is_name};
 

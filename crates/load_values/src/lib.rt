@@ -1,4 +1,6 @@
 // The values that a file spells as text: levels, permissions and log options.
+#![tactic(auto)]
+
 ghost use Rattle.std.specs.Prelude.{◌≡◌, ◌-◌, ◌≤◌, min, length, drop};
 ghost use Rattle.spec_lists.specs.Text.{whole};
 ghost use Rattle.spec_file.specs.Contents.{level_of, permission_of, log_of};
@@ -7,21 +9,21 @@ ghost use Rattle.load_values.specs.Known.{known_level, level_by, known_permissio
 use spec_rule::Access;
 
 // The level that a text spells.
-#[derive(Drop)]
+#[derive(Clone, Copy)]
 pub enum Level {
     No,
     Is(usize),
 }
 
 // The permission that a word spells.
-#[derive(Drop)]
+#[derive(Clone, Copy)]
 pub enum Permission {
     No,
     Is(Access),
 }
 
 // Whether a word traps writes, if it is a log word.
-#[derive(Drop)]
+#[derive(Clone, Copy)]
 pub enum Log {
     No,
     Is(bool),

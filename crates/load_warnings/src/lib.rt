@@ -1,4 +1,6 @@
 // The warnings of an accepted file.
+#![tactic(auto)]
+
 ghost use Rattle.std.specs.Prelude.{◌≡◌, ◌≤◌, length};
 ghost use Rattle.load_warnings.specs.Code.{code};
 ghost use Rattle.load_warnings.specs.Filled.{warnings_of, wrote, Filled};

@@ -1,4 +1,6 @@
 // The classes of bytes, and which words are numbers.
+#![tactic(auto)]
+
 ghost use Rattle.std.specs.Prelude.{◌≡◌, ◌≤◌, length, drop};
 ghost use Rattle.spec_lists.specs.Text.{digit};
 ghost use Rattle.spec_token.specs.Word.{name_byte};
@@ -10,7 +12,7 @@ ghost use Rattle.load_word.specs.Start.{start_of};
 ghost use Rattle.load_word.specs.Number.{Unsigned};
 
 // What a byte between tokens begins.
-#[derive(Drop)]
+#[derive(Clone, Copy)]
 pub enum Start {
     Blank,
     Comment,
@@ -70,7 +72,7 @@ fn is_digit(b: u8) -> bool
 }
 
 // The classes whose runs a text is cut into: the bytes of a word, the digits, and what a comment goes on over.
-#[derive(Drop)]
+#[derive(Clone, Copy)]
 pub enum Class {
     Name,
     Digit,

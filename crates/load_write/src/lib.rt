@@ -1,4 +1,6 @@
 // The whole table of an accepted file.
+#![tactic(auto)]
+
 ghost use Rattle.std.specs.Prelude.{List, ◌≤◌, ℕ, length};
 ghost use Rattle.spec_lists.specs.Words.{spelled_out};
 ghost use Rattle.load_tokens.specs.Arrays.{Arrays};
@@ -12,14 +14,14 @@ use load_sections::{AccessSections, GroupSections, RuleSections};
 use load_tokens::{ASG_NAME, HAG_NAME, HOST, INPUT, RULE_WORD, UAG_NAME, USER};
 
 // What load_room answers.
-#[derive(Drop)]
+#[derive(Clone, Copy)]
 pub enum Written {
     Done(usize),
     NoRoom(usize),
 }
 
 // How many records sections 1 to 6 have.
-#[derive(Drop)]
+#[derive(Clone, Copy)]
 pub struct Counts {
     pub uags: usize,
     pub hags: usize,

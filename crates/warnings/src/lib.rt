@@ -1,4 +1,6 @@
 // The warnings of a text, listed.
+#![tactic(auto)]
+
 ghost use Rattle.std.specs.Prelude.{◌≡◌, ◌≤◌, length};
 ghost use Rattle.spec_load.specs.Listing.{listing};
 ghost use Rattle.load_judge.specs.Judged.{Space};

@@ -8,8 +8,8 @@ use Rattle.spec_file.specs.Contents.{file_of}
 use Rattle.spec_file.specs.declared.Refusal.{Refusal}
 use Rattle.spec_file.specs.declared.Refusal.TheVariants.{FileTooLong}
 use Rattle.spec_table.specs.Layout.{greatest_table}
-use Rattle.spec_table.specs.laws.Accepted.{fits}
-use Rattle.spec_table.specs.laws.Theorem.{table_length}
+use Rattle.spec_table.proofs.laws.Accepted.{fits}
+use Rattle.spec_table.proofs.laws.Theorem.{table_length}
 use Rattle.spec_load.specs.declared.Loaded.{Loaded}
 use Rattle.spec_load.specs.declared.Loaded.TheVariants.{Refused}
 use Rattle.spec_load.specs.Load.{by_verdict, load}

@@ -3,7 +3,7 @@ use Rattle.std.specs.Prelude.{◌≡◌, refl, Bool, true, false, ◌&&◌, ◌|
 use Rattle.std.proofs.Common.{sym, ap, ◌∙◌, arith, length-set, get_or-set_same, get_or-set_other, eqb-true}
 use Rattle.std.proofs.lemmas.List.{get_or-replicate}
 use Rattle.std.proofs.lemmas.Bool.{eqb-false}
-use Rattle.spec_lists.specs.laws.Both.{or_false}
+use Rattle.spec_lists.proofs.laws.Both.{or_false}
 use Rattle.spec_lists.specs.Select.{any, select, prepend_if}
 use Rattle.spec_token.specs.Word.{link_letter}
 use Rattle.spec_grammar.specs.declared.Role.TheVariants.{AsgName, Input}

@@ -43,7 +43,7 @@ token_read kinds roles p x r k lt n e =
     }
 
 -- another token, or none
-token_refused :
+pub token_refused :
     (kinds roles : List ℕ) (p x r : ℕ) (k : Stack) → x < 14 → (kind_at kinds (cursor.At p) ≡ x → ⊥)
     → Leads kinds roles (cursor.At p) (expected x r ∷ k) (stopped_at p)
 unfolding parse_at
@@ -69,13 +69,6 @@ module _ {kinds roles : List ℕ} {s : Cursor} where
       let g : x ≡ kind_at kinds (cursor.At p) = sym h ∙ v in
       let lt : p < length kinds = token_there kinds p (omega arith) in
       record { leads = λ k. rw e (token_read kinds roles p x r k lt n g); scratch = length-set roles p r; less = rw e (omega arith) }
-
-  pub expect_refused :
-      {p x y : ℕ} (r : ℕ) → s ≡ cursor.At p → y ≡ kind_at kinds (cursor.At p) → (y ≡ x → ⊥) → x < 14
-      → Reads 1 (expected x r ∷ []) kinds roles s roles (cursor.Stopped p)
-  unfolding remaining parse_at
-  expect_refused {p} {x} r e v h low =
-      record { leads = λ k. rw e (token_refused kinds roles p x r k low (λ q. h (v ∙ q))); scratch = refl; less = rw e (omega arith) }
 
   pub stays_stopped : (l : Stack) (d : ℕ) {i : ℕ} → s ≡ cursor.Stopped i → Reads d l kinds roles s roles s
   unfolding remaining parse_at

@@ -4,7 +4,7 @@ use Rattle.std.proofs.Common.{sym, ap, ap₂, ◌∙◌, add-one, arith, length-
 use Rattle.std.proofs.lemmas.List.{length-map}
 use Rattle.spec_lists.specs.Text.{same}
 use Rattle.spec_lists.specs.Select.{any}
-use Rattle.spec_lists.specs.laws.Any.{any_append, or_between}
+use Rattle.spec_lists.proofs.laws.Any.{any_append, or_between}
 use Rattle.spec_grammar.specs.declared.Role.TheVariants.{UagName, HagName, UagNamed, HagNamed}
 use Rattle.spec_grammar.specs.Sentence.{Tagged}
 use Rattle.load_tokens.specs.Arrays.{Arrays, role_of_number, tagged_at, tagged_from}

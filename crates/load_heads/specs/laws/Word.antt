@@ -2,7 +2,7 @@
 use Rattle.std.specs.Prelude.{◌≡◌, refl, Bool, true, false, ◌&&◌, ◌||◌, ℕ}
 use Rattle.std.proofs.Common.{sym, ap, ◌∙◌, arith}
 use Rattle.std.proofs.Math.Option.{Option, none, some}
-use Rattle.spec_lists.specs.laws.Both.{or_false}
+use Rattle.spec_lists.proofs.laws.Both.{or_false}
 use Rattle.spec_lists.specs.Select.{missing}
 use Rattle.spec_grammar.specs.declared.Role.TheVariants as role
 use Rattle.spec_grammar.specs.Codes.{same_role}

@@ -2,18 +2,18 @@
 use Rattle.std.specs.Prelude.{◌≡◌, List, [], ◌∷◌, ℕ, ◌≤◌}
 use Rattle.std.proofs.Common.{ap, ◌∙◌}
 use native.Mathlib.Omega.{arith}
-use Rattle.spec_lists.specs.laws.Sums.{sum, length_sum}
+use Rattle.spec_lists.proofs.laws.Sums.{sum, length_sum}
 use Rattle.spec_grammar.specs.declared.Role.TheVariants.{UagName, HagName}
 use Rattle.load_tokens.specs.Arrays.{Arrays, tagged_from}
 use Rattle.load_tokens.specs.Stores.{arrays_of}
 use Rattle.spec_file.specs.Limit.{user_groups, host_groups}
 use Rattle.spec_file.specs.Contents.{texts}
 use Rattle.spec_file.specs.Refusal.{contexts}
-use Rattle.spec_file.specs.laws.Counted.{once, clear, sum_texts, counted_roles}
+use Rattle.spec_file.proofs.laws.Counted.{once, clear, sum_texts, counted_roles}
 use Rattle.spec_file.specs.declared.Refusal.{Refusal}
 use Rattle.spec_file.specs.Load.{refuse, accept, verdict}
-use Rattle.spec_file.specs.laws.Causes.{unanswered}
-use Rattle.spec_file.specs.laws.Theorem.{accepted_is}
+use Rattle.spec_file.proofs.laws.Causes.{unanswered}
+use Rattle.spec_file.proofs.laws.Theorem.{accepted_is}
 use Rattle.load_spans.specs.Roles.{tally}
 use Rattle.load_spans.specs.laws.Roles.{tally_is}
 use Rattle.load_syntax.specs.declared.Judgment.{Judgment}

@@ -2,7 +2,7 @@
 use Rattle.std.specs.Prelude.{not, List, ℕ, ◌+◌, ◌*◌, ◌-◌, ◌≤◌, length}
 use Rattle.std.proofs.Common.{arith}
 use Rattle.spec_lists.specs.Every.{Every}
-use Rattle.spec_lists.specs.laws.Every.{every_run}
+use Rattle.spec_lists.proofs.laws.Every.{every_run}
 use Rattle.spec_grammar.specs.declared.Role.{Role}
 use Rattle.spec_grammar.specs.declared.Role.TheVariants.{AsgName, RuleWord, UagNamed, HagNamed}
 use Rattle.spec_grammar.specs.Sentence.{Tagged}

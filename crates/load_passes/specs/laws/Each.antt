@@ -36,8 +36,8 @@ each_bounded q m k one {b} {p} (x ∷ xs) (cons h e) l n =
     by_says
     q
     x
-    (λ s. rw s (bounded_more (omega arith) (each_bounded q m k one xs e (omega arith) (one x xs b p h e (omega arith) n))))
-    (λ s. rw s (bounded_more (omega arith) (each_bounded q m k one xs e (omega arith) n)))
+    (λ s. rw s (bounded_more (omega arith) (each_bounded q m k one {b = b + k} {p = m x xs p} xs e (omega arith) (one x xs b p h e (omega arith) n))))
+    (λ s. rw s (bounded_more (omega arith) (each_bounded q m k one {b = b} {p = p} xs e (omega arith) n)))
 
 -- e: what is written for a token; m: the cursor behind it
 module _ (q : Role) (e : Tagged → List Tagged → Cursor → List ℕ) (m : Tagged → List Tagged → Cursor → Cursor) where

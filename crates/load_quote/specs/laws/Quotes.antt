@@ -4,7 +4,7 @@ use Rattle.std.proofs.Common.{ap, ◌∙◌}
 use Rattle.spec_lists.specs.Text.{among}
 use Rattle.spec_token.specs.Word.{newline}
 use Rattle.spec_token.specs.Scanner.{Quoted, closed, broken, also, quoted}
-use Rattle.spec_token.specs.laws.Quotes.{Inside, further, closes, breaks, never_closes}
+use Rattle.spec_token.proofs.laws.Quotes.{Inside, further, closes, breaks, never_closes}
 use Rattle.load_quote.specs.declared.Act.{Act}
 use Rattle.load_quote.specs.declared.Act.TheVariants.{On, Close, Break}
 use Rattle.load_quote.specs.declared.Quote.TheVariants as quote

@@ -5,7 +5,7 @@ use Rattle.std.proofs.Math.Option.{some, none}
 use Rattle.std.proofs.Common.{ap, ◌∙◌, sym, arith, length-take, length-drop}
 use Rattle.std.proofs.lemmas.List.{length-map}
 use Rattle.spec_lists.specs.Every.{Every, nil, cons}
-use Rattle.spec_lists.specs.laws.Every.{every_select, every_run}
+use Rattle.spec_lists.proofs.laws.Every.{every_select, every_run}
 use Rattle.spec_lists.specs.Select.{run, keep_if, select, prepend_if}
 use Rattle.spec_grammar.specs.declared.Role.{Role}
 use Rattle.spec_grammar.specs.declared.Role.TheVariants.{AsgName}

@@ -8,7 +8,7 @@ use Rattle.spec_grammar.specs.Codes.{same_role}
 use Rattle.spec_grammar.specs.Sentence.{Tagged}
 use Rattle.spec_file.specs.Contents.{has_role, until}
 use Rattle.spec_file.specs.Refusal.{Context, given_again}
-use Rattle.spec_file.specs.laws.Counted.{role_is}
+use Rattle.spec_file.proofs.laws.Counted.{role_is}
 use Rattle.load_spans.specs.Roles.{arrays, tokens}
 use Rattle.load_spans.specs.laws.Seek.{seek_same, seek_either}
 use Rattle.load_spans.specs.Search.{first_of}

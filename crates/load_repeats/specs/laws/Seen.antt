@@ -5,8 +5,8 @@ use Rattle.std.proofs.lemmas.List.{length-map}
 use Rattle.std.proofs.lemmas.Bool.{eqb-false}
 use Rattle.spec_lists.specs.Text.{same}
 use Rattle.spec_lists.specs.Select.{any, keep_if}
-use Rattle.spec_lists.specs.laws.Any.{any_same, any_append}
-use Rattle.spec_lists.specs.laws.Joined.{map_append}
+use Rattle.spec_lists.proofs.laws.Any.{any_same, any_append}
+use Rattle.spec_lists.proofs.laws.Joined.{map_append}
 use Rattle.spec_grammar.specs.declared.Role.{Role}
 use Rattle.spec_grammar.specs.Codes.{role_number}
 use Rattle.spec_grammar.specs.Sentence.{Tagged}

@@ -3,7 +3,7 @@ use Rattle.std.specs.Prelude.{◌≡◌, refl, List, ℕ, ◌+◌, ◌≤◌, �
 use Rattle.std.proofs.Common.{sym, ap, ◌∙◌, arith, below_more}
 use Rattle.spec_token.specs.Token.{Token, bad}
 use Rattle.spec_token.specs.Scanner.{scanned, scan_from}
-use Rattle.spec_token.specs.laws.Steps.{from_end, prefixed, prefixed_more, prefixed_bad, prefixed_none}
+use Rattle.spec_token.proofs.laws.Steps.{from_end, prefixed, prefixed_more, prefixed_bad, prefixed_none}
 use Rattle.load_tokens.specs.Arrays.{Arrays, tokens_from}
 use Rattle.load_tokens.specs.Stores.{stored, Room, Good}
 use Rattle.load_tokens.specs.Scratch.{ScratchArrays}

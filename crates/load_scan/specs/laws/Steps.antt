@@ -7,8 +7,8 @@ use Rattle.spec_token.specs.Word.{name_byte}
 use Rattle.spec_token.specs.Token.{bad}
 use Rattle.spec_token.specs.Scanner.{word_kind, punctuation, nothing, comment, quote, stop, word, wrong, other, scan_from}
 use Rattle.spec_token.specs.Spans.{Span}
-use Rattle.spec_token.specs.laws.Spans.{span_more}
-use Rattle.spec_token.specs.laws.Steps.{word_named, from_nothing, from_comment, from_stop, from_word, from_wrong, from_closed, from_broken, from_unclosed}
+use Rattle.spec_token.proofs.laws.Spans.{span_more}
+use Rattle.spec_token.proofs.laws.Steps.{word_named, from_nothing, from_comment, from_stop, from_word, from_wrong, from_closed, from_broken, from_unclosed}
 use Rattle.spec_grammar.specs.Codes.{kind_number}
 use Rattle.load_tokens.specs.Arrays.{between}
 use Rattle.load_tokens.specs.laws.Arrays.{kind_back}

@@ -5,8 +5,8 @@ use Rattle.std.proofs.Math.Option.{Option, none, some}
 use Rattle.std.proofs.lemmas.List.{length-map}
 use Rattle.spec_lists.specs.Text.{same}
 use Rattle.spec_lists.specs.Select.{holds_of, any, select, prepend_if, run, keep_if, after, skip_if}
-use Rattle.spec_lists.specs.laws.Any.{any_map}
-use Rattle.spec_lists.specs.laws.Joined.{map_append, map_map}
+use Rattle.spec_lists.proofs.laws.Any.{any_map}
+use Rattle.spec_lists.proofs.laws.Joined.{map_append, map_map}
 use Rattle.spec_token.specs.Word.{link_letter}
 use Rattle.spec_grammar.specs.declared.Role.{Role}
 use Rattle.spec_grammar.specs.declared.Role.TheVariants.{UagName, HagName, AsgName, Input, RuleWord, UagNamed, HagNamed, CalcWord}

@@ -4,7 +4,7 @@ use Rattle.std.proofs.Common.{ap, ◌∙◌, add-one, arith, length-set, eq-eqb,
 use Rattle.std.proofs.lemmas.List.Edits.{sets, sets-eq}
 use Rattle.std.proofs.Math.Seq.{length-sets, take-append_seam}
 use Rattle.spec_lists.specs.Every.{Every, nil, cons}
-use Rattle.spec_lists.specs.laws.Every.{every_implies}
+use Rattle.spec_lists.proofs.laws.Every.{every_implies}
 use Rattle.spec_lists.specs.Select.{select, prepend_if}
 use Rattle.load_tokens.specs.Arrays.{role_of_number, tagged_at, tagged_from}
 use Rattle.spec_file.specs.Contents.{has_role, text, texts}

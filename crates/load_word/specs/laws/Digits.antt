@@ -7,7 +7,7 @@ use Rattle.spec_lists.specs.Select.{nonempty, run, after}
 use Rattle.spec_token.specs.Word.{unsigned}
 use Rattle.spec_token.specs.Scanner.{inp, digits, exponent, fraction}
 use Rattle.spec_token.specs.Spans.{Span}
-use Rattle.spec_token.specs.laws.Spans.{span_after}
+use Rattle.spec_token.proofs.laws.Spans.{span_after}
 
 some_more : (l : List ℕ) → 0 < length l → nonempty l ≡ true
 some_more [] h = absurd (omega arith)

@@ -2,8 +2,8 @@
 use Rattle.std.specs.Prelude.{List, [], ◌∷◌, map, ◌≡◌, refl, ℕ, suc, ◌+◌, length}
 use Rattle.std.proofs.Common.{ap, arith, length-append}
 use Rattle.std.proofs.lemmas.List.{length-map}
-use Rattle.spec_lists.specs.laws.Joined.{length_runs}
-use Rattle.spec_lists.specs.laws.Runs.{beside_length}
+use Rattle.spec_lists.proofs.laws.Joined.{length_runs}
+use Rattle.spec_lists.proofs.laws.Runs.{beside_length}
 use Rattle.spec_lists.specs.Runs.{runs}
 use Rattle.spec_lists.specs.Select.{joined}
 use Rattle.spec_grammar.specs.declared.Role.TheVariants.{UagName, HagName, User, Host, AsgName, Input, RuleWord}

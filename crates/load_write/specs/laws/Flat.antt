@@ -2,7 +2,7 @@
 use Rattle.std.specs.Prelude.{cond, Bool, true, false, not, List, [], ◌∷◌, map, ◌++◌, ◌≡◌, refl, suc, ℕ, length}
 use Rattle.std.proofs.Common.{ap, sym, ◌∙◌, eqb-true, ne_eqb}
 use Rattle.std.proofs.lemmas.Bool.{eqb-false}
-use Rattle.spec_lists.specs.laws.Joined.{map_map, map_joined}
+use Rattle.spec_lists.proofs.laws.Joined.{map_map, map_joined}
 use Rattle.spec_lists.specs.Select.{select, prepend_if, joined, keep_if, skip_if}
 use Rattle.spec_token.specs.Word.{link_letter}
 use Rattle.spec_grammar.specs.declared.Role.{Role}

@@ -7,7 +7,7 @@ use Rattle.std.proofs.Common.{◌∙◌, ap₂, add_assoc}
 use native.Mathlib.Omega.{arith}
 use Rattle.std.proofs.Math.ListN.{length, length-append}
 use Rattle.std.proofs.lemmas.List.{length-map}
-use Rattle.spec_lists.specs.laws.Joined.{joined_append, map_append}
+use Rattle.spec_lists.proofs.laws.Joined.{joined_append, map_append}
 use Rattle.spec_lists.specs.Runs.{runs, Run}
 use Rattle.spec_lists.specs.Select.{joined, beside, beside₃, prepend_if, select}
 use Rattle.spec_lists.specs.Text.{same}

@@ -3,8 +3,8 @@ use Rattle.std.specs.Prelude.{false, List, [], ◌∷◌, map, ◌++◌, ◌≡�
 use Rattle.std.proofs.Common.{append_assoc, append-nil, ap, ◌∙◌, sym, ap₂}
 use Rattle.std.proofs.Math.Option.{get_or}
 use Rattle.std.proofs.lemmas.List.{length-map}
-use Rattle.spec_lists.specs.laws.Joined.{map_map, map_joined, joined_append, map_append, runs_map}
-use Rattle.spec_lists.specs.laws.Runs.{runs_append}
+use Rattle.spec_lists.proofs.laws.Joined.{map_map, map_joined, joined_append, map_append, runs_map}
+use Rattle.spec_lists.proofs.laws.Runs.{runs_append}
 use Rattle.spec_lists.specs.Runs.{Run, runs}
 use Rattle.spec_lists.specs.Select.{joined}
 use Rattle.spec_lists.specs.Text.{lowered, lower_byte}

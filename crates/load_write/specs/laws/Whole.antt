@@ -2,7 +2,7 @@
 use Rattle.std.specs.Prelude.{List, [], ◌++◌, map, ◌≡◌, refl, ℕ, ◌+◌, ◌*◌, ◌-◌, length}
 use Rattle.std.proofs.Common.{append_assoc, append-nil, ap₂, ap, ◌∙◌, sym, arith, length-append}
 use Rattle.std.proofs.lemmas.List.{length-map}
-use Rattle.spec_lists.specs.laws.Joined.{joined_append}
+use Rattle.spec_lists.proofs.laws.Joined.{joined_append}
 use Rattle.spec_lists.specs.Select.{joined}
 use Rattle.spec_lists.specs.Text.{lowered}
 use Rattle.spec_lists.specs.Words.{spelled_out}
