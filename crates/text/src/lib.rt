@@ -1,4 +1,6 @@
 // The export: from a table to its text in lent bytes, or a refusal that leaves them as they are.
+#![tactic(auto)]
+
 ghost use Rattle.std.specs.Prelude.{◌≡◌};
 ghost use Rattle.spec_export.specs.Export.{export};
 

@@ -1,4 +1,6 @@
 // The body of a rule: the groups that it names, its calculation, and that it is switched off.
+#![tactic(auto)]
+
 ghost use Rattle.std.specs.Prelude.{◌≡◌};
 ghost use Rattle.spec_lists.specs.Select.{nonempty};
 ghost use Rattle.spec_file.specs.Limit.{rules, references};

@@ -1,4 +1,6 @@
 // User groups and host groups with their members.
+#![tactic(auto)]
+
 ghost use Rattle.std.specs.Prelude.{◌≡◌, true};
 ghost use Rattle.spec_table.specs.View.{view};
 ghost use Rattle.spec_table.specs.Check.{is_table};

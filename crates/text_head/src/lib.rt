@@ -1,4 +1,6 @@
 // What a rule's flags say: its head, and that it is switched off.
+#![tactic(auto)]
+
 ghost use Rattle.byte_write.specs.Put.{Put};
 ghost use Rattle.text_marks.specs.Room.{Room};
 ghost use Rattle.text_head.specs.Head.{permission_text, log_text, head_text, unknown_text};

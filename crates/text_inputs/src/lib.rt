@@ -1,4 +1,6 @@
 // The inputs of an access group.
+#![tactic(auto)]
+
 ghost use Rattle.spec_file.specs.Limit.{inputs};
 ghost use Rattle.spec_table.specs.View.{view};
 ghost use Rattle.spec_table.specs.Policy.{row};

@@ -1,4 +1,6 @@
 // Whether a checked table has no text: a string that cannot be quoted, or a text that a load would refuse.
+#![tactic(auto)]
+
 ghost use Rattle.std.specs.Prelude.{◌≡◌, true, ◌+◌, ◌≤◌, length};
 ghost use Rattle.spec_lists.specs.Select.{any};
 ghost use Rattle.spec_file.specs.Limit.{access_groups, rules, references};

@@ -1,4 +1,6 @@
 // The letters of a checked table's access group, and a calculation's letters among them.
+#![tactic(auto)]
+
 ghost use Rattle.std.specs.Prelude.{◌≡◌, ◌<◌, eqb};
 ghost use Rattle.spec_file.specs.Limit.{access_groups, inputs, rules};
 ghost use Rattle.spec_text.specs.Faults.{repeated};

@@ -1,4 +1,6 @@
 // Pieces of a text: words, quoted names, lists of names.
+#![tactic(auto)]
+
 ghost use Rattle.std.specs.Prelude.{◌<◌};
 ghost use Rattle.spec_table.specs.View.{view};
 ghost use Rattle.spec_text.specs.Lines.{quoted, called};

@@ -1,4 +1,6 @@
 // The names in a checked table's sections: whether they can be quoted, stand twice, or stand at all.
+#![tactic(auto)]
+
 ghost use Rattle.std.specs.Prelude.{◌≡◌, true, ◌+◌, drop};
 ghost use Rattle.spec_lists.specs.Text.{same};
 ghost use Rattle.spec_lists.specs.Select.{all, any};

@@ -1,4 +1,6 @@
 // Whether bytes can stand between quotes.
+#![tactic(auto)]
+
 ghost use Rattle.std.specs.Prelude.{◌≡◌, not, ◌&&◌};
 ghost use Rattle.spec_lists.specs.Text.{among};
 ghost use Rattle.spec_text.specs.Faults.{quotable};

@@ -1,4 +1,6 @@
 // The whole text of a checked table.
+#![tactic(auto)]
+
 ghost use Rattle.std.specs.Prelude.{◌≡◌, true, ◌<◌, length};
 ghost use Rattle.spec_file.specs.Limit.{access_groups};
 ghost use Rattle.spec_table.specs.View.{view};

@@ -3,13 +3,13 @@ use Rattle.std.specs.Prelude.{◌≡◌, true, false, List, [], ◌++◌, ℕ, �
 use Rattle.std.proofs.Math.Path.{refl}
 use Rattle.std.proofs.Common.{arith}
 use borrow.Author.Tests.{le-leb, lt-leb}
-use Rattle.spec_lists.specs.laws.Both.{both}
+use Rattle.spec_lists.proofs.laws.Both.{both}
 use Rattle.spec_table.specs.View.{view}
 use Rattle.spec_table.specs.Check.{sections_stand, well_formed, is_table}
 use Rattle.spec_export.specs.declared.Exported.TheVariants.{Written, NotTable, Unwritable, NoRoom}
 use Rattle.spec_export.specs.Unwritable.{text_in, unwritable}
 use Rattle.spec_export.specs.Export.{exported, export}
-use Rattle.spec_export.specs.laws.Bound.{text_in_bounded}
+use Rattle.spec_export.proofs.laws.Bound.{text_in_bounded}
 use Rattle.byte_write.specs.Put.{Put, usize_limit}
 use Rattle.byte_write.specs.laws.Room.{measured, too_long, HasRoom, room_written}
 

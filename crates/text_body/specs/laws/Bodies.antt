@@ -5,13 +5,13 @@ use Rattle.std.proofs.Math.Option.{none, some}
 use Rattle.spec_lists.specs.Text.{bytes}
 use Rattle.spec_lists.specs.Select.{nonempty}
 use Rattle.spec_lists.specs.Runs.{Run, part}
-use Rattle.spec_lists.specs.laws.Runs.{Within}
+use Rattle.spec_lists.proofs.laws.Runs.{Within}
 use Rattle.spec_file.specs.Limit.{rules, references}
 use Rattle.spec_table.specs.Layout.{Content}
 use Rattle.spec_table.specs.View.{view}
 use Rattle.spec_table.specs.Check.{flags_field, users_run, hosts_run, calculation_run, bits_from_4, no_calculation}
 use Rattle.spec_table.specs.Policy.{name, rule_of, row, set_bit}
-use Rattle.spec_table.specs.laws.Standing.{stands, references_within}
+use Rattle.spec_table.proofs.laws.Standing.{stands, references_within}
 use Rattle.spec_text.specs.Lines.{reference_line, calculation_line, unknown_line, ended}
 use Rattle.table_read.specs.Stored.{Stored}
 use Rattle.text_marks.specs.Names.{run, RunStored, names}

@@ -2,13 +2,13 @@
 use Rattle.std.specs.Prelude.{◌≡◌, refl, true, List, [], ◌∷◌, ◌++◌, ℕ, ◌<◌, length}
 use Rattle.std.proofs.Common.{sym, ap, ◌∙◌, append_assoc, arith}
 use Rattle.spec_lists.specs.Text.{bytes}
-use Rattle.spec_lists.specs.laws.Runs.{Within}
+use Rattle.spec_lists.proofs.laws.Runs.{Within}
 use Rattle.spec_file.specs.Limit.{Section, members}
 use Rattle.spec_table.specs.Layout.{Content, width}
 use Rattle.spec_table.specs.View.{view}
 use Rattle.spec_table.specs.Check.{well_formed, members_run}
 use Rattle.spec_table.specs.Policy.{name, members_of, row}
-use Rattle.spec_table.specs.laws.Standing.{stands, users_members, hosts_members}
+use Rattle.spec_table.proofs.laws.Standing.{stands, users_members, hosts_members}
 use Rattle.spec_text.specs.Lines.{quoted, called, headed, member_line, ended}
 use Rattle.table_read.specs.Stored.{Stored}
 use Rattle.text_marks.specs.Room.{Room}

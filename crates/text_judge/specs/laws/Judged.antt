@@ -4,16 +4,16 @@ use Rattle.std.proofs.Common.{sym, ap, ap₂, ◌∙◌, arith}
 use Rattle.std.proofs.Math.Dec.{eqb-suc-zero}
 use Rattle.spec_lists.specs.Text.{same}
 use Rattle.spec_lists.specs.Select.{any, nonempty}
-use Rattle.spec_lists.specs.laws.Any.{any_map}
-use Rattle.spec_lists.specs.laws.Joined.{map_map}
-use Rattle.spec_lists.specs.laws.Runs.{Within}
-use Rattle.spec_rule.specs.laws.Walk.{list_on, list_end, mapped_on, mapped_end, any_off, any_on}
+use Rattle.spec_lists.proofs.laws.Any.{any_map}
+use Rattle.spec_lists.proofs.laws.Joined.{map_map}
+use Rattle.spec_lists.proofs.laws.Runs.{Within}
+use Rattle.spec_rule.proofs.laws.Walk.{list_on, list_end, mapped_on, mapped_end, any_off, any_on}
 use Rattle.spec_file.specs.Limit.{Section, access_groups, rules, references}
 use Rattle.spec_file.specs.Contents.{Group, Asg}
 use Rattle.spec_table.specs.View.{view}
 use Rattle.spec_table.specs.Table.{run_at, rules_run}
 use Rattle.spec_table.specs.Policy.{name, row}
-use Rattle.spec_table.specs.laws.Standing.{stands, rules_within, references_within}
+use Rattle.spec_table.proofs.laws.Standing.{stands, rules_within, references_within}
 use Rattle.spec_text.specs.Faults.{nowhere_defined, repeated}
 use Rattle.spec_export.specs.Says.{group_in, names_in, asg_in, file_in}
 use Rattle.table_fields.specs.Field.{Word}

@@ -4,7 +4,7 @@ use Rattle.std.proofs.Common.{sym, ap, ap₂, ◌∙◌, eqb-true}
 use Rattle.std.proofs.lemmas.Bool.{false≢true}
 use Rattle.std.proofs.Math.Option.{Option, none, some}
 use Rattle.spec_lists.specs.Select.{all, any, holds_of, missing}
-use Rattle.spec_lists.specs.laws.Both.{both}
+use Rattle.spec_lists.proofs.laws.Both.{both}
 use Rattle.spec_calc.specs.Expression.{Tree}
 use Rattle.spec_calc.specs.Value.{letters}
 use Rattle.spec_calc.specs.Reader.{tree_of}
@@ -14,7 +14,7 @@ use Rattle.spec_table.specs.Layout.{Content}
 use Rattle.spec_table.specs.View.{view}
 use Rattle.spec_table.specs.Table.{calculation_run, no_calculation}
 use Rattle.spec_table.specs.Policy.{string, row}
-use Rattle.spec_table.specs.laws.Standing.{stands, calculation_there}
+use Rattle.spec_table.proofs.laws.Standing.{stands, calculation_there}
 use Rattle.spec_text.specs.Faults.{calculation_faulty}
 use Rattle.calc_letters.specs.Letters.{given_letter, byte_letters}
 use Rattle.calc_letters.specs.laws.Letters.{bytes_same}

@@ -4,18 +4,18 @@ use Rattle.std.proofs.Common.{sym, ap, ◌∙◌, arith, length-set, get_or-set_
 use Rattle.std.proofs.lemmas.Bool.{eqb-false}
 use Rattle.spec_lists.specs.Select.{any}
 use Rattle.spec_lists.specs.Runs.{part}
-use Rattle.spec_lists.specs.laws.Any.{any_same, or_between}
-use Rattle.spec_lists.specs.laws.Both.{or_false}
-use Rattle.spec_lists.specs.laws.Every.{all_every, every_at}
-use Rattle.spec_lists.specs.laws.Joined.{map_map}
-use Rattle.spec_rule.specs.laws.Walk.{read_on, read_end}
+use Rattle.spec_lists.proofs.laws.Any.{any_same, or_between}
+use Rattle.spec_lists.proofs.laws.Both.{or_false}
+use Rattle.spec_lists.proofs.laws.Every.{all_every, every_at}
+use Rattle.spec_lists.proofs.laws.Joined.{map_map}
+use Rattle.spec_rule.proofs.laws.Walk.{read_on, read_end}
 use Rattle.spec_token.specs.Word.{greatest_letter}
 use Rattle.spec_file.specs.Limit.{access_groups, inputs}
 use Rattle.spec_table.specs.View.{view}
 use Rattle.spec_table.specs.Table.{inputs_run, letter_field}
 use Rattle.spec_table.specs.Policy.{row}
-use Rattle.spec_table.specs.laws.Standing.{stands, inputs_within}
-use Rattle.spec_table.specs.laws.Table.{table_is}
+use Rattle.spec_table.proofs.laws.Standing.{stands, inputs_within}
+use Rattle.spec_table.proofs.laws.Table.{table_is}
 use Rattle.spec_text.specs.Faults.{repeated}
 use Rattle.spec_export.specs.Says.{link_in}
 use Rattle.table_fields.specs.Field.{Word}

@@ -4,7 +4,7 @@ use Rattle.std.proofs.Common.{sym, ap, ◌∙◌, append_assoc, append-nil}
 use Rattle.std.proofs.lemmas.Bool.{false≢true}
 use Rattle.spec_lists.specs.Text.{bytes}
 use Rattle.spec_lists.specs.Select.{nonempty, joined}
-use Rattle.spec_lists.specs.laws.Joined.{joined_append, map_append, map_map}
+use Rattle.spec_lists.proofs.laws.Joined.{joined_append, map_append, map_map}
 use Rattle.spec_text.specs.Lines.{headed, ended}
 use Rattle.text_marks.specs.Room.{Room}
 use Rattle.text_marks.specs.laws.Left.{room_first}

@@ -3,7 +3,7 @@ use Rattle.std.specs.Prelude.{◌≡◌, refl, Bool, true, false, not, ◌&&◌,
 use Rattle.std.proofs.Common.{◌∙◌, zero-add, suc-add, arith, length-drop, ne_eqb}
 use Rattle.spec_lists.specs.Select.{nonempty, joined}
 use Rattle.spec_lists.specs.Runs.{Run, part}
-use Rattle.spec_lists.specs.laws.Runs.{Within}
+use Rattle.spec_lists.proofs.laws.Runs.{Within}
 use Rattle.spec_table.specs.Check.{no_calculation}
 use Rattle.spec_table.specs.Policy.{set_bit}
 use Rattle.spec_text.specs.Lines.{headed}

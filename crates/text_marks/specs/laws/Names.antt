@@ -4,14 +4,14 @@ use Rattle.std.proofs.Common.{sym, ap, ◌∙◌, arith}
 use Rattle.std.proofs.lemmas.List.{length-map}
 use Rattle.spec_lists.specs.Text.{bytes}
 use Rattle.spec_lists.specs.Runs.{Run, part}
-use Rattle.spec_lists.specs.laws.Runs.{Within}
-use Rattle.spec_rule.specs.laws.Walk.{list_on, part_count, read_on, read_end}
+use Rattle.spec_lists.proofs.laws.Runs.{Within}
+use Rattle.spec_rule.proofs.laws.Walk.{list_on, part_count, read_on, read_end}
 use Rattle.spec_file.specs.Limit.{Section, most}
 use Rattle.spec_table.specs.Layout.{Content}
 use Rattle.spec_table.specs.View.{view}
 use Rattle.spec_table.specs.Policy.{name, row}
-use Rattle.spec_table.specs.laws.Bytes.{each}
-use Rattle.spec_table.specs.laws.Standing.{stands, records_few}
+use Rattle.spec_table.proofs.laws.Bytes.{each}
+use Rattle.spec_table.proofs.laws.Standing.{stands, records_few}
 use Rattle.spec_text.specs.Lines.{quoted}
 use Rattle.text_marks.specs.Names.{run, RunStored, names, listed, others}
 use Rattle.text_marks.specs.laws.Left.{texts_on, texts_end}

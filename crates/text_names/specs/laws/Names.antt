@@ -3,8 +3,8 @@ use Rattle.std.specs.Prelude.{◌≡◌, refl, Bool, true, false, ◌&&◌, ◌|
 use Rattle.std.proofs.Common.{sym, ap, ap₂, ◌∙◌}
 use Rattle.spec_lists.specs.Text.{same}
 use Rattle.spec_lists.specs.Select.{all, any, joined}
-use Rattle.spec_lists.specs.laws.Every.{all_append}
-use Rattle.spec_rule.specs.laws.Walk.{list_on, list_end, mapped_on, mapped_end, any_off, any_on}
+use Rattle.spec_lists.proofs.laws.Every.{all_append}
+use Rattle.spec_rule.proofs.laws.Walk.{list_on, list_end, mapped_on, mapped_end, any_off, any_on}
 use Rattle.spec_file.specs.Limit.{Section, user_groups, host_groups, members, access_groups, inputs, rules, references}
 use Rattle.spec_table.specs.Layout.{sections}
 use Rattle.spec_table.specs.View.{view}

@@ -2,7 +2,7 @@
 use Rattle.std.specs.Prelude.{◌≡◌, refl, Bool, true, false, not, ◌&&◌, List, ◌∷◌, ℕ, ◌+◌, ◌≤◌, ◌<◌, length, drop, get_or}
 use Rattle.std.proofs.Common.{sym, ap, ◌∙◌}
 use Rattle.spec_lists.specs.Text.{among}
-use Rattle.spec_rule.specs.laws.Walk.{list_on, list_end}
+use Rattle.spec_rule.proofs.laws.Walk.{list_on, list_end}
 use Rattle.spec_text.specs.Faults.{quotable, quotable_from}
 
 -- a bare byte, in the form of the code's test

@@ -4,14 +4,14 @@ use Rattle.std.proofs.Common.{sym, ap, ap₂, ◌∙◌, append_assoc, arith}
 use Rattle.spec_lists.specs.Text.{bytes}
 use Rattle.spec_lists.specs.Select.{nonempty, joined}
 use Rattle.spec_lists.specs.Runs.{part}
-use Rattle.spec_lists.specs.laws.Joined.{map_map}
-use Rattle.spec_lists.specs.laws.Runs.{Within}
+use Rattle.spec_lists.proofs.laws.Joined.{map_map}
+use Rattle.spec_lists.proofs.laws.Runs.{Within}
 use Rattle.spec_file.specs.Limit.{access_groups, inputs, rules}
 use Rattle.spec_table.specs.Layout.{Content}
 use Rattle.spec_table.specs.View.{view}
 use Rattle.spec_table.specs.Check.{inputs_run, rules_run}
 use Rattle.spec_table.specs.Policy.{name, row, set_bit}
-use Rattle.spec_table.specs.laws.Standing.{stands, inputs_within, rules_within}
+use Rattle.spec_table.proofs.laws.Standing.{stands, inputs_within, rules_within}
 use Rattle.spec_text.specs.Lines.{quoted, called, link_line, rule_head, predicate_lines, rule_lines, ended}
 use Rattle.spec_export.specs.Says.{link_in, rule_text_in, asg_in}
 use Rattle.table_read.specs.Stored.{Stored}

@@ -3,7 +3,7 @@ use Rattle.std.specs.Prelude.{◌≡◌, List, ◌++◌, map, ℕ, ◌<◌, leng
 use Rattle.std.proofs.Common.{ap, ap₂, ◌∙◌, arith}
 use Rattle.spec_lists.specs.Text.{bytes}
 use Rattle.spec_lists.specs.Select.{joined}
-use Rattle.spec_lists.specs.laws.Joined.{map_map}
+use Rattle.spec_lists.proofs.laws.Joined.{map_map}
 use Rattle.spec_file.specs.Limit.{user_groups, host_groups, access_groups}
 use Rattle.spec_table.specs.Layout.{Content}
 use Rattle.spec_text.specs.Lines.{group_lines, asg_lines, ended, text_of}

@@ -1,0 +1,14 @@
+use Rattle.text_names.specs.Names.{names}
+use Rattle.table_read.specs.Stored.{section}
+use Rattle.spec_text.specs.Faults.{repeated}
+use Rattle.spec_lists.specs.Text.{same}
+use lib.ListN.{drop}
+use Prim.Native.Nat.{◌-◌}
+use mathlib.Core.Path.{◌≡◌}
+use Rattle.text_names.proofs.name_repeated.Given as goal
+
+abbrev pub invariant-loop-i : goal.invariant-loop-i
+invariant-loop-i l = repeated same (names l.table (section l.s)) ≡ repeated same (drop l.i (names l.table (section l.s)))
+
+abbrev pub decreases-loop-i : goal.decreases-loop-i
+decreases-loop-i l = l.n - l.i
