@@ -1,4 +1,6 @@
 // One place of a register: its client removed, its right told. Any bytes are taken.
+#![tactic(auto)]
+
 ghost use Rattle.std.specs.Prelude.{◌≡◌};
 ghost use Rattle.spec_places.specs.Storage.{right_in};
 ghost use Rattle.spec_places.specs.Calls.{told_removed, places_removed};

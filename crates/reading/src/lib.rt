@@ -1,4 +1,6 @@
 // A gateway's readings: one set, and the rights that follow from it. Any bytes are taken.
+#![tactic(auto)]
+
 ghost use Rattle.spec_places.specs.Storage.{lent};
 ghost use Rattle.spec_places.specs.Calls.{told_set, left_set};
 ghost use Rattle.reg_set.specs.Set.{Given};

@@ -1,4 +1,6 @@
 // The bytes of a register's places: what stands in them, and which place is free.
+#![tactic(auto)]
+
 ghost use Rattle.std.specs.Prelude.{◌≡◌, [], ◌+◌, ◌<◌, length, get_or};
 ghost use Rattle.spec_rule.specs.Kept.{says_stands};
 ghost use Rattle.spec_places.specs.Storage.{lent, at_place, kept_at, are_places, client_from, length_at};

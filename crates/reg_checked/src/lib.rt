@@ -1,4 +1,6 @@
 // A client added and changed, over a table that was checked.
+#![tactic(auto)]
+
 ghost use Rattle.std.specs.Prelude.{◌≡◌, true};
 ghost use Rattle.spec_table.specs.Check.{is_table};
 ghost use Rattle.spec_register.specs.Register.{client_of};

@@ -1,4 +1,6 @@
 // A register's readings cleared after a load, and whether its slices are long enough.
+#![tactic(auto)]
+
 ghost use Rattle.std.specs.Prelude.{◌≡◌, [], ◌≤◌, length, replicate};
 ghost use Rattle.std.proofs.lemmas.List.Edits.{sets};
 ghost use Rattle.spec_places.specs.Storage.{lent, all_readings};

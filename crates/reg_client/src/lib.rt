@@ -1,10 +1,12 @@
 // A client entered into its place, with what a table keeps for it.
+#![tactic(auto)]
+
 ghost use Rattle.std.specs.Prelude.{◌≡◌, true};
 ghost use Rattle.spec_table.specs.Check.{is_table};
 ghost use Rattle.spec_register.specs.Register.{client_of};
 ghost use Rattle.spec_places.specs.Storage.{readings_in};
 ghost use Rattle.spec_places.specs.Writing.{entered};
-ghost use Rattle.spec_places.specs.laws.Fits.{Fits};
+ghost use Rattle.spec_places.proofs.laws.Fits.{Fits};
 ghost use Rattle.reg_bytes.specs.Placed.{Placed};
 ghost use Rattle.reg_enter.specs.Entered.{Left};
 

@@ -1,11 +1,13 @@
 // A client entered into its place, or a place made free, and whether its right has changed by that.
+#![tactic(auto)]
+
 ghost use Rattle.std.specs.Prelude.{◌≡◌, ◌*◌, ◌<◌, ◌^◌};
 ghost use Rattle.spec_rule.specs.Kept.{bit};
 ghost use Rattle.spec_register.specs.Register.{most_clients, client_of};
 ghost use Rattle.spec_register.specs.Right.{differ};
 ghost use Rattle.spec_rule.specs.Number.{decision_from};
 ghost use Rattle.spec_places.specs.Writing.{freed};
-ghost use Rattle.spec_places.specs.laws.Fits.{Fits};
+ghost use Rattle.spec_places.proofs.laws.Fits.{Fits};
 ghost use Rattle.reg_bytes.specs.Placed.{Placed};
 ghost use Rattle.reg_kept.specs.Kept.{kept_bytes, Keeps};
 ghost use Rattle.reg_enter.specs.Entered.{Enters, Left};

@@ -1,4 +1,6 @@
 // Rights renewed after a reading: of all places that an access group answers for.
+#![tactic(auto)]
+
 ghost use Rattle.spec_file.specs.Limit.{access_groups};
 ghost use Rattle.spec_places.specs.Storage.{readings_in};
 ghost use Rattle.table_read.specs.Stored.{Stored};

@@ -1,4 +1,6 @@
 // The inputs of a group's calculations, straight from the states and values of a register: no reading is made and taken apart again.
+#![tactic(auto)]
+
 ghost use Rattle.std.specs.Prelude.{◌≡◌, map, ◌<◌, get_or};
 ghost use Rattle.std.specs.Float.{nan};
 ghost use Rattle.spec_calc.specs.Value.{heard, good};

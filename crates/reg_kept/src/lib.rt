@@ -1,4 +1,6 @@
 // What a place keeps of its client: which access group answers, the right, and which rules of that group stand.
+#![tactic(auto)]
+
 ghost use Rattle.std.specs.Prelude.{◌≡◌, true, ◌<◌};
 ghost use Rattle.spec_file.specs.Limit.{access_groups};
 ghost use Rattle.spec_table.specs.Check.{is_table};
@@ -9,7 +11,7 @@ ghost use Rattle.reg_kept.specs.Kept.{Keeps, kept_by_number, kept_of, outcomes_n
 use table_read::{Index, Section};
 
 // The number of the answering group and 1, or 0; the right's code; and of each of the group's rules, count of them, 1 if it stands.
-#[derive(Drop)]
+#[derive(Clone, Copy)]
 pub struct Kept {
     pub number: u8,
     pub right: u8,

@@ -1,4 +1,6 @@
 // Whether a call on a client is refused, and at which place it is made if not.
+#![tactic(auto)]
+
 ghost use Rattle.std.specs.Prelude.{◌≡◌, not, []};
 ghost use Rattle.spec_register.specs.Register.{client_of};
 ghost use Rattle.spec_register.specs.Refusal.{long_name, no_client};
@@ -9,7 +11,7 @@ ghost use Rattle.reg_refuse.specs.Room.{room_to_add, room_to_change, room_to_rem
 use spec_register::Refused;
 
 // The place that a call is about, or why it is refused.
-#[derive(Drop)]
+#[derive(Clone, Copy)]
 pub enum Room {
     At(usize),
     Refused(Refused),

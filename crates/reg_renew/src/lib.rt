@@ -1,4 +1,6 @@
 // Rights renewed after a reading: of each place that an access group answers for, by what is kept there.
+#![tactic(auto)]
+
 ghost use Rattle.std.specs.Prelude.{◌≡◌, ◌≤◌, length};
 ghost use Rattle.spec_file.specs.Limit.{access_groups, rules, most};
 ghost use Rattle.table_read.specs.Stored.{Stored};

@@ -1,4 +1,6 @@
 // Whether a right has changed, from the bytes that a place kept of it before and keeps after.
+#![tactic(auto)]
+
 ghost use Rattle.std.specs.Prelude.{◌≡◌};
 ghost use Rattle.spec_rule.specs.Kept.{bit};
 ghost use Rattle.spec_rule.specs.Number.{decision_from};

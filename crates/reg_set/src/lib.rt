@@ -1,4 +1,6 @@
 // A reading set: its state and value written, and the rights of its group's places renewed.
+#![tactic(auto)]
+
 ghost use Rattle.std.specs.Prelude.{◌≡◌, true, ◌<◌};
 ghost use Rattle.spec_file.specs.Limit.{access_groups};
 ghost use Rattle.spec_table.specs.Check.{is_table};

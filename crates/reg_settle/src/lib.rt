@@ -1,4 +1,6 @@
 // Rights settled after a load: of each client anew by the new table, no reading heard.
+#![tactic(auto)]
+
 ghost use Rattle.std.specs.Prelude.{◌≡◌, true};
 ghost use Rattle.spec_table.specs.Check.{is_table};
 ghost use Rattle.reg_bytes.specs.Placed.{Placed};

@@ -1,10 +1,12 @@
 // Writing into a register's places: a client, what is kept of it, and a place made free.
+#![tactic(auto)]
+
 ghost use Rattle.std.specs.Prelude.{◌≡◌, [], ◌∷◌, ◌+◌, ◌≤◌, ◌<◌, length, take};
 ghost use Rattle.std.proofs.lemmas.List.Edits.{sets};
 ghost use Rattle.spec_register.specs.Register.{client_of};
 ghost use Rattle.spec_places.specs.Storage.{at_place, kept_at, client_bytes};
 ghost use Rattle.spec_places.specs.Writing.{freed};
-ghost use Rattle.spec_places.specs.laws.Fits.{Fits};
+ghost use Rattle.spec_places.proofs.laws.Fits.{Fits};
 ghost use Rattle.reg_bytes.specs.Placed.{Placed};
 
 // A client's five bytes before its names.

@@ -1,4 +1,6 @@
 // A gateway's clients, added and changed. Any bytes are taken.
+#![tactic(auto)]
+
 ghost use Rattle.std.specs.Prelude.{◌≡◌};
 ghost use Rattle.spec_register.specs.Register.{client_of};
 ghost use Rattle.spec_places.specs.Storage.{lent};

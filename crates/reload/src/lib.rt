@@ -1,4 +1,6 @@
 // A load under a register: the table, every reading never heard, and each right by the new table.
+#![tactic(auto)]
+
 ghost use Rattle.reload.specs.Reload.{ReloadsAny};
 
 use spec_load::Loaded;

@@ -1,7 +1,7 @@
 -- What functions of one place ask for, from the test of the whole.
 use Rattle.std.specs.Prelude.{◌≡◌, true, ◌&&◌, List, ℕ, ◌<◌, length}
 use Rattle.std.proofs.Common.{leb-true}
-use Rattle.spec_lists.specs.laws.Both.{both}
+use Rattle.spec_lists.proofs.laws.Both.{both}
 use Rattle.spec_register.specs.Register.{most_clients}
 use Rattle.spec_places.specs.Storage.{Lent, are_places, places_bytes}
 use Rattle.spec_places.specs.Calls.{is_register, are_states, are_values}

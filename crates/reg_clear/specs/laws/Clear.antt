@@ -2,7 +2,7 @@
 use Rattle.std.specs.Prelude.{◌≡◌, refl, true, List, ℕ, suc, ◌-◌, ◌≤◌, ◌<◌, length, set, replicate}
 use Rattle.std.proofs.Common.{sym, ap, ◌∙◌, arith, length-set, leb-true}
 use Rattle.std.proofs.lemmas.List.Edits.{sets}
-use Rattle.spec_lists.specs.laws.Both.{both}
+use Rattle.spec_lists.proofs.laws.Both.{both}
 use Rattle.spec_places.specs.Storage.{Lent, places_bytes, all_readings, are_places}
 use Rattle.spec_places.specs.Calls.{are_states, has_room}
 use Rattle.reg_bytes.specs.Placed.{Placed}

@@ -12,11 +12,11 @@ use Rattle.spec_rule.specs.Number.{decision_from}
 use Rattle.spec_places.specs.Storage.{at_place, kept_at, client_bytes, nothing_kept, right_in}
 use Rattle.spec_places.specs.Writing.{kept, entered, freed}
 use Rattle.spec_places.specs.Calls.{differing_in}
-use Rattle.spec_places.specs.laws.Fits.{Fits}
-use Rattle.spec_places.specs.laws.Frame.{entered_local, freed_local}
-use Rattle.spec_places.specs.laws.Own.{right_entered, right_freed}
-use Rattle.spec_places.specs.laws.Records.{right_read}
-use Rattle.spec_places.specs.laws.Changed.{changed_by}
+use Rattle.spec_places.proofs.laws.Fits.{Fits}
+use Rattle.spec_places.proofs.laws.Frame.{entered_local, freed_local}
+use Rattle.spec_places.proofs.laws.Own.{right_entered, right_freed}
+use Rattle.spec_places.proofs.laws.Records.{right_read}
+use Rattle.spec_places.proofs.laws.Changed.{changed_by}
 use Rattle.reg_bytes.specs.Placed.{Placed}
 use Rattle.reg_enter.specs.Entered.{Left, Enters}
 

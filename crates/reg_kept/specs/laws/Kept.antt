@@ -5,20 +5,20 @@ use Rattle.std.proofs.Math.Option.{Option}
 use Rattle.std.proofs.lemmas.List.{length-replicate}
 use Rattle.std.proofs.lemmas.List.Edits.{sets}
 use Rattle.std.proofs.Math.Seq.{length-sets}
-use Rattle.spec_lists.specs.laws.Sets.{part_sets_all}
+use Rattle.spec_lists.proofs.laws.Sets.{part_sets_all}
 use Rattle.spec_rule.specs.declared.Decision.{Decision}
 use Rattle.spec_rule.specs.Decision.{decision_by}
 use Rattle.spec_rule.specs.Number.{decision_number}
 use Rattle.spec_file.specs.Limit.{access_groups, rules, most}
 use Rattle.spec_table.specs.View.{view}
 use Rattle.spec_table.specs.Check.{is_table}
-use Rattle.spec_table.specs.laws.Standing.{stands, records_few}
+use Rattle.spec_table.proofs.laws.Standing.{stands, records_few}
 use Rattle.spec_decision.specs.Groups.{answering_number}
 use Rattle.spec_register.specs.Register.{Client, client_of, never_heard, letters}
 use Rattle.spec_places.specs.Storage.{nothing_kept, readings_in}
 use Rattle.spec_places.specs.Writing.{kept_by, kept}
-use Rattle.spec_places.specs.laws.Numbers.{kept_agrees}
-use Rattle.spec_places.specs.laws.Readings.{none_heard}
+use Rattle.spec_places.proofs.laws.Numbers.{kept_agrees}
+use Rattle.spec_places.proofs.laws.Readings.{none_heard}
 use Rattle.table_fields.specs.Field.{Word}
 use Rattle.table_read.specs.declared.Index.{Index}
 use Rattle.table_read.specs.declared.Index.TheVariants.{At, Missing}

@@ -4,14 +4,14 @@ use Rattle.std.proofs.Common.{sym, ap, ap₂, ◌∙◌, arith, leb-true, leb-fa
 use Rattle.std.proofs.Math.Option.{Option, none, some}
 use Rattle.std.proofs.lemmas.Bool.{eqb-false}
 use Rattle.spec_lists.specs.Select.{missing}
-use Rattle.spec_lists.specs.laws.Both.{absurd_bool}
+use Rattle.spec_lists.proofs.laws.Both.{absurd_bool}
 use Rattle.spec_rule.specs.Kept.{says_stands}
 use Rattle.spec_register.specs.Register.{Client, most_clients}
 use Rattle.spec_register.specs.Refusal.{lowest_free, no_client, all_taken}
-use Rattle.spec_register.specs.laws.Lowest.{lowest_within}
+use Rattle.spec_register.proofs.laws.Lowest.{lowest_within}
 use Rattle.spec_places.specs.Storage.{at_place, client_in, client_from, clients_in, standing_in}
 use Rattle.spec_places.specs.Calls.{free_in}
-use Rattle.spec_register.specs.laws.From.{given_length, given_at, given_beyond}
+use Rattle.spec_register.proofs.laws.From.{given_length, given_at, given_beyond}
 
 -- a level that is none is too high
 pub high : (n m : ℕ) → not (leb n m) ≡ ltb m n

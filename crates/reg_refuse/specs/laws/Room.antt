@@ -21,7 +21,7 @@ pub added_by :
     (s : Lent) (c : Client) {t l v f : Bool} {p : ℕ} → is_register s ≡ t → long_name c ≡ l → bad_level c ≡ v
     → all_taken (standing_in s.places) ≡ f → p ≡ free_in s.places → add_room t l v f p ≡ room_to_add s c
 unfolding room_to_add
-added_by s c e g h i j = cc
+added_by s c e g h i j = rw (e, g, h, i, j) refl
 
 -- no client, long name, bad level
 abbrev change_room : Bool → Bool → Bool → Bool → ℕ → Room

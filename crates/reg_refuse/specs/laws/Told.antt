@@ -17,8 +17,8 @@ use Rattle.spec_register.specs.Calls.{unless, added_at, changed_or}
 use Rattle.spec_places.specs.Storage.{Lent, are_places, standing_in, readings_in}
 use Rattle.spec_places.specs.Writing.{entered, freed}
 use Rattle.spec_places.specs.Calls.{is_register, free_in, differing_in, places_added, told_added, places_changed, told_changed, places_removed, told_removed}
-use Rattle.spec_places.specs.laws.Behind.{but_table}
-use Rattle.spec_places.specs.laws.Fits.{Fits, not_first, fits_added, fits_changed}
+use Rattle.spec_places.proofs.laws.Behind.{but_table}
+use Rattle.spec_places.proofs.laws.Fits.{Fits, not_first, fits_added, fits_changed}
 use Rattle.reg_bytes.specs.Placed.{Placed}
 use Rattle.reg_bytes.specs.laws.Placed.{placed, has_places}
 use Rattle.reg_refuse.specs.declared.Room.{Room}

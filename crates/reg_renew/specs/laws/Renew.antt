@@ -4,24 +4,24 @@ use Rattle.std.proofs.Common.{sym, ap, ap₂, ◌∙◌, le_refl, arith, length-
 use Rattle.std.proofs.lemmas.List.{length-replicate, length-map}
 use Rattle.std.proofs.Math.Seq.{length-sets}
 use Rattle.spec_lists.specs.Runs.{part}
-use Rattle.spec_lists.specs.laws.Sets.{part_sets_all}
+use Rattle.spec_lists.proofs.laws.Sets.{part_sets_all}
 use Rattle.spec_calc.specs.declared.Reading.{Reading}
 use Rattle.spec_rule.specs.declared.Decision.{Decision}
 use Rattle.spec_rule.specs.Kept.{bit, outcome_byte, outcome_bytes, kept_decision}
 use Rattle.spec_rule.specs.Rule.{outcome}
 use Rattle.spec_rule.specs.Number.{decision_number, decision_from}
-use Rattle.spec_rule.specs.laws.Kept.{outcome_bytes_enough}
+use Rattle.spec_rule.proofs.laws.Kept.{outcome_bytes_enough}
 use Rattle.spec_file.specs.Limit.{rules, most}
 use Rattle.spec_table.specs.Check.{is_table}
 use Rattle.spec_register.specs.Register.{most_clients}
 use Rattle.spec_register.specs.Right.{differ}
 use Rattle.spec_places.specs.Storage.{kept_at, right_in}
 use Rattle.spec_places.specs.Writing.{rules_at, kept_right, renewed}
-use Rattle.spec_places.specs.laws.Fits.{rules_length}
-use Rattle.spec_places.specs.laws.Records.{right_read}
-use Rattle.spec_places.specs.laws.Frame.{renewed_local}
-use Rattle.spec_places.specs.laws.Own.{renewed_other, renewed_here}
-use Rattle.spec_places.specs.laws.Changed.{differ_same, bits_small, bits_fit, Visited, visited_none, visited_more, visited_all}
+use Rattle.spec_places.proofs.laws.Fits.{rules_length}
+use Rattle.spec_places.proofs.laws.Records.{right_read}
+use Rattle.spec_places.proofs.laws.Frame.{renewed_local}
+use Rattle.spec_places.proofs.laws.Own.{renewed_other, renewed_here}
+use Rattle.spec_places.proofs.laws.Changed.{differ_same, bits_small, bits_fit, Visited, visited_none, visited_more, visited_all}
 use Rattle.ask_kept.specs.Kept.{decision_kept}
 use Rattle.reg_bytes.specs.Placed.{Placed}
 use Rattle.reg_kept.specs.Kept.{outcomes_from}

@@ -4,9 +4,9 @@ use Rattle.std.proofs.Common.{sym, ap, ◌∙◌, eqb-true}
 use Rattle.std.proofs.lemmas.Bool.{eqb-false}
 use Rattle.spec_rule.specs.declared.Decision.{Decision}
 use Rattle.spec_rule.specs.Number.{decision_number, decision_from}
-use Rattle.spec_rule.specs.laws.Number.{decision_again, letter_known}
+use Rattle.spec_rule.proofs.laws.Number.{decision_again, letter_known}
 use Rattle.spec_register.specs.Right.{differ}
-use Rattle.spec_register.specs.laws.Changed.{differ_self, differ_is}
+use Rattle.spec_register.proofs.laws.Changed.{differ_self, differ_is}
 
 read_again : (n : ℕ) → decision_from (decision_number (decision_from n)) ≡ decision_from n
 read_again n = decision_again (decision_from n) (letter_known (n / 8))

@@ -15,11 +15,11 @@ use Rattle.spec_register.specs.declared.Changed.TheVariants as changed
 use Rattle.spec_register.specs.declared.Refused.{Refused}
 use Rattle.spec_register.specs.declared.Refused.TheVariants.{NotRegister, NotTable, NoInput}
 use Rattle.spec_register.specs.Calls.{unless, changed_or}
-use Rattle.spec_register.specs.laws.Input.{letter_few}
+use Rattle.spec_register.proofs.laws.Input.{letter_few}
 use Rattle.spec_places.specs.Storage.{Lent, lent, places_bytes, all_readings, readings_in}
 use Rattle.spec_places.specs.Writing.{each, renewed}
 use Rattle.spec_places.specs.Calls.{is_register, told_set, left_set, with_reading_in, differing_in}
-use Rattle.spec_places.specs.laws.Settled.{has_places, has_states, has_values}
+use Rattle.spec_places.proofs.laws.Settled.{has_places, has_states, has_values}
 use Rattle.table_read.specs.declared.Index.{Index}
 use Rattle.table_read.specs.declared.Index.TheVariants.{At, Missing}
 use Rattle.table_read.specs.Search.{index_of, number_full, FindsInput}

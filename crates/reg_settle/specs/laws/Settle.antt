@@ -5,7 +5,7 @@ use Rattle.std.proofs.Common.{sym, ap, ap₂, subst, ◌∙◌, arith}
 use Rattle.std.proofs.Math.Option.{Option, none, some}
 use Rattle.std.proofs.lemmas.List.Edits.{sets}
 use Rattle.std.proofs.Math.Seq.{length-sets}
-use Rattle.spec_lists.specs.laws.Sets.{get_d_sets}
+use Rattle.spec_lists.proofs.laws.Sets.{get_d_sets}
 use Rattle.spec_rule.specs.declared.Decision.{Decision}
 use Rattle.spec_rule.specs.Kept.{bit, says_stands}
 use Rattle.spec_register.specs.Register.{Client, client_of, most_clients, never_heard}
@@ -13,11 +13,11 @@ use Rattle.spec_register.specs.Right.{differ}
 use Rattle.spec_rule.specs.Number.{decision_from}
 use Rattle.spec_places.specs.Storage.{at_place, kept_at, client_from, readings_in, right_in}
 use Rattle.spec_places.specs.Writing.{kept, settled_client, settled}
-use Rattle.spec_places.specs.laws.Fits.{kept_length, kept_least}
-use Rattle.spec_places.specs.laws.Records.{right_read}
-use Rattle.spec_places.specs.laws.Frame.{settled_local}
-use Rattle.spec_places.specs.laws.Own.{settled_free}
-use Rattle.spec_places.specs.laws.Changed.{differ_same, bits_fit, Visited, visited_none, visited_more, visited_all}
+use Rattle.spec_places.proofs.laws.Fits.{kept_length, kept_least}
+use Rattle.spec_places.proofs.laws.Records.{right_read}
+use Rattle.spec_places.proofs.laws.Frame.{settled_local}
+use Rattle.spec_places.proofs.laws.Own.{settled_free}
+use Rattle.spec_places.proofs.laws.Changed.{differ_same, bits_fit, Visited, visited_none, visited_more, visited_all}
 use Rattle.reg_bytes.specs.Placed.{Placed}
 use Rattle.reg_kept.specs.declared.Kept.{Kept}
 use Rattle.reg_kept.specs.Kept.{Keeps, kept_bytes, kept_of}

@@ -7,13 +7,13 @@ use Rattle.spec_table.specs.Check.{is_table}
 use Rattle.spec_load.specs.declared.Loaded.{Loaded}
 use Rattle.spec_load.specs.declared.Loaded.TheVariants as loaded
 use Rattle.spec_load.specs.Load.{Result, is_accepted, load}
-use Rattle.spec_load.specs.laws.Load.{refused_leaves}
+use Rattle.spec_load.proofs.laws.Load.{refused_leaves}
 use Rattle.spec_register.specs.declared.Reloaded.{Reloaded}
 use Rattle.spec_register.specs.declared.Reloaded.TheVariants as reloaded
 use Rattle.spec_register.specs.Calls.{reloaded_as}
 use Rattle.spec_places.specs.Storage.{Lent, lent, all_readings}
 use Rattle.spec_places.specs.Calls.{has_room, differing_in, reloaded_by, left_reloaded, told_reloaded}
-use Rattle.spec_demand.specs.laws.Exact.{leaves_table}
+use Rattle.spec_demand.proofs.laws.Exact.{leaves_table}
 use Rattle.reg_settle.specs.Settle.{AllSettled}
 use Rattle.reload.specs.Reload.{Reloads}
 
