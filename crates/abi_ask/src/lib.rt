@@ -1,4 +1,6 @@
 // The library's functions for C that decide a question. include/hrazvanut.h calls them.
+#![tactic(auto)]
+
 ghost use Rattle.std.specs.Prelude.{◌≡◌, true};
 ghost use Rattle.spec_table.specs.Check.{is_table};
 ghost use Rattle.abi_ask.specs.Answers.{Answers};

@@ -1,4 +1,6 @@
 // The library's function for C that tells which calculations are allowed. include/hrazvanut.h calls it.
+#![tactic(auto)]
+
 ghost use Rattle.std.specs.Prelude.{◌≡◌, not};
 ghost use Rattle.spec_lists.specs.Select.{missing};
 ghost use Rattle.spec_calc.specs.Reader.{tree_of};

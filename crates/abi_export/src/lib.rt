@@ -1,4 +1,6 @@
 // The library's function for C that writes a table back as text. include/hrazvanut.h calls it.
+#![tactic(auto)]
+
 ghost use Rattle.std.specs.Prelude.{◌≡◌};
 ghost use Rattle.spec_export.specs.Export.{export};
 ghost use Rattle.abi_export.specs.Answers.{Leaves};

@@ -1,5 +1,7 @@
 // The library for gateways, which are written in C: what they call are the functions of include/hrazvanut.h, and these call the ones here and
 // in the other crates abi_*. Here: those that load.
+#![tactic(auto)]
+
 ghost use Rattle.std.specs.Prelude.{◌≡◌};
 ghost use Rattle.spec_load.specs.Load.{load};
 ghost use Rattle.spec_load.specs.Listing.{listing};

@@ -1,4 +1,6 @@
 // The library's functions for C that look into a table that was checked: which input it has, which groups. include/hrazvanut.h calls them.
+#![tactic(auto)]
+
 ghost use Rattle.std.specs.Prelude.{◌≡◌, true};
 ghost use Rattle.spec_table.specs.Check.{is_table};
 ghost use Rattle.spec_decision.specs.LookUp.{look_up};

@@ -1,4 +1,6 @@
 // The library's functions for C on one place of a register: its client removed, its right told. include/hrazvanut.h calls them.
+#![tactic(auto)]
+
 ghost use Rattle.std.specs.Prelude.{◌≡◌};
 ghost use Rattle.spec_places.specs.Storage.{right_in};
 ghost use Rattle.spec_rule.specs.Number.{decision_number};

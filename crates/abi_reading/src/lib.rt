@@ -1,4 +1,6 @@
 // The library's functions for C that set a register's reading. include/hrazvanut.h calls them.
+#![tactic(auto)]
+
 ghost use Rattle.std.specs.Prelude.{◌≡◌, true};
 ghost use Rattle.spec_calc.specs.States.{reading};
 ghost use Rattle.spec_table.specs.Check.{is_table};

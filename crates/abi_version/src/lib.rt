@@ -1,4 +1,6 @@
 // The library's function for C that tells its version, so that a program can hold it to the header it was compiled with. include/hrazvanut.h calls it.
+#![tactic(auto)]
+
 ghost use Rattle.std.specs.Prelude.{◌≡◌};
 ghost use Rattle.abi_version.specs.Version.{version};
 

@@ -1,4 +1,6 @@
 // The answers to a question, to a look-up and of an export as numbers, for callers in C: include/hrazvanut.h takes them apart again.
+#![tactic(auto)]
+
 ghost use Rattle.std.specs.Prelude.{◌≡◌};
 ghost use Rattle.api_numbers.specs.Numbers.{answer_number, found_number, exported_number};
 

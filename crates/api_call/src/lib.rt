@@ -1,4 +1,6 @@
 // One call of a script, of any kind.
+#![tactic(auto)]
+
 ghost use Rattle.std.specs.Prelude.{◌+◌, ◌*◌, ◌≤◌, length};
 ghost use Rattle.api_script.specs.Script.{script_of, call_at};
 ghost use Rattle.api_script.specs.Replies.{lent_of, Made};

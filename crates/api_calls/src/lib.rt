@@ -1,4 +1,6 @@
 // The calls that only read: on the table, and on a calculation's text.
+#![tactic(auto)]
+
 ghost use Rattle.std.specs.Prelude.{◌≡◌, ℕ, ◌<◌};
 ghost use Rattle.spec_rule.specs.Question.{lent_question};
 ghost use Rattle.spec_decision.specs.Decision.{decide};
@@ -30,7 +32,7 @@ fn ask_checked(
     }
 }
 
-// The same of a look_up.
+// The same of a look-up.
 fn find_checked(lent: &[u8], group: &[u8], letter: u32) -> Found
     ensures { result ≡ look_up lent.now group.now letter }
 {

@@ -50,7 +50,7 @@ length_in (found.Part at n) = n
 length_in found.NotTable = 0
 length_in found.NoInput = 0
 
--- a look_up: these, and the refusal
+-- a look-up: these, and the refusal
 abbrev pub found_number : Found → ℕ
 found_number f = packed (at_in f) (length_in f) (or_zero (look_up.number f))
 

@@ -1,4 +1,6 @@
 // The answers of a load as numbers, for callers in C: include/hrazvanut.h takes them apart again.
+#![tactic(auto)]
+
 ghost use Rattle.std.specs.Prelude.{◌≡◌, ◌<◌, min};
 ghost use Rattle.spec_file.specs.Refusal as refusal;
 ghost use Rattle.api_numbers.specs.Numbers.{packed, load_number, listed_number};

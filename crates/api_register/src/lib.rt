@@ -1,4 +1,6 @@
 // What the register's calls answer, as a number and a lent word, for callers in C.
+#![tactic(auto)]
+
 ghost use Rattle.std.specs.Prelude.{◌≡◌, set};
 ghost use Rattle.spec_register.specs.Refusal as refused;
 ghost use Rattle.api_numbers.specs.Numbers.{packed};

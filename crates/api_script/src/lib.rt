@@ -1,4 +1,6 @@
 // A script of calls in numbers: its words, levels and texts, and what its calls answer.
+#![tactic(auto)]
+
 ghost use Rattle.std.specs.Prelude.{◌≡◌, ◌+◌, ◌*◌, ◌≤◌, ◌<◌, length, get_or};
 ghost use Rattle.load_tokens.specs.Arrays.{between};
 ghost use Rattle.api_script.specs.Script.{word, text_at};
@@ -9,14 +11,14 @@ use spec_export::Exported;
 use spec_load::{Listed, Loaded};
 
 // The answers of a load and of a question after it.
-#[derive(Drop)]
+#[derive(Clone, Copy)]
 pub struct Asked {
     pub loaded: Loaded,
     pub answer: Answer,
 }
 
 // What a call answers. Of the name that a look-up finds, its length: no answer holds a part of the table.
-#[derive(Drop)]
+#[derive(Clone, Copy)]
 pub enum Reply {
     Loaded(Loaded),
     Listed(Listed),

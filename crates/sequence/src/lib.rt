@@ -1,4 +1,6 @@
 // Any sequence of calls, by a script; and demand 3 as the contract of one function.
+#![tactic(auto)]
+
 ghost use Rattle.std.specs.Prelude.{◌≡◌, length};
 ghost use Rattle.spec_rule.specs.Question.{lent_question};
 ghost use Rattle.api_script.specs.Script.{script_of, calls};

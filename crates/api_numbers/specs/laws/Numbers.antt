@@ -5,7 +5,7 @@ use Rattle.spec_rule.specs.declared.Decision.{Decision}
 use Rattle.spec_rule.specs.Number.{decision_number}
 use Rattle.spec_file.specs.declared.Refusal.{Refusal}
 use Rattle.spec_file.specs.Refusal as refusal
-use Rattle.spec_file.specs.laws.Numbered.{number_small}
+use Rattle.spec_file.proofs.laws.Numbered.{number_small}
 use Rattle.spec_load.specs.declared.Loaded.{Loaded}
 use Rattle.spec_load.specs.declared.Loaded.TheVariants as loaded
 use Rattle.spec_load.specs.declared.Listed.{Listed}

@@ -8,7 +8,7 @@ use Rattle.spec_decision.specs.declared.Answer.{Answer}
 use Rattle.spec_decision.specs.Decision.{access_in, decide}
 use Rattle.spec_demand.specs.Calls.{Call, load_text, list_warnings, check_table, ask, ask_checked, find_input, find_input_checked, look_up_name, find_group}
 use Rattle.spec_demand.specs.Calls.{export_text, allow, calculate, hold, after_call, after_calls, is_accepted}
-use Rattle.spec_demand.specs.laws.Later.{never_above, exactly_equal}
+use Rattle.spec_demand.proofs.laws.Later.{never_above, exactly_equal}
 use Rattle.api_script.specs.Replies.{Lent, lent_of, left_by, left_by_calls}
 use Rattle.api_script.specs.Demand.{NeverMore}
 

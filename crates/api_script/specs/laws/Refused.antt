@@ -10,7 +10,7 @@ use Rattle.spec_export.specs.declared.Exported.TheVariants as exports
 use Rattle.spec_export.specs.Export.{exported, left}
 use Rattle.spec_demand.specs.Calls.{Call, load_text, list_warnings, check_table, ask, ask_checked, find_input, find_input_checked, look_up_name, find_group}
 use Rattle.spec_demand.specs.Calls.{export_text, allow, calculate, hold, Told, listing_told, exported_told, refusal_of}
-use Rattle.spec_demand.specs.laws.Loaded.{refused_call_leaves}
+use Rattle.spec_demand.proofs.laws.Loaded.{refused_call_leaves}
 use Rattle.api_script.specs.Replies.{Lent, lent_of, with_list, left_by}
 
 list_leaves : (l : Lent) (s : List ℕ) (skip : ℕ) (r : Told) → listing_told (listing skip [] [] s).answer ≡ some r → with_list l (listing skip l.numbers l.places s) ≡ l

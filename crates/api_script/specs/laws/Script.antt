@@ -7,7 +7,7 @@ use native.Mathlib.Omega.{arith}
 use Rattle.std.proofs.Math.ListN.{get_or-eq_default}
 use Rattle.std.proofs.Math.Seq.{take-nil}
 use Rattle.spec_lists.specs.Every.{Every, nil, cons}
-use Rattle.spec_lists.specs.laws.Every.{every_at}
+use Rattle.spec_lists.proofs.laws.Every.{every_at}
 use Rattle.spec_calc.specs.declared.Reading.{Reading}
 use Rattle.spec_file.specs.Load.{Verdict, refuse, accept, verdict}
 use Rattle.load_tokens.specs.Arrays.{between}

@@ -1,0 +1,6 @@
+use mathlib.Core.Path.{◌∙◌, ap}
+use Rattle.api_numbers.specs.Numbers.{found_number}
+use Rattle.abi_table.proofs.hrazvanut_abi_find_input.Goals as goal
+
+pub returns : goal.returns
+returns c = c.found_number.ensures ∙ ap found_number c.find_input.ensures
