@@ -1,5 +1,7 @@
 // What the asker prints for an answer, written into lent bytes. 01, "Two programs".
 // Each function writes from an offset on, as far as there is room, and answers the offset behind what it wrote.
+#![tactic(auto)]
+
 ghost use Rattle.std.specs.Prelude.{◌≤◌, length};
 ghost use Rattle.prog_text.specs.Put.{Put};
 ghost use Rattle.prog_words.specs.Words.{answer_text, refused_line};

@@ -1,12 +1,15 @@
 // The asker: answers the questions of an open file by the rules of a text.
+#![tactic(auto)]
+
 ghost use Rattle.std.specs.Prelude.{◌≡◌, ◌≤◌, length};
 ghost use Rattle.spec_load.specs.Load.{load};
 ghost use Rattle.prog_ask.specs.Asked.{Begun};
 
 use spec_load::Loaded;
+use std::io::{Eprint, Print, Read};
 
 // The rules are loaded, or refused, and so many bytes say why.
-#[derive(Drop)]
+#[derive(Clone, Copy)]
 pub enum Begins {
     Ready,
     Refused(usize),
@@ -28,14 +31,20 @@ fn begin(rules: &[u8], table: &mut [u8], out: &mut [u8]) -> Begins
 
 // Answers the questions, or prints why the rules are refused. The program lends the table; size bytes of the file are read at once, at most 4,096.
 // No contract can say what is read and printed; the table is that of the load.
-pub fn answer(rules: &[u8], table: &mut [u8], fd: i32, size: usize)
+pub fn answer(
+    rt: &(impl Print + Eprint),
+    rules: &[u8],
+    table: &mut [u8],
+    from: &mut impl Read,
+    size: usize,
+)
     ensures { table.new ≡ (load table.old rules.now).bytes }
 {
     let mut out = [0u8; 64];
     match begin(rules, table, &mut out) {
-        Begins::Ready => prog_serve::serve(table, fd, size),
+        Begins::Ready => prog_serve::serve(rt, table, from, size),
         Begins::Refused(end) => {
-            prog_output::put(&out[..end]);
+            prog_output::put(rt, &out[..end]);
         }
     }
 }

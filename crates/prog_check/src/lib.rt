@@ -1,4 +1,6 @@
 // What the checker prints for a file, written into lent bytes. 01, "Two programs".
+#![tactic(auto)]
+
 ghost use Rattle.prog_check.specs.Lines.{Prints};
 
 use spec_load::Listed;

@@ -1,4 +1,6 @@
 // What the asker prints for the line that has begun where the reading of its input fails.
+#![tactic(auto)]
+
 ghost use Rattle.std.specs.Prelude.{◌≤◌, length};
 ghost use Rattle.prog_replies.specs.Pieces.{longest_reply, Cuts};
 

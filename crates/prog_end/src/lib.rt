@@ -1,4 +1,6 @@
 // What the asker prints for the line that has begun where its input ends.
+#![tactic(auto)]
+
 ghost use Rattle.std.specs.Prelude.{◌≡◌, true, ◌≤◌, length};
 ghost use Rattle.spec_table.specs.Check.{is_table};
 ghost use Rattle.prog_replies.specs.Pieces.{longest_reply, State, Finishes};

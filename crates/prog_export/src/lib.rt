@@ -1,4 +1,6 @@
 // What the program export prints for a file: its rules written back as text, or why not. Written into lent bytes. 02, ticket 6.
+#![tactic(auto)]
+
 ghost use Rattle.prog_export.specs.Printed.{Prints};
 
 use prog_text::put;

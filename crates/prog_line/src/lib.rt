@@ -1,4 +1,6 @@
 // The parts of a line of the asker's input. 01, "Two programs".
+#![tactic(auto)]
+
 ghost use Rattle.std.specs.Prelude.{◌≡◌, ◌-◌, ◌≤◌, ◌<◌, length, drop};
 ghost use Rattle.prog_line.specs.Line.{readings_named};
 ghost use Rattle.prog_line.specs.Parts.{Part, behind};
@@ -8,27 +10,27 @@ use prog_reading::NamedReading;
 use spec_calc::Reading;
 
 // The part behind another.
-#[derive(Drop)]
+#[derive(Clone, Copy)]
 pub enum Place {
     At(usize),
     Missing,
 }
 
 // Where user, host and level begin.
-#[derive(Drop)]
+#[derive(Clone, Copy)]
 pub enum Names {
     At(usize, usize, usize),
     Missing,
 }
 
-#[derive(Drop)]
+#[derive(Clone, Copy)]
 pub enum Level {
     Is(u32),
     Nothing,
 }
 
 // What a line asks. Its group is line[..user - 1], `-` for empty, its user line[user..host - 1], its host line[host..level_at - 1].
-#[derive(Drop)]
+#[derive(Clone, Copy)]
 pub enum Line {
     Refused,
     Question {

@@ -1,15 +1,19 @@
 // Printing on standard output. No contract can say what is printed.
-use libc::STDOUT_FILENO;
+#![tactic(auto)]
+
+use std::io::{Eprint, Print};
 
 // Prints, and says whether all of it was written; if not, standard error tells, so that nothing printed is not taken for a clean file.
-pub fn put(s: &[u8]) -> bool {
-    let all = io::write_all(STDOUT_FILENO, s);
-    if !all {
-        os::fail(b"standard output");
+pub fn put(rt: &(impl Print + Eprint), s: &[u8]) -> bool {
+    match rt.write_all(s) {
+        Ok(()) => true,
+        Err(e) => {
+            let _ = eprintln!(rt; "standard output: {e}");
+            false
+        }
     }
-    all
 }
 
-pub fn put_number(n: usize) {
-    io::print_decimal(STDOUT_FILENO, n as u64);
+pub fn put_number(rt: &impl Print, n: usize) {
+    let _ = print!(rt; "{n}");
 }

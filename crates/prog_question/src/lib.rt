@@ -1,4 +1,6 @@
 // What a line of the asker's input asks. 01, "Two programs".
+#![tactic(auto)]
+
 ghost use Rattle.std.specs.Prelude.{◌≡◌, ◌-◌, ◌≤◌, ◌<◌, length};
 ghost use Rattle.prog_line.specs.Line.{group_of};
 ghost use Rattle.prog_line.specs.Parts.{cut};

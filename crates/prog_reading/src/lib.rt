@@ -1,4 +1,6 @@
 // The readings of the asker's input, as texts. 01, "Two programs".
+#![tactic(auto)]
+
 ghost use Rattle.std.specs.Prelude.{◌≡◌};
 ghost use Rattle.spec_calc.specs.Symbol.{numeral_byte};
 ghost use Rattle.prog_reading.specs.Reading.{number, signed, reading};
@@ -8,21 +10,21 @@ use calc_numeral::Figure;
 use spec_calc::Reading;
 
 // The number that a text is.
-#[derive(Drop)]
+#[derive(Clone, Copy)]
 pub enum Numeral {
     Is(f64),
     Nothing,
 }
 
 // The reading that a text is.
-#[derive(Drop)]
+#[derive(Clone, Copy)]
 pub enum Spelled {
     Is(Reading),
     Nothing,
 }
 
 // The named reading that a part is: its letter, A as 0, and its reading.
-#[derive(Drop)]
+#[derive(Clone, Copy)]
 pub enum NamedReading {
     Is(usize, Reading),
     Nothing,

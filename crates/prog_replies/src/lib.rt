@@ -1,10 +1,12 @@
 // What the asker prints for its input, which comes in pieces: for the lines that end in a piece.
+#![tactic(auto)]
+
 ghost use Rattle.std.specs.Prelude.{◌≡◌, true, ◌+◌, ◌*◌, ◌≤◌, length, take};
 ghost use Rattle.spec_table.specs.Check.{is_table};
 ghost use Rattle.prog_replies.specs.Pieces.{room, longest_reply, LineSpan, Extends, State, Responds};
 
 // How many bytes of a line that has begun are stored, and how many bytes of answers were written.
-#[derive(Drop)]
+#[derive(Clone, Copy)]
 pub struct Progress {
     pub count: usize,
     pub printed: usize,
@@ -58,7 +60,7 @@ pub fn respond(
     let mut printed = 0;
     let mut at = 0;
     while at < piece.len() {
-        let end = bytes::scan::find(piece, at, piece.len(), b'\n');
+        let end = byte_find::find(piece, at, piece.len(), b'\n');
         let p = take_line(table, piece, at, end, buffer, filled, out, printed);
         filled = p.count;
         printed = p.printed;

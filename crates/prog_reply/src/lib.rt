@@ -1,4 +1,6 @@
 // What the asker prints for a line of its input, written into lent bytes.
+#![tactic(auto)]
+
 ghost use Rattle.std.specs.Prelude.{◌≡◌, true, ◌≤◌, length};
 ghost use Rattle.spec_table.specs.Check.{is_table};
 ghost use Rattle.prog_line.specs.Line.{asks};

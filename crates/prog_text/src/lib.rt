@@ -1,6 +1,8 @@
 // Texts and numbers in decimal digits, written into lent bytes.
 // Each function writes from an offset on, as far as there is room, and answers the offset behind what it wrote.
 // Callers begin at 0 or behind another text, which ends within (laws/Put: put_within).
+#![tactic(auto)]
+
 ghost use Rattle.std.specs.Prelude.{◌≤◌, length};
 ghost use Rattle.prog_text.specs.Put.{Put};
 ghost use Rattle.prog_text.specs.Text.{decimal_digits};

@@ -1,4 +1,6 @@
 // The lines of some warnings, written into lent bytes. 01, "Two programs".
+#![tactic(auto)]
+
 ghost use Rattle.std.specs.Prelude.{◌≡◌, ◌*◌, ◌≤◌, length, take};
 ghost use Rattle.prog_text.specs.Put.{Stands};
 ghost use Rattle.prog_warnings.specs.Lines.{lines_by, longest_line};

@@ -1,6 +1,8 @@
 // The words that the asker prints for an answer, written into lent bytes. 01, "Two programs".
 // Each function writes from an offset on, as far as there is room, and answers the offset behind what it wrote.
 // Callers begin at 0 or behind another text, which ends within (prog_text: laws/Put: put_within).
+#![tactic(auto)]
+
 ghost use Rattle.std.specs.Prelude.{◌≤◌, length, ◌++◌};
 ghost use Rattle.spec_lists.specs.Text.{bytes};
 ghost use Rattle.prog_text.specs.Put.{Put};

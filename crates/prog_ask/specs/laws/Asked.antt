@@ -8,7 +8,7 @@ use Rattle.spec_load.specs.declared.Loaded.{Loaded}
 use Rattle.spec_load.specs.declared.Loaded.TheVariants as loaded
 use Rattle.spec_load.specs.Load.{Result, load}
 use Rattle.spec_demand.specs.Calls.{is_accepted}
-use Rattle.spec_demand.specs.laws.Exact.{leaves_table}
+use Rattle.spec_demand.proofs.laws.Exact.{leaves_table}
 use Rattle.prog_report.specs.Report.{refusal_line}
 use Rattle.prog_text.specs.Put.{Stands}
 use Rattle.prog_text.specs.laws.Put.{put_whole}

@@ -2,13 +2,13 @@
 use Rattle.std.specs.Prelude.{◌≡◌, refl, List, [], ◌∷◌, map, suc, ◌≤◌, ℕ, length}
 use Rattle.std.proofs.Common.{sym, ap, ◌∙◌, arith}
 use Rattle.std.proofs.Math.Option.{Option, none, some}
-use Rattle.spec_token.specs.laws.Kinds.{spelled_few}
+use Rattle.spec_token.proofs.laws.Kinds.{spelled_few}
 use Rattle.spec_grammar.specs.Sentence.{Tagged}
 use Rattle.spec_file.specs.declared.Warning.{Warning}
 use Rattle.spec_file.specs.Warning.{warning_of, with_place, warnings}
 use Rattle.spec_file.specs.Limit.{most_bytes}
 use Rattle.spec_file.specs.Load.{accept, verdict}
-use Rattle.spec_file.specs.laws.Theorem.{accepted_is}
+use Rattle.spec_file.proofs.laws.Theorem.{accepted_is}
 
 pub length_map : {A B : Type 0} (f : A → B) (xs : List A) → length (map f xs) ≡ length xs
 length_map f [] = refl

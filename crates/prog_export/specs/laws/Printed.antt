@@ -2,7 +2,7 @@
 use Rattle.std.specs.Prelude.{◌≡◌, refl, Bool, true, false, cond, List, ◌++◌, ℕ, ◌+◌, ◌≤◌, leb, length, drop}
 use Rattle.std.proofs.Math.Path.{sym}
 use Rattle.std.proofs.Common.{ap, subst, ◌∙◌, arith, length-take-le, leb-true}
-use Rattle.std.proofs.lemmas.List.Edits.{sets, sets-eq}
+use Rattle.std.proofs.lemmas.List.Edits.{sets-eq}
 use Rattle.spec_file.specs.declared.Refusal.{Refusal}
 use Rattle.spec_table.specs.View.{view}
 use Rattle.spec_table.specs.Check.{is_table}
@@ -14,7 +14,7 @@ use Rattle.spec_export.specs.declared.Exported.{Exported}
 use Rattle.spec_export.specs.declared.Exported.TheVariants as exports
 use Rattle.spec_export.specs.Unwritable.{text_in, unwritable}
 use Rattle.spec_export.specs.Export.{Result, if_room, of_content, exported, left, export}
-use Rattle.spec_export.specs.laws.Answer.{wrote}
+use Rattle.spec_export.proofs.laws.Answer.{wrote}
 use Rattle.prog_text.specs.Put.{Put, Stands}
 use Rattle.prog_text.specs.laws.Put.{reached_fits, put_within, put_whole, put_as}
 use Rattle.prog_report.specs.Report.{refusal_line}

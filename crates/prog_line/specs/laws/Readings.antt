@@ -6,7 +6,7 @@ use Rattle.std.proofs.Math.Seq.{drop-length}
 use Rattle.std.proofs.lemmas.List.{set_comm}
 use Rattle.std.proofs.lemmas.Bool.{eqb-false}
 use Rattle.spec_lists.specs.Text.{one_of}
-use Rattle.spec_lists.specs.laws.Both.{neither}
+use Rattle.spec_lists.proofs.laws.Both.{neither}
 use Rattle.spec_calc.specs.declared.Reading.{Reading}
 use Rattle.spec_calc.specs.declared.Reading.TheVariants.{NeverHeard}
 use Rattle.prog_reading.specs.declared.NamedReading.{NamedReading}

@@ -1,12 +1,11 @@
 -- A text that is a number, against the number that it begins with.
-use Rattle.std.specs.Prelude.{◌≡◌, refl, Bool, true, false, cond, ◌&&◌, ◌||◌, List, [], ◌∷◌, ℕ, suc, ◌≤◌, ◌<◌, leb, length, drop, get_or, Float}
-use Rattle.std.proofs.Common.{sym, ap, ◌∙◌, arith, drop-cons, le-leb, ne_eqb}
+use Rattle.std.specs.Prelude.{◌≡◌, refl, Bool, true, false, cond, ◌&&◌, ◌||◌, List, [], ◌∷◌, ℕ, suc, ◌<◌, length, drop, get_or, Float}
+use Rattle.std.proofs.Common.{sym, ap, ◌∙◌, arith, drop-cons, ne_eqb}
 use Rattle.std.proofs.Math.Option.{Option, none, some}
 use Rattle.std.proofs.Math.Seq.{drop-length}
-use Rattle.std.proofs.lemmas.Bool.{lt-leb}
-use Rattle.spec_lists.specs.Text.{among, within, digit}
+use Rattle.spec_lists.specs.Text.{among, digit}
 use Rattle.spec_lists.specs.Select.{all, run, after, keep_if, skip_if}
-use Rattle.spec_lists.specs.laws.Both.{both, absurd_bool}
+use Rattle.spec_lists.proofs.laws.Both.{both, absurd_bool}
 use Rattle.spec_calc.specs.Symbol.{numeral_byte}
 use Rattle.spec_calc.specs.Scanner.{numeral, pointed, within_digits}
 use Rattle.calc_numeral.specs.declared.Figure.{Figure}

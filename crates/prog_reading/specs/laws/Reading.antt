@@ -6,7 +6,7 @@ use Rattle.std.specs.Float.Ieee as Ieee
 use Rattle.std.specs.Float.{nan, inf, binary64}
 use Rattle.std.specs.Float.Ieee.{neg, of_bits, div}
 use Rattle.spec_lists.specs.Text.{bytes, same, among, within}
-use Rattle.spec_lists.specs.laws.Both.{both}
+use Rattle.spec_lists.proofs.laws.Both.{both}
 use Rattle.spec_calc.specs.declared.Reading.{Reading}
 use Rattle.spec_calc.specs.declared.Reading.TheVariants.{Invalid, Value}
 use Rattle.spec_calc.specs.Value.{zero_value, one_value}

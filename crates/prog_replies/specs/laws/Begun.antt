@@ -1,11 +1,10 @@
 -- Laws of the line that has begun.
-use Rattle.std.specs.Prelude.{◌≡◌, refl, Bool, true, false, cond, ℕ, zero, suc, ◌+◌, ◌≤◌, ◌<◌, min, leb, length, take, set}
-use Rattle.std.proofs.Common.{sym, ap, ◌∙◌, arith, length-take, length-set, take_all, take-suc-set, length-take-le, leb-true, leb-false, le-leb}
+use Rattle.std.specs.Prelude.{◌≡◌, refl, Bool, true, false, ℕ, zero, suc, ◌+◌, ◌≤◌, ◌<◌, leb, length, take, set}
+use Rattle.std.proofs.Common.{sym, ap, ◌∙◌, arith, length-take, length-set, take_all, take-suc-set, length-take-le, leb-true, leb-false}
 use mathlib.Core.List.{List, [], ◌∷◌, ◌++◌, append-nil}
 use Rattle.std.proofs.lemmas.List.Edits.{sets}
-use Rattle.std.proofs.Math.Seq.{take-nil, append_snoc}
+use Rattle.std.proofs.Math.Seq.{take-nil}
 use Rattle.std.proofs.lemmas.List.{take-append-le}
-use Rattle.std.proofs.lemmas.Bool.{lt-leb}
 use Rattle.prog_line.specs.Line.{asks, longest_line}
 use Rattle.prog_text.specs.Put.{Put, reached}
 use Rattle.prog_text.specs.laws.Put.{reached_fits, reached_full, reached_within, sets_out}

@@ -1,5 +1,5 @@
 -- How much room answers need: 20 bytes for each byte of a piece are enough.
-use Rattle.std.specs.Prelude.{◌≡◌, refl, List, [], ◌∷◌, ◌++◌, ℕ, suc, ◌+◌, ◌*◌, ◌≤◌, length, take}
+use Rattle.std.specs.Prelude.{◌≡◌, refl, List, [], ◌∷◌, ◌++◌, ℕ, suc, ◌*◌, ◌≤◌, length, take}
 use mathlib.Core.Bool.{Bool, true, false}
 use Rattle.std.proofs.Common.{arith, length-append}
 use Rattle.prog_text.specs.laws.Put.{put_whole}

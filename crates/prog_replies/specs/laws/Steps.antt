@@ -1,13 +1,13 @@
 -- From one newline of a piece to the next.
-use Rattle.std.specs.Prelude.{◌≡◌, refl, Bool, true, false, cond, not, ◌&&◌, eqb, length, drop, get_or}
+use Rattle.std.specs.Prelude.{◌≡◌, refl, Bool, true, false, eqb, length, drop, get_or}
 use Rattle.std.proofs.Math.Path.{sym, ap, subst}
 use Rattle.std.proofs.Common.{◌∙◌, length-drop, eqb-true}
 use mathlib.Core.List.{List, [], ◌∷◌, ◌++◌, append-nil, append_assoc}
-use Prim.Native.Nat.{ℕ, zero, suc, ◌+◌, ◌-◌, ◌≤◌, ◌<◌}
+use Prim.Native.Nat.{ℕ, suc, ◌+◌, ◌-◌, ◌≤◌, ◌<◌}
 use native.Mathlib.Omega.{arith}
 use Rattle.std.proofs.Math.ListN.{take}
 use lib.Seq.{take-add, take-suc, take_all, take-length, drop-length}
-use Rattle.bytes.specs.Bytes.{slice, index_of, index_after}
+use Rattle.byte_find.specs.Find.{slice, index_of, index_after}
 use Rattle.prog_text.specs.Put.{Put}
 use Rattle.prog_text.specs.laws.Put.{reached_fits, put_put, put_as}
 use Rattle.prog_reply.specs.Reply.{reply}
@@ -19,7 +19,6 @@ use Rattle.prog_replies.specs.laws.Begun.{begun_none}
 -- ---- the next newline
 
 index_plain : (m : List ℕ) → plain (take (index_of 10 m) m) ≡ true
-unfolding index_of index_after
 index_plain [] = refl
 index_plain (x ∷ m) = go (eqb x 10) refl (index_plain m)
   where
@@ -28,7 +27,6 @@ index_plain (x ∷ m) = go (eqb x 10) refl (index_plain m)
     go false e i = rw e i
 
 index_newline : (m : List ℕ) → index_of 10 m < length m → get_or m (index_of 10 m) 0 ≡ 10
-unfolding index_of index_after
 index_newline [] h = absurd (omega arith)
 index_newline (x ∷ m) h = go (eqb x 10) refl h (index_newline m)
   where
@@ -39,7 +37,6 @@ index_newline (x ∷ m) h = go (eqb x 10) refl h (index_newline m)
     go false e k i = i (omega arith)
 
 pub line_span : (piece : List ℕ) (at e : ℕ) → at ≤ length piece → e ≡ at + index_of 10 (slice at (length piece) piece) → e ≤ length piece → LineSpan piece at e
-unfolding slice
 line_span piece at e h k w =
     let m : drop at (take (length piece) piece) ≡ drop at piece = ap (drop at) (take-length piece) in
     let i : e ≡ at + index_of 10 (drop at piece) = k ∙ ap (λ (l : List ℕ). at + index_of 10 l) m in

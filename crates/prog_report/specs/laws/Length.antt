@@ -4,7 +4,7 @@ use Rattle.std.proofs.Common.{arith, length-append}
 use Rattle.spec_lists.specs.Text.{bytes}
 use Rattle.spec_file.specs.declared.Refusal.{Refusal}
 use Rattle.spec_file.specs.Refusal as refusal
-use Rattle.spec_file.specs.laws.Numbered.{number_small}
+use Rattle.spec_file.proofs.laws.Numbered.{number_small}
 use Rattle.prog_text.specs.Text.{decimal_digits}
 use Rattle.prog_report.specs.Report.{placed, refusal_line}
 use Rattle.prog_text.specs.laws.Digits.{few_digits}

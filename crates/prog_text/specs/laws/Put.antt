@@ -3,7 +3,7 @@ use Rattle.std.specs.Prelude.{◌≡◌, refl, Bool, true, false, cond, List, []
 use Rattle.std.proofs.Common.{sym, ap, ◌∙◌, arith, length-append, take_at, leb-true, leb-false, le-leb}
 use Rattle.std.proofs.lemmas.List.Edits.{sets, sets-eq}
 use Rattle.std.proofs.Math.Seq.{length-sets, set_out, drop-length}
-use Rattle.spec_rule.specs.laws.Walk.{list_on, sets_on}
+use Rattle.spec_rule.proofs.laws.Walk.{list_on, sets_on}
 use Rattle.prog_text.specs.Put.{reached, Put}
 
 pub reached_fits : (room n : ℕ) → n ≤ room → reached room n ≡ n
