@@ -1,7 +1,10 @@
 // What a register's calls answer, and the rights of its places, as its vectors write them.
+#![tactic(auto)]
+
 use prog_output::{put, put_number};
 use spec_register::{Added, Changed, Refused, Reloaded};
 use spec_rule::Access;
+use std::io::{Eprint, Print};
 
 fn letter(a: Access) -> u8 {
     match a {
@@ -11,22 +14,22 @@ fn letter(a: Access) -> u8 {
     }
 }
 
-fn put_right(places: &[u8], p: usize) {
+fn put_right(rt: &(impl Print + Eprint), places: &[u8], p: usize) {
     let right = place::right(places, p);
     let access = right.access;
     let trap = if right.trap { b't' } else { b'-' };
-    put(&[b' ', letter(access), trap]);
+    put(rt, &[b' ', letter(access), trap]);
 }
 
 // The rights of all places.
-pub fn put_rights(places: &[u8]) {
-    put(b" |");
+pub fn put_rights(rt: &(impl Print + Eprint), places: &[u8]) {
+    put(rt, b" |");
     let mut p = 0;
     while p < 64 {
-        put_right(places, p);
+        put_right(rt, places, p);
         p += 1;
     }
-    put(b"\n");
+    put(rt, b"\n");
 }
 
 // A refusal's number. 02, ticket 1.
@@ -42,47 +45,47 @@ fn refused_number(x: Refused) -> usize {
     }
 }
 
-fn put_refused(x: Refused) {
-    put(b"refused ");
-    put_number(refused_number(x));
+fn put_refused(rt: &(impl Print + Eprint), x: Refused) {
+    put(rt, b"refused ");
+    put_number(rt, refused_number(x));
 }
 
-pub fn put_added(a: Added) {
+pub fn put_added(rt: &(impl Print + Eprint), a: Added) {
     match a {
         Added::At { place, changed } => {
-            put(b"ok ");
-            put_number(place);
+            put(rt, b"ok ");
+            put_number(rt, place);
         }
-        Added::Refused(x) => put_refused(x),
+        Added::Refused(x) => put_refused(rt, x),
     }
 }
 
-pub fn put_changed(c: Changed) {
+pub fn put_changed(rt: &(impl Print + Eprint), c: Changed) {
     match c {
         Changed::Places(changed) => {
-            put(b"ok");
+            put(rt, b"ok");
         }
-        Changed::Refused(x) => put_refused(x),
+        Changed::Refused(x) => put_refused(rt, x),
     }
 }
 
-fn put_pair(word: &[u8], a: usize, b: usize) {
-    put(word);
-    put_number(a);
-    put(b" ");
-    put_number(b);
+fn put_pair(rt: &(impl Print + Eprint), word: &[u8], a: usize, b: usize) {
+    put(rt, word);
+    put_number(rt, a);
+    put(rt, b" ");
+    put_number(rt, b);
 }
 
-pub fn put_reloaded(l: Reloaded) {
+pub fn put_reloaded(rt: &(impl Print + Eprint), l: Reloaded) {
     match l {
         Reloaded::Accepted {
             length,
             warnings,
             changed,
-        } => put_pair(b"ok ", length, warnings),
+        } => put_pair(rt, b"ok ", length, warnings),
         Reloaded::Refused { refusal, place } => {
-            put_pair(b"refused ", prog_report::refusal_number(refusal), place)
+            put_pair(rt, b"refused ", prog_report::refusal_number(refusal), place)
         }
-        Reloaded::NotRegister => put_refused(Refused::NotRegister),
+        Reloaded::NotRegister => put_refused(rt, Refused::NotRegister),
     }
 }

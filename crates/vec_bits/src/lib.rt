@@ -1,4 +1,6 @@
 // Bytes and binary64 values that vectors write in hexadecimal.
+#![tactic(auto)]
+
 ghost use Rattle.std.specs.Prelude.{◌<◌};
 
 pub fn peek(s: &[u8], at: usize) -> u8 {

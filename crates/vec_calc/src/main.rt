@@ -1,7 +1,10 @@
 // Works out each calculation of the file calc, and says of it what that file should say: allowed or refused, the value, and whether it is true.
+#![tactic(auto)]
+
 use byte_compare::equal;
 use prog_output::put;
 use spec_calc::Worth;
+use std::io::{Eprint, Print};
 use vec_words::part;
 
 // Whether x is y, signs of zero told apart.
@@ -40,44 +43,49 @@ fn as_written(w: Worth, s: &[u8]) -> bool {
 }
 
 // The third field of a line is its value, the fifth the readings: the value is printed as written, if it is that.
-fn put_allowed(text: &[u8], line: &[u8]) {
+fn put_allowed(rt: &(impl Print + Eprint), text: &[u8], line: &[u8]) {
     let written = part(line, 2, b'\t');
     let rs = vec_words::readings(part(line, 4, b'\t'), b' ');
-    put(b"allowed\t");
+    put(rt, b"allowed\t");
     if as_written(calc::value(text, rs), written) {
-        put(written);
+        put(rt, written);
     } else {
-        put(b"another value");
+        put(rt, b"another value");
     }
     if calc::holds(text, rs) {
-        put(b"\ttrue\n");
+        put(rt, b"\ttrue\n");
     } else {
-        put(b"\tfalse\n");
+        put(rt, b"\tfalse\n");
     }
 }
 
 // A line: the text in hexadecimal, allowed or refused, value, truth, readings.
-fn judge(line: &[u8]) {
+fn judge(rt: &(impl Print + Eprint), line: &[u8]) {
     let mut text = [0u8; 128];
     let n = vec_words::text(part(line, 0, b'\t'), &mut text);
     if calc::allowed(&text[..n]) {
-        put_allowed(&text[..n], line);
+        put_allowed(rt, &text[..n], line);
     } else {
-        put(b"refused\n");
+        put(rt, b"refused\n");
     }
 }
 
-fn judge_all(s: &[u8]) {
+fn judge_all(rt: &(impl Print + Eprint), s: &[u8]) {
     let mut at = 0;
     while at < s.len() {
-        let end = bytes::scan::find(s, at, s.len(), b'\n');
-        judge(&s[at..end]);
+        let end = byte_find::find(s, at, s.len(), b'\n');
+        judge(rt, &s[at..end]);
         at = end + 1;
     }
 }
 
-fn main() {
-    let mut buf = [0u8; 614400];
-    let n = prog_input::read(b"calc", &mut buf);
-    judge_all(&buf[..n]);
+// So many zeros. A proof of main reads their number alone, and not each of them.
+fn zeros<const N: usize>() -> [u8; N] {
+    [0; N]
+}
+
+fn main(rt: HostRuntime) {
+    let mut buf = zeros::<614400>();
+    let n = prog_input::read(&rt, b"calc", &mut buf);
+    judge_all(&rt, &buf[..n]);
 }

@@ -1,11 +1,13 @@
 // The lines of a register's script: which call a line is. vec_words says what its words are.
+#![tactic(auto)]
+
 use vec_words::word;
 
 // Room for every text of a line; the longest file of rules that a load reads, and one byte.
 pub const MOST_TEXT: usize = 16385;
 
 // Which call a line is.
-#[derive(Drop)]
+#[derive(Clone, Copy)]
 pub enum Call {
     Load,
     Add,

@@ -1,26 +1,30 @@
 // Checks and loads the file that each line of the file index names: what the checker prints, what the load answers, and what it leaves in the lent bytes.
+#![tactic(auto)]
+
 use prog_output::put;
+use std::io::{Eprint, Print};
+use std::rt::Files;
 use vec_words::word;
 
 // A line of the index: a file, how many bytes are lent, and the file of its table where there is one.
-fn judge(line: &[u8]) {
-    put(line);
-    put(b"\n");
+fn judge(rt: &(impl Files + Print + Eprint), line: &[u8]) {
+    put(rt, line);
+    put(rt, b"\n");
     let room = vec_words::number(word(line, 1)) as usize;
-    vec_load::check_and_load(word(line, 0), room, word(line, 2));
+    vec_load::check_and_load(rt, word(line, 0), room, word(line, 2));
 }
 
-fn judge_all(s: &[u8]) {
+fn judge_all(rt: &(impl Files + Print + Eprint), s: &[u8]) {
     let mut at = 0;
     while at < s.len() {
-        let end = bytes::scan::find(s, at, s.len(), b'\n');
-        judge(&s[at..end]);
+        let end = byte_find::find(s, at, s.len(), b'\n');
+        judge(rt, &s[at..end]);
         at = end + 1;
     }
 }
 
-fn main() {
+fn main(rt: HostRuntime) {
     let mut buf = io::large_buffer();
-    let n = prog_input::read(b"index", &mut buf);
-    judge_all(&buf[..n]);
+    let n = prog_input::read(&rt, b"index", &mut buf);
+    judge_all(&rt, &buf[..n]);
 }

@@ -1,8 +1,12 @@
 // Answers the questions, which have roles, of each file that a line of the file index names, by the rules in another.
+#![tactic(auto)]
+
 ghost use Rattle.io.specs.Counts.{IsPrefixLen};
 
 use prog_output::put;
 use spec_decision::Answer;
+use std::io::{Eprint, Print};
+use std::rt::Files;
 use vec_words::{text, word};
 
 // A length that is too long stays so: 255 is over the 60 bytes of a role.
@@ -18,7 +22,7 @@ fn roles(s: &[u8], pool: &mut [u8], lengths: &mut [u8]) -> usize
     let mut end = 0;
     let mut n = 0;
     while at < s.len() && n < lengths.len() {
-        let next = bytes::scan::find(s, at, s.len(), b',');
+        let next = byte_find::find(s, at, s.len(), b',');
         let m = text(&s[at..next], &mut pool[end..]);
         lengths[n] = at_most_255(m);
         end += m;
@@ -37,15 +41,15 @@ fn listed<'a>(s: &'a [u8]) -> &'a [u8] {
     }
 }
 
-fn put_answer(a: Answer) {
+fn put_answer(rt: &(impl Print + Eprint), a: Answer) {
     let mut out = [0u8; 32];
     let n = prog_answer::answer_text(a, &mut out, 0);
-    put(&out[..n]);
-    put(b"\n");
+    put(rt, &out[..n]);
+    put(rt, b"\n");
 }
 
 // A line: group, user, host, level, readings, roles.
-fn answer(table: &[u8], line: &[u8]) {
+fn answer(rt: &(impl Print + Eprint), table: &[u8], line: &[u8]) {
     let mut group = [0u8; 256];
     let g = text(word(line, 0), &mut group);
     let mut user = [0u8; 256];
@@ -55,56 +59,59 @@ fn answer(table: &[u8], line: &[u8]) {
     let mut pool = [0u8; 4096];
     let mut lengths = [0u8; 64];
     let n = roles(listed(word(line, 5)), &mut pool, &mut lengths);
-    put_answer(ask::decide(
-        table,
-        &group[..g],
-        &user[..u],
-        &host[..h],
-        &pool,
-        &lengths[..n],
-        vec_words::number(word(line, 3)),
-        vec_words::readings(word(line, 4), b','),
-    ));
+    put_answer(
+        rt,
+        ask::decide(
+            table,
+            &group[..g],
+            &user[..u],
+            &host[..h],
+            &pool,
+            &lengths[..n],
+            vec_words::number(word(line, 3)),
+            vec_words::readings(word(line, 4), b','),
+        ),
+    );
 }
 
-fn answer_all(table: &[u8], s: &[u8]) {
+fn answer_all(rt: &(impl Print + Eprint), table: &[u8], s: &[u8]) {
     let mut at = 0;
     while at < s.len() {
-        let end = bytes::scan::find(s, at, s.len(), b'\n');
-        answer(table, &s[at..end]);
+        let end = byte_find::find(s, at, s.len(), b'\n');
+        answer(rt, table, &s[at..end]);
         at = end + 1;
     }
 }
 
 // Rules that are refused leave no table, and each answer says so.
-fn load(path: &[u8], table: &mut [u8]) {
+fn load(rt: &(impl Files + Print + Eprint), path: &[u8], table: &mut [u8]) {
     let mut rules = [0u8; 16385];
-    let n = prog_input::read(path, &mut rules);
+    let n = prog_input::read(rt, path, &mut rules);
     load::load(&rules[..n], table);
 }
 
 // A line of the index: a file of rules and one of questions.
-fn judge(line: &[u8]) {
-    put(line);
-    put(b"\n");
+fn judge(rt: &(impl Files + Print + Eprint), line: &[u8]) {
+    put(rt, line);
+    put(rt, b"\n");
     let mut table = [0u8; 35108];
-    load(word(line, 0), &mut table);
+    load(rt, word(line, 0), &mut table);
     let mut buf = io::large_buffer();
-    let n = prog_input::read(word(line, 1), &mut buf);
-    answer_all(&table, &buf[..n]);
+    let n = prog_input::read(rt, word(line, 1), &mut buf);
+    answer_all(rt, &table, &buf[..n]);
 }
 
-fn judge_all(s: &[u8]) {
+fn judge_all(rt: &(impl Files + Print + Eprint), s: &[u8]) {
     let mut at = 0;
     while at < s.len() {
-        let end = bytes::scan::find(s, at, s.len(), b'\n');
-        judge(&s[at..end]);
+        let end = byte_find::find(s, at, s.len(), b'\n');
+        judge(rt, &s[at..end]);
         at = end + 1;
     }
 }
 
-fn main() {
+fn main(rt: HostRuntime) {
     let mut buf = io::buffer();
-    let n = prog_input::read(b"index", &mut buf);
-    judge_all(&buf[..n]);
+    let n = prog_input::read(&rt, b"index", &mut buf);
+    judge_all(&rt, &buf[..n]);
 }

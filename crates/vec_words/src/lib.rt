@@ -1,4 +1,6 @@
 // The lines of vectors: their parts, and these as texts, numbers and readings.
+#![tactic(auto)]
+
 ghost use Rattle.std.specs.Prelude.{◌≤◌, length};
 ghost use Rattle.io.specs.Counts.{IsPrefixLen};
 
@@ -11,7 +13,7 @@ fn behind(s: &[u8], from: usize, b: u8) -> usize
     requires { from ≤ length s.now }
     ensures { result ≤ length s.now }
 {
-    let end = bytes::scan::find(s, from, s.len(), b);
+    let end = byte_find::find(s, from, s.len(), b);
     if end < s.len() { end + 1 } else { end }
 }
 
@@ -30,7 +32,7 @@ fn start(s: &[u8], n: usize, b: u8) -> usize
 // The n-th part from 0 on; an empty one where there are fewer.
 pub fn part<'a>(s: &'a [u8], n: usize, b: u8) -> &'a [u8] {
     let from = start(s, n, b);
-    let end = bytes::scan::find(s, from, s.len(), b);
+    let end = byte_find::find(s, from, s.len(), b);
     &s[from..end]
 }
 
@@ -42,7 +44,7 @@ pub fn word<'a>(line: &'a [u8], n: usize) -> &'a [u8] {
 // Whether no word follows the n-th.
 pub fn is_last(line: &[u8], n: usize) -> bool {
     let from = start(line, n, b' ');
-    bytes::scan::find(line, from, line.len(), b' ') == line.len()
+    byte_find::find(line, from, line.len(), b' ') == line.len()
 }
 
 // ---- what they say
