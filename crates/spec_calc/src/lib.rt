@@ -2,6 +2,7 @@
 
 // 01, "The question": a reading is never heard, or invalid, or a binary64 value.
 
+// Stays: 01, "Forms for each place", wants an enum whose one case carries an f64.
 #[derive(Clone, Copy)]
 pub enum Reading {
     NeverHeard,
@@ -11,6 +12,7 @@ pub enum Reading {
 
 // What a text comes to: no calculation; bad by a letter, A being 0, the lowest of it whose reading is bad; bad by arithmetic, where an evaluated
 // part of it is not finite; or a value.
+// Stays: four cases, and spec_demand/specs/Cases.antt states the proved cases with them.
 #[derive(Clone, Copy)]
 pub enum Worth {
     NoCalculation,

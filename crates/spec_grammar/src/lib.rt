@@ -2,7 +2,7 @@
 
 // What a token says in its place in the grammar.
 
-#[derive(Clone, Copy)]
+#[derive(Clone, Copy, PartialEq, Eq)]
 pub enum Role {
     // nothing: punctuation, the words UAG, HAG and ASG, all inside an unknown element
     NoRole,

@@ -1,6 +1,7 @@
 #![tactic(auto)]
 
 // What a load answers: the table's length and the number of warnings, or a refusal with its place.
+// Stays: spec_demand/specs/Front.antt: Total.load_refusals and Exact.refused are stated with its cases.
 #[derive(Clone, Copy)]
 pub enum Loaded {
     Accepted {
@@ -14,6 +15,7 @@ pub enum Loaded {
 }
 
 // What listing the warnings of a text answers: how many there are, or why the text is refused.
+// Stays: spec_demand/specs/Front.antt: Total.listing_refusals and Exact.refused_list are stated with its cases.
 #[derive(Clone, Copy)]
 pub enum Listed {
     Warnings(usize),

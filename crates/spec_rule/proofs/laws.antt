@@ -12,3 +12,4 @@ pub mod Privilege
 pub mod Mended
 pub mod Number
 pub mod Finite
+pub mod Order

@@ -2,7 +2,7 @@
 
 // The permissions of a rule and the access that a question gets: NONE, READ, WRITE.
 
-#[derive(Clone, Copy)]
+#[derive(Clone, Copy, PartialEq, Eq, PartialOrd, Ord)]
 pub enum Access {
     None,
     Read,
@@ -10,7 +10,8 @@ pub enum Access {
 }
 
 // Which reading stopped a question: that of a letter, A being 0, or of none.
-#[derive(Clone, Copy)]
+// Stays: spec_demand/specs/Front.antt: Total.refused_question is stated with Nothing.
+#[derive(Clone, Copy, PartialEq, Eq)]
 pub enum Stop {
     Nothing,
     Letter(u8),
@@ -25,7 +26,8 @@ pub struct Decision {
 }
 
 // What a rule's calculation comes to: true, as where it has none; false; or bad by a letter.
-#[derive(Clone, Copy)]
+// Stays: three cases, and spec_rule/specs/Rule.antt states the rules with them.
+#[derive(Clone, Copy, PartialEq, Eq)]
 pub enum Outcome {
     True,
     False,

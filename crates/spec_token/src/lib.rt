@@ -2,7 +2,7 @@
 
 // The terminals of the grammar: 001, "Lexical tokens".
 
-#[derive(Clone, Copy)]
+#[derive(Clone, Copy, PartialEq, Eq)]
 pub enum Kind {
     Uag,
     Hag,
