@@ -12,9 +12,8 @@ pub fn find(s: &[u8], from: usize, to: usize, b: u8) -> usize
     ensures first { result ≡ from + index_of b (slice from to s.now) }
     ensures within { result ≤ to }
 {
-    let mut at = from;
-    while at < to && s[at] != b {
-        at += 1;
-    }
-    at
+    from + s[from..to]
+        .iter()
+        .position(|x| *x == b)
+        .unwrap_or(to - from)
 }

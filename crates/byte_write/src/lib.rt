@@ -28,34 +28,15 @@ fn put_word(lent: &mut [u8], at: usize, v: usize) -> usize
     put_byte(lent, next, (v / 256 % 256) as u8)
 }
 
-// Two words. Inner: load_records calls it, at a place in a table, far below the greatest usize.
-pub fn put_two(lent: &mut [u8], at: usize, a: usize, b: usize) -> usize
-    requires { at + 4 < usize_limit }
-    ensures { Put lent.old lent.new at (spelled_out (a ∷ b ∷ [])) result }
-{
-    let next = put_word(lent, at, a);
-    put_word(lent, next, b)
-}
-
-// Three words. Inner: as put_two.
-pub fn put_three(lent: &mut [u8], at: usize, a: usize, b: usize, c: usize) -> usize
-    requires { at + 6 < usize_limit }
-    ensures { Put lent.old lent.new at (spelled_out (a ∷ b ∷ c ∷ [])) result }
-{
-    let next = put_word(lent, at, a);
-    put_two(lent, next, b, c)
-}
-
-// As many words as there are. Inner: load_write calls it, with the words of a header.
+// Words, one behind the other. Inner: load_write calls it with the words of a header, load_records with those of a record, both at a place in a
+// table, far below the greatest usize.
 pub fn put_words(lent: &mut [u8], at: usize, words: &[usize]) -> usize
     requires { at + 2 * length words.now < usize_limit }
     ensures { Put lent.old lent.new at (spelled_out words.now) result }
 {
     let mut next = at;
-    let mut i = 0;
-    while i < words.len() {
-        next = put_word(lent, next, words[i]);
-        i += 1;
+    for word in words {
+        next = put_word(lent, next, *word);
     }
     next
 }
@@ -66,16 +47,15 @@ fn in_case(b: u8, low: bool) -> u8
     if low { byte_compare::lower(b) } else { b }
 }
 
+// Stays: put_words and put_text are loops of one shape, but one for both would take a closure for what each piece writes, and is no plainer.
 // The bytes of a text, in lower case if asked. Inner: load_records calls it, with a text of the file at a place in a table.
 pub fn put_text(lent: &mut [u8], at: usize, t: &[u8], low: bool) -> usize
     requires { at + length t.now < usize_limit }
     ensures { Put lent.old lent.new at (map (cased low) t.now) result }
 {
     let mut next = at;
-    let mut i = 0;
-    while i < t.len() {
-        next = put_byte(lent, next, in_case(t[i], low));
-        i += 1;
+    for b in t {
+        next = put_byte(lent, next, in_case(*b, low));
     }
     next
 }

@@ -7,18 +7,13 @@ ghost use Rattle.spec_calc.specs.Value.{finite, worth, true_worth};
 ghost use Rattle.spec_calc.specs.Reader.{tree_of};
 ghost use Rattle.spec_rule.specs.Rule.{true_tree};
 
-use calc_value::Computed;
 use spec_calc::{Reading, Worth};
 
 // Whether a text is a calculation.
 pub fn allowed(s: &[u8]) -> bool
     ensures { result ≡ not (missing (tree_of s.now)) }
 {
-    let vs = [0.0; 21];
-    match calc_value::compute(s, &vs) {
-        Computed::Is(_) => true,
-        Computed::NoCalculation => false,
-    }
+    calc_value::compute(s, &[0.0; 21]).is_some()
 }
 
 // A value, or bad by arithmetic where it is not finite: so it is computed where an evaluated part is not.
@@ -37,18 +32,12 @@ pub fn value(s: &[u8], rs: [Reading; 21]) -> Worth
     ensures { result ≡ worth rs (tree_of s.now) }
 {
     let inputs = calc_inputs::inputs_of(rs);
-    let good = inputs.good;
-    let values = inputs.values;
-    match calc_value::compute(s, &values) {
-        Computed::NoCalculation => Worth::NoCalculation,
-        Computed::Is(v) => {
-            let letter = calc_letters::lowest_bad(s, &good);
-            if letter < 21 {
-                Worth::BadBy(letter as u8)
-            } else {
-                if_finite(v)
-            }
-        }
+    let Some(v) = calc_value::compute(s, &inputs.values) else {
+        return Worth::NoCalculation;
+    };
+    match calc_letters::lowest_bad(s, &inputs.good) {
+        Some(letter) => Worth::BadBy(letter),
+        None => if_finite(v),
     }
 }
 
@@ -58,9 +47,7 @@ fn near(w: Worth) -> bool
 {
     match w {
         Worth::Is(v) => calc_arith::near_one(v),
-        Worth::NoCalculation => false,
-        Worth::BadBy(_) => false,
-        Worth::BadByArithmetic => false,
+        Worth::NoCalculation | Worth::BadBy(_) | Worth::BadByArithmetic => false,
     }
 }
 

@@ -1,16 +1,18 @@
 // The inputs of a question: its readings as values, and which of them are good.
 #![tactic(auto)]
 
-ghost use Rattle.std.specs.Prelude.{◌≡◌, map};
+ghost use Rattle.std.specs.Prelude.{◌≡◌, map, length};
 ghost use Rattle.spec_calc.specs.Value.{heard, good};
 
 use spec_calc::Reading;
 
 // The inputs of a question: the value of each letter, and whether it is good.
+// Stays: two arrays side by side, for a calculation's value is computed from the values alone, and its lowest bad letter from the others.
 #[derive(Clone, Copy)]
 pub struct Inputs {
     pub values: [f64; 21],
     pub good: [bool; 21],
+    ghost whole: { length values ≡ 21 },
 }
 
 // The value of a reading, and 0 for one that has none.
@@ -19,8 +21,7 @@ pub fn value_of(r: Reading) -> f64
 {
     match r {
         Reading::Value(x) => x,
-        Reading::NeverHeard => 0.0,
-        Reading::Invalid => 0.0,
+        Reading::NeverHeard | Reading::Invalid => 0.0,
     }
 }
 
@@ -29,23 +30,20 @@ fn is_good(r: Reading) -> bool
 {
     match r {
         Reading::Value(x) => calc_arith::is_finite(x),
-        Reading::NeverHeard => false,
-        Reading::Invalid => false,
+        Reading::NeverHeard | Reading::Invalid => false,
     }
 }
 
 // The readings as inputs: they are matched on once, before any calculation runs.
+// Stays: 21 readings are an array passed by value, a rule of the project (01, "Forms for each place").
 pub fn inputs_of(rs: [Reading; 21]) -> Inputs
     ensures { (result.values ≡ map heard rs) × (result.good ≡ map good rs) }
 {
     let mut values = [0.0; 21];
     let mut good = [false; 21];
-    let mut i: usize = 0;
-    while i < 21 {
-        let r = rs[i];
-        values[i] = value_of(r);
-        good[i] = is_good(r);
-        i += 1;
+    for (i, r) in rs.iter().enumerate() {
+        values[i] = value_of(*r);
+        good[i] = is_good(*r);
     }
     Inputs { values, good }
 }

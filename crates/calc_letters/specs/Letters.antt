@@ -1,5 +1,6 @@
 -- Letters by their bytes.
-use Rattle.std.specs.Prelude.{Bool, false, cond, List, [], ◌∷◌, ◌++◌, ℕ, min, get_or}
+use Rattle.std.specs.Prelude.{Bool, false, cond, List, [], ◌∷◌, ◌++◌, ℕ, get_or, Option as Maybe, Some, None}
+use Rattle.std.proofs.Math.Option.{Option, none, some}
 use Rattle.spec_calc.specs.Scanner.{Start, blank, figure, wrong, sign, start}
 use Rattle.spec_calc.proofs.laws.Letters.{letter_of}
 
@@ -19,7 +20,12 @@ unfoldable pub byte_letters : List ℕ → List ℕ
 byte_letters [] = []
 byte_letters (b ∷ s) = letter_begun (start b []) ++ byte_letters s
 
--- the lowest of a number and of those letters that are not given, one by one
-unfoldable pub lowest_from : ℕ → List Bool → List ℕ → ℕ
-lowest_from m given [] = m
-lowest_from m given (i ∷ is) = lowest_from (cond (given_letter given i) m (min i m)) given is
+-- the first of some letters, if it is not given
+abbrev pub bad_among : List Bool → List ℕ → Maybe ℕ
+bad_among given [] = None
+bad_among given (i ∷ is) = cond (given_letter given i) None (Some i)
+
+-- what the code answers, as the definitions have it
+abbrev pub as_found : Maybe ℕ → Option ℕ
+as_found None = none
+as_found (Some i) = some i

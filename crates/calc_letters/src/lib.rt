@@ -4,7 +4,8 @@
 ghost use Rattle.std.specs.Prelude.{◌≡◌, []};
 ghost use Rattle.spec_lists.specs.Select.{all};
 ghost use Rattle.spec_calc.specs.Scanner.{start};
-ghost use Rattle.calc_letters.specs.Letters.{given_letter, letter_begun, byte_letters, lowest_from};
+ghost use Rattle.spec_calc.specs.Value.{lowest};
+ghost use Rattle.calc_letters.specs.Letters.{given_letter, letter_begun, byte_letters, bad_among, as_found};
 
 use calc_symbol::Class;
 
@@ -13,7 +14,7 @@ fn byte_given(b: u8, given: &[bool; 21]) -> bool
     ensures { result ≡ all (given_letter given.now) (letter_begun (start b [])) }
 {
     match calc_symbol::class_of(b) {
-        Class::Letter(i) => given[i],
+        Class::Letter(i) => given[usize::from(i)],
         _ => true,
     }
 }
@@ -22,53 +23,22 @@ fn byte_given(b: u8, given: &[bool; 21]) -> bool
 pub fn letters_given(s: &[u8], given: &[bool; 21]) -> bool
     ensures { result ≡ all (given_letter given.now) (byte_letters s.now) }
 {
-    let mut at = 0;
-    while at < s.len() {
-        if !byte_given(s[at], given) {
-            return false;
-        }
-        at += 1;
-    }
-    true
+    s.iter().all(|b| byte_given(*b, given))
 }
 
-// The lower of a number and of the letter that a byte is, if it is one whose reading is bad.
-fn lower_by(b: u8, goods: &[bool; 21], lowest: usize) -> usize
-    ensures { result ≡ lowest_from lowest goods.now (letter_begun (start b [])) }
+// The letter that a byte is, if it is one whose reading is bad.
+fn bad_letter(b: u8, goods: &[bool; 21]) -> Option<u8>
+    ensures { result ≡ bad_among goods.now (letter_begun (start b [])) }
 {
     match calc_symbol::class_of(b) {
-        Class::Letter(i) => {
-            if goods[i] {
-                return lowest;
-            }
-            if i < lowest { i } else { lowest }
-        }
-        _ => lowest,
+        Class::Letter(i) => { if goods[usize::from(i)] { None } else { Some(i) } }
+        _ => None,
     }
 }
 
-// The lowest letter whose reading is bad; none is lower than A.
-fn lowest_of(s: &[u8], goods: &[bool; 21]) -> usize
-    ensures { result ≡ lowest_from 21 goods.now (byte_letters s.now) }
+// The lowest letter whose reading is bad, in either branch, if one is.
+pub fn lowest_bad(s: &[u8], goods: &[bool; 21]) -> Option<u8>
+    ensures { as_found result ≡ lowest (given_letter goods.now) (byte_letters s.now) }
 {
-    let mut lowest = 21;
-    let mut at = 0;
-    while at < s.len() {
-        if lowest == 0 {
-            return 0;
-        }
-        lowest = lower_by(s[at], goods, lowest);
-        at += 1;
-    }
-    lowest
-}
-
-// The lowest letter whose reading is bad, in either branch, and 21 if none is, which is asked first: most readings are good.
-pub fn lowest_bad(s: &[u8], goods: &[bool; 21]) -> usize
-    ensures { result ≡ lowest_from 21 goods.now (byte_letters s.now) }
-{
-    if letters_given(s, goods) {
-        return 21;
-    }
-    lowest_of(s, goods)
+    s.iter().filter_map(|b| bad_letter(*b, goods)).min()
 }

@@ -1,14 +1,11 @@
 -- What the code finds of a number that begins at an offset of a text.
-use Rattle.std.specs.Prelude.{◌≡◌, ℕ, ◌+◌, ◌-◌, ◌^◌, ◌<◌, ◌≤◌, List, ◌++◌, length, drop}
+use Rattle.std.specs.Prelude.{◌≡◌, ℕ, ◌+◌, ◌-◌, ◌^◌, ◌<◌, ◌≤◌, List, ◌++◌, length, drop, Option, Some, None, Float}
 use Rattle.std.proofs.Math.Option.{none, some}
 use Rattle.spec_lists.specs.Text.{bytes, digit, whole}
 use Rattle.spec_lists.specs.Select.{run, after}
 use Rattle.spec_calc.specs.Symbol.{numeral_byte}
 use Rattle.spec_calc.specs.Scanner.{numeral, pointed}
 use Rattle.calc_numeral.specs.declared.Digits.{Digits}
-use Rattle.calc_numeral.specs.declared.Digits.TheVariants.{Are, TooMany}
-use Rattle.calc_numeral.specs.declared.Figure.{Figure}
-use Rattle.calc_numeral.specs.declared.Figure.TheVariants as fig
 
 -- the digits from an offset on make up m behind those of n, and end at p; l more were allowed
 pub record Counted (s : List ℕ) (at left n m p l : ℕ) : Type 0 where
@@ -19,9 +16,9 @@ pub record Counted (s : List ℕ) (at left n m p l : ℕ) : Type 0 where
   pub small : m < 10 ^ (15 - l)
   pub behind : after digit (drop at s) ≡ drop p s
 
-abbrev pub Counts : List ℕ → ℕ → ℕ → ℕ → Digits → Type 0
-Counts s at left n (Are m p l) = Counted s at left n m p l
-Counts s at left n TooMany = left < length (run digit (drop at s))
+abbrev pub Counts : List ℕ → ℕ → ℕ → ℕ → Option Digits → Type 0
+Counts s at left n (Some d) = Counted s at left n d.number d.end d.left
+Counts s at left n None = left < length (run digit (drop at s))
 
 -- the digits and points from an offset on end at p
 pub record Ends (s : List ℕ) (at p : ℕ) : Type 0 where
@@ -30,10 +27,10 @@ pub record Ends (s : List ℕ) (at p : ℕ) : Type 0 where
   pub behind : after numeral_byte (drop at s) ≡ drop p s
 
 -- a point stands before the offset, and the whole digits w before that
-abbrev pub Fraction : List ℕ → ℕ → List ℕ → Figure → Type 0
-Fraction s at w (fig.Is v p) = Ends s at p × (pointed w (bytes "." ++ run numeral_byte (drop at s)) ≡ some v)
-Fraction s at w fig.Wrong = pointed w (bytes "." ++ run numeral_byte (drop at s)) ≡ none
+abbrev pub Fraction : List ℕ → ℕ → List ℕ → Option (Float × ℕ) → Type 0
+Fraction s at w (Some r) = Ends s at r.1 × (pointed w (bytes "." ++ run numeral_byte (drop at s)) ≡ some r.0)
+Fraction s at w None = pointed w (bytes "." ++ run numeral_byte (drop at s)) ≡ none
 
-abbrev pub Numbered : List ℕ → ℕ → Figure → Type 0
-Numbered s at (fig.Is v p) = Ends s at p × (numeral (run numeral_byte (drop at s)) ≡ some v)
-Numbered s at fig.Wrong = numeral (run numeral_byte (drop at s)) ≡ none
+abbrev pub Numbered : List ℕ → ℕ → Option (Float × ℕ) → Type 0
+Numbered s at (Some r) = Ends s at r.1 × (numeral (run numeral_byte (drop at s)) ≡ some r.0)
+Numbered s at None = numeral (run numeral_byte (drop at s)) ≡ none

@@ -1,44 +1,33 @@
 // A number in a calculation's text.
 #![tactic(auto)]
 
-ghost use Rattle.std.specs.Prelude.{◌≡◌, ℕ, ◌+◌, ◌-◌, ◌^◌, ◌<◌, ◌≤◌, true, List, [], ◌∷◌, length, slice_index};
+ghost use Rattle.std.specs.Prelude.{◌≡◌, ℕ, ◌+◌, ◌-◌, ◌^◌, ◌<◌, ◌≤◌, true, List, [], ◌∷◌, length, slice_index, slice_get, ◌↔◌, IsTrue};
 ghost use Rattle.spec_lists.specs.Text.{digit, whole};
 ghost use Rattle.spec_calc.specs.Symbol.{decimal, numeral_byte};
 ghost use Rattle.calc_numeral.specs.Numeral.{Counts, Fraction, Numbered};
 
 // Digits: the number they make, the offset behind them, and how many more were allowed.
 #[derive(Clone, Copy)]
-pub enum Digits {
-    Are(u64, usize, usize),
-    TooMany,
+struct Digits {
+    number: u64,
+    end: usize,
+    left: usize,
 }
 
-// A number, and the offset behind it.
-#[derive(Clone, Copy)]
-pub enum Figure {
-    Is(f64, usize),
-    Wrong,
-}
-
-// The byte at an offset, or 0 past the end: no calculation has a byte 0.
-pub fn peek(s: &[u8], at: usize) -> u8
-    ensures { result ≡ slice_index s.now at }
+// Whether the byte b stands at an offset.
+pub fn stands_at(s: &[u8], at: usize, b: u8) -> bool
+    ensures { IsTrue result ↔ (slice_get s.now at ≡ Some b) }
 {
-    if at < s.len() { s[at] } else { 0 }
+    s.get(at) == Some(&b)
 }
 
-// The divisor of a number with k digits behind its point.
+// The divisor of a number with k digits behind its point: multiplied out in whole numbers.
+#[tactic(auto, using(crate::specs::laws::Digits::ten_fits))]
 fn ten_to(k: usize) -> u64
     requires { k ≤ 15 }
     ensures { result ≡ 10 ^ k }
 {
-    let mut d: u64 = 1;
-    let mut i = 0;
-    while i < k {
-        d *= 10;
-        i += 1;
-    }
-    d
+    10_u64.pow(k as u32)
 }
 
 // Both are exact, so one division rounds once.
@@ -46,17 +35,7 @@ fn decimal_of(n: u64, places: usize) -> f64
     requires { places ≤ 15 }
     ensures { result ≡ decimal n places }
 {
-    let d = ten_to(places);
-    std::num::nearest_u64_to_f64(n) / std::num::nearest_u64_to_f64(d)
-}
-
-fn is_digit(b: u8) -> bool
-    ensures { result ≡ digit b }
-{
-    match b {
-        b'0'..=b'9' => true,
-        _ => false,
-    }
+    std::num::nearest_u64_to_f64(n) / std::num::nearest_u64_to_f64(ten_to(places))
 }
 
 // The number n with the digit b behind it.
@@ -64,60 +43,55 @@ fn pushed(n: u64, b: u8) -> u64
     requires { (n < 10 ^ 15) × (digit b ≡ true) }
     ensures { result ≡ whole n (b ∷ []) }
 {
-    n * 10 + ((b - b'0') as u64)
+    n * 10 + u64::from(b - b'0')
 }
 
-// The digits from an offset on, `left` of them at most, behind those that make up n.
-fn digits_at(s: &[u8], at: usize, left: usize, n: u64) -> Digits
+// The digits from an offset on, `left` of them at most, behind those that make up n; none if there are more.
+fn digits_at(s: &[u8], at: usize, left: usize, n: u64) -> Option<Digits>
     requires { (at ≤ length s.now) × (left ≤ 15) × (n < 10 ^ (15 - left)) }
     ensures { Counts s.now at left n result }
 {
-    let mut p = at;
-    let mut l = left;
-    let mut m = n;
-    while is_digit(peek(s, p)) {
-        if l == 0 {
-            return Digits::TooMany;
+    let mut d = Digits {
+        number: n,
+        end: at,
+        left,
+    };
+    for b in &s[at..] {
+        if !b.is_ascii_digit() {
+            return Some(d);
         }
-        m = pushed(m, peek(s, p));
-        l -= 1;
-        p += 1;
+        if d.left == 0 {
+            return None;
+        }
+        d = Digits {
+            number: pushed(d.number, *b),
+            end: d.end + 1,
+            left: d.left - 1,
+        };
     }
-    Digits::Are(m, p, l)
+    Some(d)
 }
 
-// The digits behind a point; a second point is no number's.
-fn fraction_at(s: &[u8], at: usize, left: usize, n: u64) -> Figure
+// The digits behind a point, and the offset behind them; a second point is no number's.
+fn fraction_at(s: &[u8], at: usize, left: usize, n: u64) -> Option<(f64, usize)>
     requires { (at ≤ length s.now) × (left ≤ 15) × (n < 10 ^ (15 - left)) }
     ensures { (w : List ℕ) → length w + left ≡ 15 → n ≡ whole 0 w → Fraction s.now at w result }
 {
-    match digits_at(s, at, left, n) {
-        Digits::TooMany => Figure::Wrong,
-        Digits::Are(m, p, l) => {
-            if p == at {
-                Figure::Wrong
-            } else if peek(s, p) == b'.' {
-                Figure::Wrong
-            } else {
-                Figure::Is(decimal_of(m, left - l), p)
-            }
-        }
+    let d = digits_at(s, at, left, n)?;
+    if d.end == at || stands_at(s, d.end, b'.') {
+        return None;
     }
+    Some((decimal_of(d.number, left - d.left), d.end))
 }
 
-// The number that begins at an offset. calc_symbol and prog_reading call it where they have seen a digit or a point.
-pub fn number_at(s: &[u8], at: usize) -> Figure
+// The number that begins at an offset, and the offset behind it. calc_symbol and prog_reading call it where they have seen a digit or a point.
+pub fn number_at(s: &[u8], at: usize) -> Option<(f64, usize)>
     requires { (at < length s.now) × (numeral_byte (slice_index s.now at) ≡ true) }
     ensures { Numbered s.now at result }
 {
-    match digits_at(s, at, 15, 0) {
-        Digits::TooMany => Figure::Wrong,
-        Digits::Are(n, p, l) => {
-            if peek(s, p) == b'.' {
-                fraction_at(s, p + 1, l, n)
-            } else {
-                Figure::Is(decimal_of(n, 0), p)
-            }
-        }
+    let d = digits_at(s, at, 15, 0)?;
+    if stands_at(s, d.end, b'.') {
+        return fraction_at(s, d.end + 1, d.left, d.number);
     }
+    Some((decimal_of(d.number, 0), d.end))
 }

@@ -20,33 +20,13 @@ pub fn is_true_value(x: f64) -> bool
     x != 0.0
 }
 
-fn either(x: f64, y: f64) -> f64
-    ensures { result ≡ apply Operator.Or x y }
-{
-    if is_true_value(x) {
-        1.0
-    } else {
-        truth_of(is_true_value(y))
-    }
-}
-
-fn both(x: f64, y: f64) -> f64
-    ensures { result ≡ apply Operator.And x y }
-{
-    if is_true_value(x) {
-        truth_of(is_true_value(y))
-    } else {
-        0.0
-    }
-}
-
 // The operator o between x and y, by IEEE 754.
 pub fn operation(o: Operator, x: f64, y: f64) -> f64
     ensures { result ≡ apply o x y }
 {
     match o {
-        Operator::Or => either(x, y),
-        Operator::And => both(x, y),
+        Operator::Or => truth_of(is_true_value(x) || is_true_value(y)),
+        Operator::And => truth_of(is_true_value(x) && is_true_value(y)),
         Operator::Less => truth_of(x < y),
         Operator::AtMost => truth_of(x <= y),
         Operator::More => truth_of(x > y),

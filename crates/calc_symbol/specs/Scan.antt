@@ -1,7 +1,8 @@
 -- What the code finds at an offset of a text, against the text's symbols.
-use Rattle.std.specs.Prelude.{◌≡◌, false, List, [], ◌∷◌, ℕ, ◌+◌, ◌≤◌, ◌<◌, length, take, drop, get_or}
+use Rattle.std.specs.Prelude.{◌≡◌, false, List, [], ◌∷◌, ℕ, ◌+◌, ◌≤◌, ◌<◌, length, take, drop, get_or, Option as Maybe, Some, None, IfSome}
 use Rattle.std.proofs.Math.Option.{Option}
 use Rattle.spec_lists.specs.Text.{same, among}
+use Rattle.spec_calc.specs.declared.Operator.{Operator}
 use Rattle.spec_lists.specs.Select.{first}
 use Rattle.spec_calc.specs.Symbol.{Symbol, letter, operator, not_sign, question, colon, open_paren, close_paren, spellings}
 use Rattle.spec_calc.specs.Scanner.{Start, blank, figure, wrong, sign}
@@ -10,10 +11,6 @@ use Rattle.calc_symbol.specs.declared.Class.{Class}
 use Rattle.calc_symbol.specs.declared.Class.TheVariants as class
 use Rattle.calc_symbol.specs.declared.Sign.{Sign}
 use Rattle.calc_symbol.specs.declared.Sign.TheVariants as code
-use Rattle.calc_symbol.specs.declared.Spelled.{Spelled}
-use Rattle.calc_symbol.specs.declared.Spelled.TheVariants.{As, Nothing}
-use Rattle.calc_symbol.specs.declared.Next.{Next}
-use Rattle.calc_symbol.specs.declared.Next.TheVariants.{Is, Wrong}
 
 -- the symbols from an offset on
 unfoldable pub syms : List ℕ → ℕ → Option (List Symbol)
@@ -54,15 +51,15 @@ ClassOk class.Figure = Unit {0}
 ClassOk (class.Letter i) = i < 21
 ClassOk class.Other = Unit {0}
 
--- a sign with m bytes behind its first, or else another start
-abbrev pub spelled_as : Spelled → ℕ → Start → Start
-spelled_as (As x) m other = sign (symbol_of x) m
-spelled_as Nothing m other = other
+-- a sign of one byte, or none
+abbrev pub single_as : Maybe Sign → Start
+single_as (Some x) = sign (symbol_of x) 0
+single_as None = wrong
 
--- a spelling of two bytes has a second
-abbrev pub PairOk : ℕ → Spelled → Type 0
-PairOk d (As x) = 0 < d
-PairOk d Nothing = Unit {0}
+-- an operator of two bytes, or else another start
+abbrev pub pair_as : Maybe Operator → Start → Start
+pair_as (Some o) other = sign (operator o) 1
+pair_as None other = other
 
 -- at an offset stands the symbol x, and behind it the offset n
 pub record SymbolAt (s : List ℕ) (at : ℕ) (x : Symbol) (n : ℕ) : Type 0 where
@@ -70,10 +67,15 @@ pub record SymbolAt (s : List ℕ) (at : ℕ) (x : Symbol) (n : ℕ) : Type 0 wh
   pub within : n ≤ length s
   pub reads : syms s at ≡ then x (syms s n)
 
--- a sign at an offset, or that none is spelled there
-abbrev pub SignAt : List ℕ → ℕ → Next → Type 0
-SignAt s at (Is x n) = SymbolAt s at (symbol_of x) n
-SignAt s at Wrong = spelling_at s at ≡ wrong
+-- an operator of two bytes at an offset, or that none is spelled there
+pub record PairAt (s : List ℕ) (at : ℕ) (r : Maybe Operator) : Type 0 where
+  pub spells : pair_as r (single (get_or s at 0)) ≡ spelling_at s at
+  pub inside : IfSome r (λ _. at + 1 < length s)
+
+-- a sign at an offset, and the offset behind it, or that none is spelled there
+abbrev pub SignAt : List ℕ → ℕ → Maybe (Sign × ℕ) → Type 0
+SignAt s at (Some r) = SymbolAt s at (symbol_of r.0) r.1
+SignAt s at None = spelling_at s at ≡ wrong
 
 -- only blanks stand between at and p
 pub record BlanksTo (s : List ℕ) (at p : ℕ) : Type 0 where

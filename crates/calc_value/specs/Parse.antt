@@ -1,11 +1,9 @@
 -- What the code reads from an offset on, against the steps of the reader.
-use Rattle.std.specs.Prelude.{◌≡◌, List, ◌∷◌, map, ℕ, ◌≤◌, length, Float}
+use Rattle.std.specs.Prelude.{◌≡◌, List, ◌∷◌, map, ℕ, ◌≤◌, length, Float, Option as Maybe, Some, None}
 use Rattle.std.proofs.Math.Option.{none}
 use Rattle.spec_calc.specs.declared.Reading.TheVariants as readings
 use Rattle.spec_calc.specs.Expression.{Tree}
 use Rattle.spec_calc.specs.Reader.{begun, if_of, else_of, Stack, State, wanted, have, top}
-use Rattle.calc_value.specs.declared.Parsed.{Parsed}
-use Rattle.calc_value.specs.declared.Parsed.TheVariants as parsed
 use Rattle.calc_symbol.specs.Scan.{syms}
 use Rattle.calc_symbol.specs.Lookahead.{from, ends_of}
 use Rattle.calc_value.specs.Strict.{strict_value}
@@ -23,12 +21,12 @@ pub record Parses (vs : List Float) (s : List ℕ) (st : Stack → State) (l at 
   pub loose : ends_of (syms s n) ≤ l
   pub reads : (k : Stack) → top k ≤ l → from (st k) (syms s at) ≡ from (have tree k) (syms s n)
 
-abbrev pub ParsesAs : List Float → List ℕ → (Stack → State) → ℕ → ℕ → ℕ → Parsed → Type 0
-ParsesAs vs s st l at low (parsed.Value v n) = Parses vs s st l at low v n
-ParsesAs vs s st l at low parsed.Bad = (k : Stack) → top k ≤ l → from (st k) (syms s at) ≡ none
+abbrev pub ParsesAs : List Float → List ℕ → (Stack → State) → ℕ → ℕ → ℕ → Maybe (Float × ℕ) → Type 0
+ParsesAs vs s st l at low (Some r) = Parses vs s st l at low r.0 r.1
+ParsesAs vs s st l at low None = (k : Stack) → top k ≤ l → from (st k) (syms s at) ≡ none
 
 -- The same behind a tree of value v.
-abbrev pub ContinuesAs : List Float → List ℕ → (Tree → Stack → State) → ℕ → ℕ → Float → Parsed → Type 0
+abbrev pub ContinuesAs : List Float → List ℕ → (Tree → Stack → State) → ℕ → ℕ → Float → Maybe (Float × ℕ) → Type 0
 ContinuesAs vs s st l at v r = (t : Tree) → value_with vs t ≡ v → ParsesAs vs s (st t) l at at r
 
 abbrev pub in_if : Tree → Stack → State

@@ -7,125 +7,115 @@ ghost use Rattle.spec_calc.specs.Reader.{wanted, have, tree_of};
 ghost use Rattle.calc_value.specs.Parse.{value_with, ParsesAs, ContinuesAs, in_if, in_else};
 ghost use Rattle.calc_value.specs.Answer.{computed};
 
-use calc_symbol::{First, Joint, Place};
+use calc_symbol::{First, Joint};
 use spec_calc::Reading;
 
 // A longer text is no calculation, and no function here is called on one: their calls nest as deep as the text does.
 const LONGEST: usize = 79;
 
-// A value, and the offset behind its text.
+// A text that may be a calculation, and the values of its letters. Each method reads from an offset on, and answers a value and the offset
+// behind its text.
 #[derive(Clone, Copy)]
-pub enum Parsed {
-    Value(f64, usize),
-    Bad,
+struct Source<'a> {
+    text: &'a [u8],
+    values: &'a [f64; 21],
+    ghost short: { length text.now ≤ longest_calculation },
+    ghost whole: { length values.now ≡ 21 },
 }
 
-// The value of a calculation, if a text is one, whatever its readings.
-#[derive(Clone, Copy)]
-pub enum Computed {
-    NoCalculation,
-    Is(f64),
-}
+impl<'a> Source<'a> {
+    // An operand, and the operators of level l and tighter behind it; at level 0 conditionals too.
+    #[cycle(parse)]
+    fn expression(&self, at: usize, l: usize) -> Option<(f64, usize)>
+        requires { at ≤ length self.now.text.now }
+        ensures { ParsesAs self.now.values.now self.now.text.now wanted l at (at + 1) result }
+    {
+        let (v, n) = self.operand(at)?;
+        self.rest(n, l, v)
+    }
 
-// An operand, and the operators of level l and tighter behind it; at level 0 conditionals too.
-#[cycle(branches_expression_operand_other_rest)]
-fn expression(s: &[u8], vs: &[f64; 21], at: usize, l: usize) -> Parsed
-    requires { (at ≤ length s.now) × ((length s.now ≤ longest_calculation) × (length vs.now ≡ 21)) }
-    ensures { ParsesAs vs.now s.now wanted l at (at + 1) result }
-{
-    match operand(s, vs, at) {
-        Parsed::Bad => Parsed::Bad,
-        Parsed::Value(v, n) => rest(s, vs, n, l, v),
+    // What continues behind an operand of value v, at level l.
+    #[cycle(parse)]
+    fn rest(&self, at: usize, l: usize, v: f64) -> Option<(f64, usize)>
+        requires { at ≤ length self.now.text.now }
+        ensures { ContinuesAs self.now.values.now self.now.text.now have l at v result }
+    {
+        let Some((joint, p)) = calc_symbol::joint_at(self.text, at, l) else {
+            return Some((v, at));
+        };
+        match joint {
+            Joint::Choice => self.branches(p, v),
+            Joint::By(o) => {
+                let (u, n) = self.expression(p, calc_symbol::level_of(o) + 1)?;
+                self.rest(n, l, calc_arith::applied(o, v, u))
+            }
+        }
+    }
+
+    // The two branches of a conditional whose condition has the value v.
+    #[cycle(parse)]
+    fn branches(&self, at: usize, v: f64) -> Option<(f64, usize)>
+        requires { at ≤ length self.now.text.now }
+        ensures { ContinuesAs self.now.values.now self.now.text.now in_if 0 at v result }
+    {
+        let (x, n) = self.expression(at, 0)?;
+        let p = calc_symbol::mark_at(self.text, n, b':')?;
+        self.other(p, v, x)
+    }
+
+    // The second branch, the first having the value x.
+    #[cycle(parse)]
+    fn other(&self, at: usize, v: f64, x: f64) -> Option<(f64, usize)>
+        requires { at ≤ length self.now.text.now }
+        ensures { (c : Tree) → value_with self.now.values.now c ≡ v → ContinuesAs self.now.values.now self.now.text.now (in_else c) 0 at x result }
+    {
+        let (y, n) = self.expression(at, 0)?;
+        Some((calc_arith::chosen(v, x, y), n))
+    }
+
+    // A number, a letter, a prefix and its operand, or a parenthesis.
+    #[cycle(parse)]
+    fn operand(&self, at: usize) -> Option<(f64, usize)>
+        requires { at ≤ length self.now.text.now }
+        ensures { ParsesAs self.now.values.now self.now.text.now wanted 6 at (at + 1) result }
+    {
+        let (first, p) = calc_symbol::first_at(self.text, at)?;
+        match first {
+            First::Number(v) => Some((v, p)),
+            First::Letter(i) => Some((self.values[usize::from(i)], p)),
+            First::Minus => {
+                let (v, n) = self.operand(p)?;
+                Some((-v, n))
+            }
+            First::Not => {
+                let (w, n) = self.operand(p)?;
+                Some((calc_arith::denied(w), n))
+            }
+            First::Open => {
+                let (x, n) = self.expression(p, 0)?;
+                let q = calc_symbol::mark_at(self.text, n, b')')?;
+                Some((x, q))
+            }
+        }
     }
 }
 
-// What continues behind an operand of value v, at level l.
-#[cycle(branches_expression_operand_other_rest)]
-fn rest(s: &[u8], vs: &[f64; 21], at: usize, l: usize, v: f64) -> Parsed
-    requires { (at ≤ length s.now) × ((length s.now ≤ longest_calculation) × (length vs.now ≡ 21)) }
-    ensures { ContinuesAs vs.now s.now have l at v result }
-{
-    match calc_symbol::joint_at(s, at, l) {
-        Joint::End => Parsed::Value(v, at),
-        Joint::Choice(p) => branches(s, vs, p, v),
-        Joint::By(o, p) => match expression(s, vs, p, calc_symbol::level_of(o) + 1) {
-            Parsed::Bad => Parsed::Bad,
-            Parsed::Value(u, n) => rest(s, vs, n, l, calc_arith::applied(o, v, u)),
-        },
-    }
-}
-
-// The two branches of a conditional whose condition has the value v.
-#[cycle(branches_expression_operand_other_rest)]
-fn branches(s: &[u8], vs: &[f64; 21], at: usize, v: f64) -> Parsed
-    requires { (at ≤ length s.now) × ((length s.now ≤ longest_calculation) × (length vs.now ≡ 21)) }
-    ensures { ContinuesAs vs.now s.now in_if 0 at v result }
-{
-    match expression(s, vs, at, 0) {
-        Parsed::Bad => Parsed::Bad,
-        Parsed::Value(x, n) => match calc_symbol::mark_at(s, n, b':') {
-            Place::Missing => Parsed::Bad,
-            Place::At(p) => other(s, vs, p, v, x),
-        },
-    }
-}
-
-// The second branch, the first having the value x.
-#[cycle(branches_expression_operand_other_rest)]
-fn other(s: &[u8], vs: &[f64; 21], at: usize, v: f64, x: f64) -> Parsed
-    requires { (at ≤ length s.now) × ((length s.now ≤ longest_calculation) × (length vs.now ≡ 21)) }
-    ensures { (c : Tree) → value_with vs.now c ≡ v → ContinuesAs vs.now s.now (in_else c) 0 at x result }
-{
-    match expression(s, vs, at, 0) {
-        Parsed::Bad => Parsed::Bad,
-        Parsed::Value(y, n) => Parsed::Value(calc_arith::chosen(v, x, y), n),
-    }
-}
-
-// A number, a letter, a prefix and its operand, or a parenthesis.
-#[cycle(branches_expression_operand_other_rest)]
-fn operand(s: &[u8], vs: &[f64; 21], at: usize) -> Parsed
-    requires { (at ≤ length s.now) × ((length s.now ≤ longest_calculation) × (length vs.now ≡ 21)) }
-    ensures { ParsesAs vs.now s.now wanted 6 at (at + 1) result }
-{
-    match calc_symbol::first_at(s, at) {
-        First::Number(v, n) => Parsed::Value(v, n),
-        First::Letter(i, n) => Parsed::Value(vs[i], n),
-        First::Minus(p) => match operand(s, vs, p) {
-            Parsed::Bad => Parsed::Bad,
-            Parsed::Value(v, n) => Parsed::Value(-v, n),
-        },
-        First::Not(p) => match operand(s, vs, p) {
-            Parsed::Bad => Parsed::Bad,
-            Parsed::Value(v, n) => Parsed::Value(calc_arith::denied(v), n),
-        },
-        First::Open(p) => match expression(s, vs, p, 0) {
-            Parsed::Bad => Parsed::Bad,
-            Parsed::Value(v, n) => match calc_symbol::mark_at(s, n, b')') {
-                Place::Missing => Parsed::Bad,
-                Place::At(q) => Parsed::Value(v, q),
-            },
-        },
-        First::Nothing => Parsed::Bad,
-    }
-}
-
-// The value of a whole text, the letters having the values vs. calc and calc_truth call it with an array of 21.
-pub fn compute(s: &[u8], vs: &[f64; 21]) -> Computed
+// The value of a whole text, if it is a calculation, the letters having the values vs. calc and calc_truth call it with an array of 21.
+pub fn compute(s: &[u8], vs: &[f64; 21]) -> Option<f64>
     requires { length vs.now ≡ 21 }
     ensures { result ≡ computed (map Reading.Value vs.now) (tree_of s.now) }
 {
     if LONGEST < s.len() {
-        return Computed::NoCalculation;
+        return None;
     }
-    match expression(s, vs, 0, 0) {
-        Parsed::Bad => Computed::NoCalculation,
-        Parsed::Value(v, n) => {
-            if calc_symbol::is_end(s, n) {
-                Computed::Is(v)
-            } else {
-                Computed::NoCalculation
-            }
-        }
+    let source = Source {
+        text: s,
+        values: vs,
+    };
+    let (v, n) = source.expression(0, 0)?;
+    if calc_symbol::is_end(s, n) {
+        Some(v)
+    } else {
+        None
     }
 }

@@ -1,19 +1,12 @@
-use mathlib.Core.Path.{sym, ◌∙◌}
-use Rattle.spec_lists.specs.Text.{lower_byte}
-use Rattle.byte_compare.specs.laws.Compared.{other_length, start, alike, differs, ended}
+use Rattle.std.proofs.Common.{rules, ◌∙◌}
+use borrow.Author.Tests.{tests}
+use Rattle.std.proofs.lemmas.Iterator.{YieldsList-from_slice, YieldsList-from_zip}
+use Rattle.std.proofs.lemmas.Iterator.Search.{all_from_yields_List}
+use Rattle.byte_compare.proofs.Lowered.{alike, pairs_alike}
 use Rattle.byte_compare.proofs.equal_lowered.Goals as goal
 
 pub returns-then-a-b : goal.returns-then-a-b
-returns-then-a-b c = other_length lower_byte c.args.a.now c.args.b.now c.if-a-b.true
-
-pub loop-i-init : goal.loop-i-init
-loop-i-init c = start lower_byte c.if-a-b.false
-
-pub returns-then-lower-b : goal.returns-then-lower-b
-returns-then-lower-b c = differs lower_byte c.loop-i.invariant c.loop-i-test.true (λ e. c.if-lower-b.true (c.lower.ensures ∙ e))
-
-pub loop-i-preserved : goal.loop-i-preserved
-loop-i-preserved c = alike lower_byte c.loop-i.invariant c.loop-i-test.true (sym c.lower.ensures ∙ c.if-lower-b.false)
-
-pub returns : goal.returns
-returns c = ended lower_byte c.loop-i.invariant c.loop-i-test.false
+returns-then-a-b c = let a = c.args.a.now in
+    let b = c.args.b.now in
+    all_from_yields_List alike c.all.new.self _ _ c.all.ensures.ran (YieldsList-from_zip (YieldsList-from_slice a cc) (YieldsList-from_slice b cc)) (λ x r q k. search (rules, tests))
+    ∙ pairs_alike a b c.if-a-b.true

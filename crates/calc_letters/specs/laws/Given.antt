@@ -1,10 +1,10 @@
 -- Whether the letters of a text are among those given, byte by byte.
-use Rattle.std.specs.Prelude.{◌≡◌, refl, Bool, true, false, not, ◌&&◌, List, [], ℕ, suc, ◌+◌, ◌≤◌, ◌<◌, length, get_or, drop}
-use Rattle.std.proofs.Common.{sym, ◌∙◌, add-one, drop_of_length-le}
+use Rattle.std.specs.Prelude.{◌≡◌, refl, Bool, true, false, not, ◌&&◌, List, [], ◌∷◌, ℕ, get_or}
+use Rattle.std.specs.List.{list_all}
+use Rattle.std.proofs.Common.{sym, ap, ◌∙◌}
 use Rattle.std.proofs.Math.Option.{Option, none, some}
 use types.Run.{OneOf}
 use denote.Enum.Declared.{tag_of}
-use Rattle.std.proofs.Math.Seq.{drop-cons}
 use Rattle.spec_lists.specs.Select.{all, holds_of, missing}
 use Rattle.spec_lists.proofs.laws.Every.{all_append}
 use Rattle.spec_calc.specs.Scanner.{start}
@@ -33,24 +33,14 @@ module _ (given : List Bool) (b : ℕ) (r : Class) (er : (y : List ℕ) → star
 
 -- ---- bytes one by one
 
-module _ (given : List Bool) (s : List ℕ) (at : ℕ) where
-  from_at : at < length s → all (given_letter given) (byte_letters (drop at s))
-      ≡ all (given_letter given) (letter_begun (start (get_or s at 0) [])) && all (given_letter given) (byte_letters (drop (at + 1) s))
-  unfolding byte_letters
-  from_at h = rw (add-one at, drop-cons s at 0 h) (all_append (given_letter given) (letter_begun (start (get_or s at 0) [])) (byte_letters (drop (suc at) s)))
+abbrev pub byte_given : List Bool → ℕ → Bool
+byte_given given b = all (given_letter given) (letter_begun (start b []))
 
-  module _
-      (h : at < length s) {b t : Bool} (e : b ≡ all (given_letter given) (byte_letters (drop at s)))
-      (et : t ≡ all (given_letter given) (letter_begun (start (get_or s at 0) []))) where
-    pub letters_on : t ≡ true → b ≡ all (given_letter given) (byte_letters (drop (at + 1) s))
-    letters_on q = e ∙ (from_at h ∙ rw (← et, q))
-
-    pub letters_off : t ≡ false → false ≡ b
-    letters_off q = sym (e ∙ (from_at h ∙ rw (← et, q)))
-
-pub letters_end : (given : List Bool) (s : List ℕ) (at : ℕ) {b : Bool} → length s ≤ at → b ≡ all (given_letter given) (byte_letters (drop at s)) → true ≡ b
+pub all_bytes : (given : List Bool) (s : List ℕ) → list_all (byte_given given) s ≡ all (given_letter given) (byte_letters s)
 unfolding byte_letters
-letters_end given s at h e = sym (e ∙ rw (drop_of_length-le s h))
+all_bytes given [] = refl
+all_bytes given (b ∷ s) =
+    ap (λ t. byte_given given b && t) (all_bytes given s) ∙ sym (all_append (given_letter given) (letter_begun (start b [])) (byte_letters s))
 
 module _ (given : List Bool) (s : List ℕ) {b : Bool} (eb : b ≡ all (given_letter given) (byte_letters s)) where
   pub with_yes : {r : Bool} → b ≡ true → r ≡ not (missing (tree_of s)) → r ≡ holds_of (tree_of s) (λ t. all (given_letter given) (letters t))

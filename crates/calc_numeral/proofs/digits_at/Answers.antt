@@ -1,50 +1,41 @@
-use Rattle.calc_numeral.specs.laws.Digits.{small, digit_inside, digit_read, digits_full, digits_stop, counting_on}
-use Rattle.std.proofs.Common.{arith}
-use Rattle.calc_numeral.specs.declared.Digits.TheVariants.{Are, TooMany}
+use Rattle.std.specs.Prelude.{Some, None}
+use Rattle.std.proofs.Common.{refl, sym, ◌∙◌, arith}
+use Rattle.calc_numeral.specs.laws.Digits.{small, digits_full, digits_stop, counting_on}
+use Rattle.calc_numeral.proofs.Here.{here, past}
 use Rattle.calc_numeral.proofs.digits_at.Goals as goal
 
-pub loop-at-init : goal.loop-at-init
-loop-at-init c = record { within = c.requires.0; few = c.requires.1; small = c.requires.2; whole_run = λ r k. k }
+pub returns-then-not-is_ascii_digit : goal.returns-then-not-is_ascii_digit
+returns-then-not-is_ascii_digit c = let s = c.args.s.now in
+    let i = c.loop-b in
+    let k = i.invariant.1 in
+    k.whole_run (Some i.d)
+    (digits_stop s i.d.end i.d.left i.d.number (here s c.args.at i.b-index i.d.end i.invariant.0 (omega arith)) c.is_ascii_digit.ensures.value
+    c.if-not-is_ascii_digit.true k.within k.small)
 
-pub returns-then-l-eq0 : goal.returns-then-l-eq0
-returns-then-l-eq0 c = let i = c.loop-at in
-    i.invariant.whole_run TooMany
-    (digits_full c.args.s.now i.p i.l i.m
-    c.peek.ensures c.is_digit.ensures c.loop-at-test.true c.if-l-eq0.true)
+pub returns-then-d-eq0 : goal.returns-then-d-eq0
+returns-then-d-eq0 c = let s = c.args.s.now in
+    let i = c.loop-b in
+    i.invariant.1.whole_run None
+    (digits_full s i.d.end i.d.left i.d.number (here s c.args.at i.b-index i.d.end i.invariant.0 (omega arith)) c.is_ascii_digit.ensures.value
+    c.if-not-is_ascii_digit.false c.if-d-eq0.true)
 
-pub pushed-m-requires : goal.pushed-m-requires
-pushed-m-requires c = let i = c.loop-at in (
-  small i.l i.m i.invariant.small,
-  digit_read c.args.s.now i.p i.l i.m
-      c.peek.ensures c.is_digit.ensures
-      c.peek-in-loop-at.ensures c.loop-at-test.true,
-)
+pub pushed-requires : goal.pushed-requires
+pushed-requires c = let i = c.loop-b in
+    (small i.d.left i.d.number i.invariant.1.small, sym c.is_ascii_digit.ensures.value ∙ c.if-not-is_ascii_digit.false)
 
-pub overflow_sub-l : goal.overflow_sub-l
-overflow_sub-l c = omega arith
-
-pub overflow_add-p : goal.overflow_add-p
-overflow_add-p c = let i = c.loop-at in
-    omega (
-      arith,
-      digit_inside c.args.s.now i.p i.l i.m
-          c.peek.ensures c.is_digit.ensures
-          c.loop-at-test.true,
+pub loop-b-preserved : goal.loop-b-preserved
+loop-b-preserved c = let s = c.args.s.now in
+    let a = c.args in
+    let i = c.loop-b in (
+      omega arith,
+      counting_on s a.at a.left a.n i.d.end i.d.left i.d.number i.invariant.1
+          (here s a.at i.b-index i.d.end i.invariant.0 (omega arith)) c.is_ascii_digit.ensures.value c.if-not-is_ascii_digit.false (omega arith)
+          c.pushed.ensures,
     )
 
-pub loop-at-smaller : goal.loop-at-smaller
-loop-at-smaller c = omega arith
-
-pub loop-at-preserved : goal.loop-at-preserved
-loop-at-preserved c = let a = c.args in
-    let i = c.loop-at in
-    counting_on a.s.now a.at a.left a.n i.p i.l i.m i.invariant
-    c.peek.ensures c.is_digit.ensures
-    c.loop-at-test.true (omega arith)
-    (omega (arith, c.pushed-m.ensures, c.peek.ensures, c.peek-in-loop-at.ensures))
-
 pub returns : goal.returns
-returns c = let i = c.loop-at in
-    i.invariant.whole_run (Are i.m i.p i.l)
-    (digits_stop c.args.s.now i.p i.l i.m c.peek.ensures
-    c.is_digit.ensures c.loop-at-test.false i.invariant.within i.invariant.small)
+returns c = let s = c.args.s.now in
+    let i = c.loop-b in
+    let k = i.invariant.1 in
+    k.whole_run (Some i.d)
+    (digits_stop s i.d.end i.d.left i.d.number (past s c.args.at i.b-index i.d.end i.invariant.0 (omega arith)) refl refl k.within k.small)

@@ -1,40 +1,20 @@
-use Rattle.std.proofs.Common.{arith}
-use Rattle.calc_numeral.specs.laws.Digits.{counted, too_many}
+use Rattle.std.proofs.Common.{refl, arith}
+use Rattle.calc_numeral.specs.laws.Stand.{stands, differs}
 use Rattle.calc_numeral.specs.laws.Numerals.{fraction_many, fraction_none, fraction_point, fraction_is}
 use Rattle.calc_numeral.proofs.fraction_at.Goals as goal
+use Rattle.calc_numeral.proofs.fraction_at.Goals.{then-d-at-via-then-d-at, then-d-at-via-else-d-at+then-stands_at}
 
-pub digits_at-requires : goal.digits_at-requires
-digits_at-requires c = c.requires
+pub returns-in_err-d : goal.returns-in_err-d
+returns-in_err-d c = let a = c.args in
+    rw c.from_residual.ensures (λ w lw ew. fraction_many a.s.now a.at a.left a.n w lw ew c.in_err-d.ensures)
 
-pub overflow_sub-left : goal.overflow_sub-left
-overflow_sub-left c = let k = counted c.args.s.now c.args.at c.args.left c.args.n
-    c.digits_at.ensures c.in-Are.is in
-    omega (arith, k.room)
+pub returns-then-d-at : goal.returns-then-d-at
+returns-then-d-at c = λ w lw ew. let a = c.args in
+    elim c.then-d-at.branch [
+      | then-d-at-via-then-d-at v ↦ fraction_none a.s.now a.at a.left a.n w lw ew c.in_ok-d.ensures v.if-d-at.true
+      | then-d-at-via-else-d-at+then-stands_at v ↦ fraction_point a.s.now a.at a.left a.n w lw ew c.in_ok-d.ensures refl (stands a.s.now c.in_ok-d.d.end 46 v.stands_at.ensures v.if-stands_at.true)
+    ]
 
-pub decimal_of-requires : goal.decimal_of-requires
-decimal_of-requires c = let k = counted c.args.s.now c.args.at c.args.left c.args.n
-    c.digits_at.ensures c.in-Are.is in
-    omega (arith, k.room)
-
-pub returns-in-TooMany : goal.returns-in-TooMany
-returns-in-TooMany c = λ w lw ew. fraction_many c.args.s.now c.args.at c.args.left c.args.n w lw ew
-    (too_many c.args.s.now c.args.at c.args.left c.args.n c.digits_at.ensures c.in-TooMany.is)
-
-pub returns-then-p-at : goal.returns-then-p-at
-returns-then-p-at c = λ w lw ew. fraction_none c.args.s.now c.args.at c.args.left c.args.n w lw ew
-    (counted c.args.s.now c.args.at c.args.left c.args.n c.digits_at.ensures
-    c.in-Are.is)
-    c.if-p-at.true
-
-pub returns-then-peek-eq46 : goal.returns-then-peek-eq46
-returns-then-peek-eq46 c = λ w lw ew. fraction_point c.args.s.now c.args.at c.args.left c.args.n w lw ew
-    (counted c.args.s.now c.args.at c.args.left c.args.n
-    c.digits_at.ensures c.in-Are.is)
-    c.peek.ensures c.if-peek-eq46.true
-
-pub returns-else-peek-eq46 : goal.returns-else-peek-eq46
-returns-else-peek-eq46 c = λ w lw ew. fraction_is c.args.s.now c.args.at c.args.left c.args.n w lw ew
-    (counted c.args.s.now c.args.at c.args.left c.args.n
-    c.digits_at.ensures
-    c.in-Are.is)
-    c.peek.ensures c.if-peek-eq46.false c.if-p-at.false c.decimal_of.ensures
+pub returns : goal.returns
+returns c = λ w lw ew. let a = c.args in
+    fraction_is a.s.now a.at a.left a.n w lw ew c.in_ok-d.ensures refl (differs a.s.now c.in_ok-d.d.end 46 c.stands_at.ensures (omega arith) c.if-stands_at.false) c.if-d-at.false c.decimal_of.ensures

@@ -1,12 +1,11 @@
 -- Laws of a number's digits. Assumes nothing.
-use Rattle.std.specs.Prelude.{◌≡◌, ℕ, suc, ◌+◌, ◌-◌, ◌*◌, ◌^◌, ◌<◌, ◌≤◌, Bool, true, false, List, length, drop, nat_le, slice_index, refl}
+use Rattle.std.specs.Prelude.{◌≡◌, ℕ, suc, ◌+◌, ◌-◌, ◌*◌, ◌^◌, ◌<◌, ◌≤◌, Bool, true, false, List, length, drop, nat_le, slice_index, refl, Option, Some, None}
 use Rattle.std.proofs.Common.{sym, ◌∙◌, ap, subst, arith, pow-suc, leb-true}
 use Rattle.std.proofs.Math.Nat.{pow-le-pow_right}
 use Rattle.spec_lists.specs.Text.{digit, whole}
 use Rattle.spec_lists.specs.Select.{run}
 use Rattle.spec_lists.proofs.laws.Both.{both}
 use Rattle.calc_numeral.specs.declared.Digits.{Digits}
-use Rattle.calc_numeral.specs.declared.Digits.TheVariants.{Are, TooMany}
 use Rattle.calc_numeral.specs.Numeral.{Counted, Counts}
 use Rattle.calc_numeral.specs.laws.Runs.{passed_inside, run_more, after_more, stops}
 
@@ -50,25 +49,25 @@ module _ (s : List ℕ) (at left n : ℕ) {b : ℕ} {d : Bool} (eb : b ≡ slice
       let z = stops digit s at (tested false e) in
       record { offset = rw z.0 (omega arith); room = rw z.0 (omega arith); within = h; makes = rw z.0; small = a; behind = z.1 }
 
-  pub digits_more : (m : ℕ) (r : Digits) → d ≡ true → 1 ≤ left → m ≡ n * 10 + (b - 48) → Counts s (at + 1) (left - 1) m r → Counts s at left n r
-  digits_more m (Are a p l) e h q k =
+  pub digits_more : (m : ℕ) (r : Option Digits) → d ≡ true → 1 ≤ left → m ≡ n * 10 + (b - 48) → Counts s (at + 1) (left - 1) m r → Counts s at left n r
+  digits_more m (Some a) e h q k =
       let z = run_more digit s at (tested true e) (digit_inside e) in
       record {
         offset = rw z (omega (arith, k.offset));
         room = rw z (omega (arith, k.room));
         within = k.within;
-        makes = rw z (subst (λ (x : ℕ). a ≡ whole x (run digit (drop (at + 1) s))) (q ∙ ap (λ (y : ℕ). n * 10 + (y - 48)) eb) k.makes);
+        makes = rw z (subst (λ (x : ℕ). a.number ≡ whole x (run digit (drop (at + 1) s))) (q ∙ ap (λ (y : ℕ). n * 10 + (y - 48)) eb) k.makes);
         small = k.small;
         behind = after_more digit s at (tested true e) (digit_inside e) ∙ k.behind;
       }
-  digits_more m TooMany e h q k = rw (run_more digit s at (tested true e) (digit_inside e)) (omega (arith, k))
+  digits_more m None e h q k = rw (run_more digit s at (tested true e) (digit_inside e)) (omega (arith, k))
 
 -- the digits are counted up to p: those from there on, behind m, are those from at on, behind n
 pub record Counting (s : List ℕ) (at left n p l m : ℕ) : Type 0 where
   pub within : p ≤ length s
   pub few : l ≤ 15
   pub small : m < 10 ^ (15 - l)
-  pub whole_run : (r : Digits) → Counts s p l m r → Counts s at left n r
+  pub whole_run : (r : Option Digits) → Counts s p l m r → Counts s at left n r
 
 pub counting_on :
     (s : List ℕ) (at left n p l m : ℕ) {b q : ℕ} {d : Bool} → Counting s at left n p l m → b ≡ slice_index s p → d ≡ digit b → d ≡ true → 1 ≤ l
@@ -81,8 +80,6 @@ counting_on s at left n p l m {q = q} k eb ed e h eq =
       whole_run = λ r g. k.whole_run r (digits_more s p l m eb ed q r e h eq g);
     }
 
-pub counted : (s : List ℕ) (at left n : ℕ) {r : Digits} {m p l : ℕ} → Counts s at left n r → r ≡ Are m p l → Counted s at left n m p l
-counted s at left n k e = subst (Counts s at left n) e k
-
-pub too_many : (s : List ℕ) (at left n : ℕ) {r : Digits} → Counts s at left n r → r ≡ TooMany → left < length (run digit (drop at s))
-too_many s at left n k e = subst (Counts s at left n) e k
+-- a power of ten that a divisor needs
+pub ten_fits : (k : ℕ) → k ≤ 15 → 10 ^ k < 2 ^ 64
+ten_fits k h = omega (arith, pow-le-pow_right {n = 10} (omega arith) {i = k} {j = 15} h)

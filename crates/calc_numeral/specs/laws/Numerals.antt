@@ -1,5 +1,5 @@
 -- Laws of a number's parts and of where it ends. Assumes nothing.
-use Rattle.std.specs.Prelude.{◌≡◌, ℕ, ◌+◌, ◌-◌, ◌*◌, ◌<◌, Bool, true, false, cond, ◌&&◌, List, [], ◌∷◌, ◌++◌, length, drop, ◌≢◌, slice_index, refl, Float}
+use Rattle.std.specs.Prelude.{◌≡◌, ℕ, ◌+◌, ◌-◌, ◌*◌, ◌<◌, Bool, true, false, cond, ◌&&◌, List, [], ◌∷◌, ◌++◌, length, drop, ◌≢◌, slice_index, refl, Float, Option as Maybe, Some, None}
 use Rattle.std.proofs.Common.{sym, ◌∙◌, ap, append-nil, arith, ne_eqb, length-append}
 use Rattle.std.proofs.Math.Option.{Option, none, some}
 use Rattle.std.proofs.lemmas.Bool.{lt-leb}
@@ -7,8 +7,6 @@ use Rattle.spec_lists.specs.Text.{among, digit, whole}
 use Rattle.spec_lists.specs.Select.{all, run, after, keep_if, skip_if}
 use Rattle.spec_calc.specs.Symbol.{decimal, numeral_byte}
 use Rattle.spec_calc.specs.Scanner.{pointed, within_digits, numeral}
-use Rattle.calc_numeral.specs.declared.Figure.{Figure}
-use Rattle.calc_numeral.specs.declared.Figure.TheVariants.{Is, Wrong}
 use Rattle.calc_numeral.specs.Numeral.{Counted, Fraction, Numbered}
 use Rattle.spec_lists.proofs.laws.Both.{absurd_bool}
 use Rattle.spec_lists.proofs.laws.Front.{all_run}
@@ -117,13 +115,13 @@ no_figure s at p e n =
 -- ---- fraction_at, by what the digits are
 
 module _ (s : List ℕ) (at left n : ℕ) (w : List ℕ) (lw : length w + left ≡ 15) (ew : n ≡ whole 0 w) where
-  pub fraction_many : left < length (run digit (drop at s)) → Fraction s at w Wrong
+  pub fraction_many : left < length (run digit (drop at s)) → Fraction s at w None
   fraction_many h =
       many_behind w (run numeral_byte (drop at s))
       (rw run_parts (omega (arith, length-append (run digit (drop at s)) (run numeral_byte (after digit (drop at s))))))
 
   module _ {m p l : ℕ} (k : Counted s at left n m p l) where
-    pub fraction_none : p ≡ at → Fraction s at w Wrong
+    pub fraction_none : p ≡ at → Fraction s at w None
     fraction_none e = none_behind w (run numeral_byte (drop at s)) (go (run numeral_byte (drop at s)) (run_digit_run (drop at s)) (omega (arith, k.offset)))
       where
         go : (y : List ℕ) → run digit y ≡ run digit (drop at s) → length (run digit (drop at s)) ≡ 0 → digit (slice_index y 0) ≡ false
@@ -137,10 +135,10 @@ module _ (s : List ℕ) (at left n : ℕ) (w : List ℕ) (lw : length w + left �
     parts : run numeral_byte (drop at s) ≡ run digit (drop at s) ++ run numeral_byte (drop p s)
     parts = run_parts (drop at s) ∙ ap (λ (y : List ℕ). run digit (drop at s) ++ run numeral_byte y) k.behind
 
-    pub fraction_point : {b : ℕ} → b ≡ slice_index s p → b ≡ 46 → Fraction s at w Wrong
+    pub fraction_point : {b : ℕ} → b ≡ slice_index s p → b ≡ 46 → Fraction s at w None
     fraction_point eb e = rw (parts, point_at s p (sym eb ∙ e)) (two_points w (run digit (drop at s)) (run numeral_byte (drop (p + 1) s)))
 
-    pub fraction_is : {b : ℕ} {v : Float} → b ≡ slice_index s p → (b ≢ 46) → (p ≢ at) → v ≡ decimal m (left - l) → Fraction s at w (Is v p)
+    pub fraction_is : {b : ℕ} {v : Float} → b ≡ slice_index s p → (b ≢ 46) → (p ≢ at) → v ≡ decimal m (left - l) → Fraction s at w (Some (v, p))
     fraction_is {b} {v} eb nb np ev =
         let z = stops numeral_byte s p (no_figure s at p k.behind (λ e. nb (eb ∙ e))) in
         let f = run digit (drop at s) in
@@ -162,7 +160,7 @@ module _ (s : List ℕ) (at : ℕ) where
   numeral_is : numeral (run numeral_byte (drop at s)) ≡ pointed (run digit (drop at s)) (run numeral_byte (after digit (drop at s)))
   numeral_is = rw (run_digit_run (drop at s), after_digit_run (drop at s))
 
-  pub number_many : 15 < length (run digit (drop at s)) → Numbered s at Wrong
+  pub number_many : 15 < length (run digit (drop at s)) → Numbered s at None
   number_many h = numeral_is ∙ many_whole (run digit (drop at s)) (run numeral_byte (after digit (drop at s))) h
 
   module _ {n p l : ℕ} (k : Counted s at 15 0 n p l) where
@@ -170,9 +168,9 @@ module _ (s : List ℕ) (at : ℕ) where
     behind_is = numeral_is ∙ ap (λ (y : List ℕ). pointed (run digit (drop at s)) (run numeral_byte y)) k.behind
 
     pub number_point :
-        {b : ℕ} → b ≡ slice_index s p → b ≡ 46 → (r : Figure)
+        {b : ℕ} → b ≡ slice_index s p → b ≡ 46 → (r : Maybe (Float × ℕ))
         → ((w : List ℕ) → length w + l ≡ 15 → n ≡ whole 0 w → Fraction s (p + 1) w r) → Numbered s at r
-    number_point eb e (Is v q) h =
+    number_point eb e (Some r) h =
         let z = h (run digit (drop at s)) k.room k.makes in
         let i = point_inside s p eb e in (
           record {
@@ -182,9 +180,9 @@ module _ (s : List ℕ) (at : ℕ) where
           },
           behind_is ∙ rw (point_at s p (sym eb ∙ e)) z.1,
         )
-    number_point eb e Wrong h = behind_is ∙ rw (point_at s p (sym eb ∙ e)) (h (run digit (drop at s)) k.room k.makes)
+    number_point eb e None h = behind_is ∙ rw (point_at s p (sym eb ∙ e)) (h (run digit (drop at s)) k.room k.makes)
 
-    pub number_whole : {b : ℕ} {v : Float} → numeral_byte (slice_index s at) ≡ true → b ≡ slice_index s p → (b ≢ 46) → v ≡ decimal n 0 → Numbered s at (Is v p)
+    pub number_whole : {b : ℕ} {v : Float} → numeral_byte (slice_index s at) ≡ true → b ≡ slice_index s p → (b ≢ 46) → v ≡ decimal n 0 → Numbered s at (Some (v, p))
     number_whole {b} {v} e eb nb ev =
         let g = no_figure s at p k.behind (λ q. nb (eb ∙ q)) in
         let z = stops numeral_byte s p g in

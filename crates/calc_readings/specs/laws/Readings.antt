@@ -1,5 +1,5 @@
 -- Laws of readings from states and values.
-use Rattle.std.specs.Prelude.{◌≡◌, length, take, get_or, set, Float}
+use Rattle.std.specs.Prelude.{◌≡◌, length, take, set, Float}
 use Rattle.std.proofs.Math.Path.{refl, ap}
 use Rattle.std.proofs.Common.{sym, ap₂, ◌∙◌, add-one, length-set, take_all, take-suc-set, eq-eqb, ne_eqb}
 use mathlib.Core.List.{List, [], ◌∷◌, ◌++◌}
@@ -8,12 +8,6 @@ use native.Mathlib.Omega.{arith}
 use Rattle.spec_calc.specs.declared.Reading.{Reading}
 use Rattle.spec_calc.specs.declared.Reading.TheVariants.{NeverHeard, Invalid, Value}
 use Rattle.spec_calc.specs.States.{reading, reading_at, readings_from, readings}
-
--- what stands in a list does not depend on what would stand beyond it
-pub get_or_within : {A : Type 0} (xs : List A) (i : ℕ) (d e : A) → i < length xs → get_or xs i d ≡ get_or xs i e
-get_or_within [] i d e h = absurd (omega arith)
-get_or_within (x ∷ xs) zero d e h = refl
-get_or_within (x ∷ xs) (suc i) d e h = get_or_within xs i d e (omega arith)
 
 -- by its state
 module _ (n : ℕ) (x : Float) where

@@ -1,21 +1,14 @@
-use Rattle.calc_symbol.specs.laws.Lookaheads.{sign_at_is, sign_at_wrong, no_sign, joins_from}
+use Rattle.std.specs.Prelude.{None}
+use Rattle.calc_symbol.specs.laws.Lookaheads.{no_sign, joins_from}
 use Rattle.calc_symbol.specs.laws.Scans.{stands}
-use Rattle.calc_symbol.specs.declared.Joint.TheVariants.{End}
 use Rattle.calc_symbol.proofs.joint_at.Goals as goal
 
-pub sign_at-requires : goal.sign_at-requires
-sign_at-requires c = c.skip_blanks-p.ensures.within
-
-pub returns-in-Is : goal.returns-in-Is
-returns-in-Is c = let a = c.args in
+pub returns-in_err-x : goal.returns-in_err-x
+returns-in_err-x c = let a = c.args in
     let p = c.skip_blanks-p.result in
-    joins_from a.s.now a.at c.skip_blanks-p.ensures a.l c.joint_sign.result
-    (c.joint_sign.ensures a.s.now p (sign_at_is a.s.now p c.sign_at.result
-    c.sign_at.ensures c.in-Is.is))
+    let z = c.skip_blanks-p.ensures in
+    rw c.from_residual.ensures (joins_from a.s.now a.at z a.l None (no_sign a.s.now p a.l (stands a.s.now p z.bare) c.in_err-x.ensures))
 
-pub returns-in-Wrong : goal.returns-in-Wrong
-returns-in-Wrong c = let a = c.args in
-    let p = c.skip_blanks-p.result in
-    joins_from a.s.now a.at c.skip_blanks-p.ensures a.l End
-    (no_sign a.s.now p a.l (stands a.s.now p c.skip_blanks-p.ensures.bare)
-    (sign_at_wrong a.s.now p c.sign_at.result c.sign_at.ensures c.in-Wrong.is))
+pub returns : goal.returns
+returns c = let a = c.args in
+    joins_from a.s.now a.at c.skip_blanks-p.ensures a.l c.joint_sign.result (c.joint_sign.ensures a.s.now c.skip_blanks-p.result c.in_ok-x.ensures)

@@ -1,15 +1,15 @@
+use Rattle.std.proofs.Common.{sym}
+use Rattle.calc_numeral.specs.laws.Stand.{stands, stands_inside, differs}
 use Rattle.calc_symbol.specs.laws.Lookaheads.{mark_here, mark_missing}
-use Rattle.calc_symbol.specs.laws.Scans.{nonzero_inside}
-use native.Mathlib.Omega.{arith}
-use mathlib.Core.Path.{◌≡◌}
-use lib.ListN.{get_or}
 use Rattle.calc_symbol.proofs.mark_at.Goals as goal
 
-pub returns-then-peek-b : goal.returns-then-peek-b
-returns-then-peek-b c = let e : c.args.b ≡ get_or c.args.s.now c.skip_blanks-p.result 0 = omega (arith, c.peek.ensures, c.if-peek-b.true) in
-    mark_here c.args.s.now c.args.at c.skip_blanks-p.ensures e
-    (nonzero_inside c.args.s.now c.skip_blanks-p.result e c.requires.1)
+pub returns-then-stands_at : goal.returns-then-stands_at
+returns-then-stands_at c = let a = c.args in
+    let p = c.skip_blanks-p.result in
+    mark_here a.s.now a.at c.skip_blanks-p.ensures (sym (stands a.s.now p a.b c.stands_at.ensures c.if-stands_at.true))
+    (stands_inside a.s.now p a.b c.stands_at.ensures c.if-stands_at.true)
 
-pub returns-else-peek-b : goal.returns-else-peek-b
-returns-else-peek-b c = let a = c.args in
-    mark_missing a.s.now a.at c.skip_blanks-p.ensures (λ e. omega (arith, c.peek.ensures, c.if-peek-b.false))
+pub returns-else-stands_at : goal.returns-else-stands_at
+returns-else-stands_at c = let a = c.args in
+    mark_missing a.s.now a.at c.skip_blanks-p.ensures
+    (λ h. differs a.s.now c.skip_blanks-p.result a.b c.stands_at.ensures h c.if-stands_at.false)

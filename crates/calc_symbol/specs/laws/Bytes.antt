@@ -1,5 +1,5 @@
 -- Laws of single bytes and their spellings. Assumes nothing.
-use Rattle.std.specs.Prelude.{◌≡◌, Bool, false, not, ◌&&◌, ℕ, ◌<◌, eqb, ltb, length, get_or, take}
+use Rattle.std.specs.Prelude.{◌≡◌, Bool, false, not, ◌&&◌, ℕ, suc, ◌<◌, eqb, ltb, length, get_or, take}
 use Rattle.std.proofs.Math.Path.{refl, subst}
 use Rattle.std.proofs.Common.{sym, ◌∙◌, arith}
 use Rattle.std.proofs.Math.Bool.{true}
@@ -15,9 +15,7 @@ use Rattle.spec_calc.specs.declared.Operator.TheVariants as op
 use Rattle.spec_calc.specs.Symbol.{Symbol, number, letter, operator, not_sign, question, colon, open_paren, close_paren, Spelling, spellings}
 use Rattle.spec_calc.specs.Symbol.{numeral_byte}
 use Rattle.spec_calc.specs.Scanner.{sign, sign_of, wrong, start, spelling}
-use Rattle.calc_symbol.specs.declared.Spelled.{Spelled}
-use Rattle.calc_symbol.specs.declared.Spelled.TheVariants.{As, Nothing}
-use Rattle.calc_symbol.specs.Scan.{single, PairOk}
+use Rattle.calc_symbol.specs.Scan.{single}
 use Rattle.spec_calc.proofs.laws.Symbols.{start_by}
 
 -- what a byte begins that is neither blank nor part of a number nor a letter
@@ -53,19 +51,44 @@ no_pair b d n1 n2 n3 n4 n5 n6 =
       both_false 33 61 b d n6,
     )
 
--- no spelling of two bytes that ends with d, which is not `=`
-pub no_second : (b d : ℕ) → (d ≡ 61 → ⊥) → (b ≡ 124 → d ≡ 124 → ⊥) → (b ≡ 38 → d ≡ 38 → ⊥) → single b ≡ spelling b (d ∷ [])
-no_second b d n n1 n2 = no_pair b d n1 n2 (λ _. n) (λ _. n) (λ _. n) (λ _. n)
-
-pub pair_ok : (d : ℕ) (r : Spelled) → 0 < d → PairOk d r
-pair_ok d (As x) h = h
-pair_ok d Nothing h = tt
-
 -- a spelling looks at two bytes at most
 pub two_bytes : (b : ℕ) (s : List ℕ) → spelling b s ≡ spelling b (get_or s 0 0 ∷ [])
 unfolding spelling
 two_bytes b [] = refl
 two_bytes b (d ∷ s) = refl
+
+-- none that has no second byte
+pub no_second : (b : ℕ) → single b ≡ spelling b []
+no_second b =
+    no_pair b 0 (λ _. absurd_zero) (λ _. absurd_zero) (λ _. absurd_zero) (λ _. absurd_zero) (λ _. absurd_zero) (λ _. absurd_zero) ∙ sym (two_bytes b [])
+  where
+    absurd_zero : {n : ℕ} → 0 ≡ suc n → ⊥
+    absurd_zero e = omega arith
+
+-- the spellings of two bytes
+pub spelled_or : (b d : ℕ) → b ≡ 124 → d ≡ 124 → sign (operator op.Or) 1 ≡ spelling b (d ∷ [])
+unfolding spelling
+spelled_or b d e f = rw (e, f) refl
+
+pub spelled_and : (b d : ℕ) → b ≡ 38 → d ≡ 38 → sign (operator op.And) 1 ≡ spelling b (d ∷ [])
+unfolding spelling
+spelled_and b d e f = rw (e, f) refl
+
+pub spelled_at_most : (b d : ℕ) → b ≡ 60 → d ≡ 61 → sign (operator op.AtMost) 1 ≡ spelling b (d ∷ [])
+unfolding spelling
+spelled_at_most b d e f = rw (e, f) refl
+
+pub spelled_at_least : (b d : ℕ) → b ≡ 62 → d ≡ 61 → sign (operator op.AtLeast) 1 ≡ spelling b (d ∷ [])
+unfolding spelling
+spelled_at_least b d e f = rw (e, f) refl
+
+pub spelled_equal : (b d : ℕ) → b ≡ 61 → d ≡ 61 → sign (operator op.Equal) 1 ≡ spelling b (d ∷ [])
+unfolding spelling
+spelled_equal b d e f = rw (e, f) refl
+
+pub spelled_differs : (b d : ℕ) → b ≡ 33 → d ≡ 61 → sign (operator op.Differs) 1 ≡ spelling b (d ∷ [])
+unfolding spelling
+spelled_differs b d e f = rw (e, f) refl
 
 -- no spelling of one byte
 pub no_single :

@@ -1,7 +1,8 @@
 -- What the reader makes of the next symbol. Assumes nothing.
 use Rattle.std.proofs.Math.Path.{◌≡◌}
-use Rattle.std.specs.Prelude.{refl, true, false, ◌⊎◌, ℕ, ◌+◌, ◌≤◌, ◌<◌, length, get_or, drop}
-use Rattle.std.proofs.Common.{sym, ◌∙◌, subst, inl, inr, ⊎_elim, arith, eqb-true}
+use Rattle.std.specs.Prelude.{refl, true, false, ◌⊎◌, ℕ, ◌+◌, ◌≤◌, ◌<◌, length, get_or, drop, eqb, Bool, Option as Maybe, Some, None}
+use Rattle.std.proofs.Common.{sym, ◌∙◌, inl, inr, ⊎_elim, arith, eqb-true}
+use Rattle.std.proofs.lemmas.Bool.{eqb-false}
 use mathlib.Core.List.{List, [], ◌∷◌}
 use Rattle.std.proofs.Math.Option.{Option, none, some}
 use Rattle.spec_calc.specs.declared.Operator.{Operator}
@@ -10,16 +11,12 @@ use Rattle.spec_calc.specs.Symbol.{Symbol, number, letter, operator, not_sign, q
 use Rattle.spec_calc.specs.Scanner.{wrong, then}
 use Rattle.spec_calc.specs.Expression.{Tree}
 use Rattle.spec_calc.specs.Reader.{begun, paren, if_of, Stack, State, wanted, have, stuck, ends, reduce, step, prefix, first_of, run}
-use Rattle.calc_symbol.specs.declared.Sign.{Sign}
-use Rattle.calc_symbol.specs.declared.Next.{Next}
-use Rattle.calc_symbol.specs.declared.Next.TheVariants.{Is, Wrong}
-use Rattle.calc_symbol.specs.Scan.{syms, spelling_at, symbol_of, SymbolAt, SignAt, BlanksTo}
+use Rattle.calc_symbol.specs.Scan.{syms, spelling_at, SymbolAt, BlanksTo}
 use Rattle.calc_symbol.specs.declared.First.{First}
 use Rattle.calc_symbol.specs.declared.First.TheVariants as first
 use Rattle.calc_symbol.specs.declared.Joint.{Joint}
 use Rattle.calc_symbol.specs.declared.Joint.TheVariants as joint
-use Rattle.calc_symbol.specs.declared.Place.TheVariants as place
-use Rattle.calc_symbol.specs.Lookahead.{from, ends_of, Begins, Joins, awaited, MarkAt, IsEnd}
+use Rattle.calc_symbol.specs.Lookahead.{from, ends_of, BeginsAs, Begins, JoinsAs, Joins, awaited, MarkAt, IsEnd}
 use Rattle.spec_lists.proofs.laws.Both.{absurd_bool}
 use Rattle.calc_symbol.specs.laws.Bytes.{begins_with, sign_begins_with}
 use Rattle.calc_symbol.specs.laws.Scans.{Signed, no_symbol, spelled, Stands, finished, numbered, lettered, signed, at_end, is_byte, stands, past_blanks}
@@ -45,12 +42,6 @@ ends_then x none = omega arith
 ends_then x (some ss) = omega arith
 
 -- ---- what stands next, for the one who wants an operand
-
-pub sign_at_is : (s : List ℕ) (at : ℕ) (n : Next) {x : Sign} {p : ℕ} → SignAt s at n → n ≡ Is x p → SymbolAt s at (symbol_of x) p
-sign_at_is s at n k e = subst (SignAt s at) e k
-
-pub sign_at_wrong : (s : List ℕ) (at : ℕ) (n : Next) → SignAt s at n → n ≡ Wrong → spelling_at s at ≡ wrong
-sign_at_wrong s at n k e = subst (SignAt s at) e k
 
 pub one_step : (s : List ℕ) (at : ℕ) (st : State) {x : Symbol} {p : ℕ} → SymbolAt s at x p → from st (syms s at) ≡ from (step st x) (syms s p)
 one_step s at st {x} {p} k = rw k.reads (from_then st x (syms s p))
@@ -171,27 +162,41 @@ module _ (s : List ℕ) (at : ℕ) where
 -- ---- past blanks
 
 module _ (s : List ℕ) (at : ℕ) {p : ℕ} (z : BlanksTo s at p) where
-  pub begins_from : (r : First) → Begins s p r → Begins s at r
-  begins_from (first.Number v n) k = past_blanks s at z k
-  begins_from (first.Letter i n) k = (past_blanks s at z k.0, k.1)
-  begins_from (first.Minus n) k = past_blanks s at z k
-  begins_from (first.Not n) k = past_blanks s at z k
-  begins_from (first.Open n) k = past_blanks s at z k
-  begins_from first.Nothing k = λ st. rw z.reads (k st)
+  begins_on : (r : First) (n : ℕ) → BeginsAs s p r n → BeginsAs s at r n
+  begins_on (first.Number v) n k = past_blanks s at z k
+  begins_on (first.Letter i) n k = (past_blanks s at z k.0, k.1)
+  begins_on first.Minus n k = past_blanks s at z k
+  begins_on first.Not n k = past_blanks s at z k
+  begins_on first.Open n k = past_blanks s at z k
 
-  pub joins_from : (l : ℕ) (r : Joint) → Joins s p l r → Joins s at l r
-  joins_from l (joint.By o n) k = (past_blanks s at z k.0, k.1)
-  joins_from l (joint.Choice n) k = (past_blanks s at z k.0, k.1)
-  joins_from l joint.End k = rw z.reads k
+  pub begins_from : (r : Maybe (First × ℕ)) → Begins s p r → Begins s at r
+  begins_from (Some r) k = begins_on r.0 r.1 k
+  begins_from None k = λ st. rw z.reads (k st)
 
-  pub mark_here : {b : ℕ} → b ≡ get_or s p 0 → p < length s → MarkAt s at b (place.At (p + 1))
+  joins_on : (l : ℕ) (r : Joint) (n : ℕ) → JoinsAs s p l r n → JoinsAs s at l r n
+  joins_on l (joint.By o) n k = (past_blanks s at z k.0, k.1)
+  joins_on l joint.Choice n k = (past_blanks s at z k.0, k.1)
+
+  pub joins_from : (l : ℕ) (r : Maybe (Joint × ℕ)) → Joins s p l r → Joins s at l r
+  joins_from l (Some r) k = joins_on l r.0 r.1 k
+  joins_from l None k = rw z.reads k
+
+  pub mark_here : {b : ℕ} → b ≡ get_or s p 0 → p < length s → MarkAt s at b (Some (p + 1))
   mark_here {b} e h x g = past_blanks s at z (is_byte s p h b (sym e) (g (drop (p + 1) s)))
 
-  pub mark_missing : {b : ℕ} → (get_or s p 0 ≡ b → ⊥) → MarkAt s at b place.Missing
-  mark_missing n k e t l = rw z.reads (no_mark s p k e (stands s p z.bare) n t (rw z.reads at l))
+  -- no stack awaits the byte 0
+  awaited_byte : (k : Stack) {b : ℕ} → awaited k ≡ b ∷ [] → 0 < b
+  awaited_byte [] e = let z : ◌≡◌ {A = ℕ} 0 1 = cc in absurd (omega arith)
+  awaited_byte (begun c ∷ k) e = let z : ◌≡◌ {A = ℕ} 0 1 = cc in absurd (omega arith)
+  awaited_byte (paren ∷ k) {b} e = let z : ◌≡◌ {A = ℕ} 41 b = cc in omega arith
+  awaited_byte (if_of c ∷ k) {b} e = let z : ◌≡◌ {A = ℕ} 58 b = cc in omega arith
 
-  pub end_here : length s ≤ p → IsEnd s at true
-  end_here h = z.reads ∙ at_end s p h
+  pub mark_missing : {b : ℕ} → (0 < b → get_or s p 0 ≡ b → ⊥) → MarkAt s at b None
+  mark_missing n k e t l = rw z.reads (no_mark s p k e (stands s p z.bare) (n (awaited_byte k e)) t (rw z.reads at l))
 
-  pub end_missing : p < length s → IsEnd s at false
-  end_missing h t l = rw z.reads (no_end s p (stands s p z.bare) h t (rw z.reads at l))
+  pub end_by : (b : Bool) → b ≡ eqb p (length s) → IsEnd s at b
+  end_by true e = z.reads ∙ at_end s p (let q = eqb-true p (length s) (sym e) in omega arith)
+  end_by false e = λ t l.
+      let w = z.within in
+      let n = eqb-false p (length s) (sym e) in
+      rw z.reads (no_end s p (stands s p z.bare) (omega arith) t (rw z.reads at l))

@@ -1,5 +1,5 @@
 -- What stands next in a text. Assumes nothing.
-use Rattle.std.specs.Prelude.{◌≡◌, Bool, true, false, ℕ, ◌+◌, ◌-◌, ◌≤◌, ◌<◌, ltb, leb, get_or, take, Float}
+use Rattle.std.specs.Prelude.{◌≡◌, Bool, true, false, ℕ, ◌+◌, ◌-◌, ◌≤◌, ◌<◌, ltb, leb, get_or, take, Float, Option as Maybe, Some, None}
 use Rattle.std.proofs.Math.Path.{refl, ap, subst}
 use Rattle.std.proofs.Common.{sym, ◌∙◌, arith, add-one, lt-ltb, leb-true, leb-false, drop_of_length-le, drop-cons, drop-drop}
 use mathlib.Core.List.{List, [], ◌∷◌}
@@ -16,17 +16,15 @@ use Rattle.spec_calc.specs.declared.Operator.TheVariants as op
 use Rattle.calc_symbol.specs.declared.Class.{Class}
 use Rattle.calc_symbol.specs.declared.Class.TheVariants as class
 use Rattle.calc_symbol.specs.declared.Sign.{Sign}
-use Rattle.calc_symbol.specs.declared.Spelled.{Spelled}
-use Rattle.calc_symbol.specs.declared.Spelled.TheVariants.{As, Nothing}
-use Rattle.calc_numeral.specs.declared.Figure.{Figure}
-use Rattle.calc_numeral.specs.declared.Figure.TheVariants as fig
-use Rattle.calc_symbol.specs.declared.Next.TheVariants.{Is, Wrong}
-use Rattle.calc_symbol.specs.Scan.{syms, start_at, spelling_at, SignOnly, symbol_of, single, started, ClassOk, spelled_as, PairOk}
-use Rattle.calc_symbol.specs.Scan.{SymbolAt, SignAt, BlanksTo}
+use Rattle.calc_symbol.specs.Scan.{syms, start_at, spelling_at, SignOnly, symbol_of, single, started, ClassOk, single_as, pair_as}
+use Rattle.calc_symbol.specs.Scan.{SymbolAt, PairAt, BlanksTo}
 use Rattle.calc_numeral.specs.Numeral.{Numbered}
+use Rattle.std.proofs.Math.ListN.{get_or-eq_default}
+use Rattle.std.specs.Prelude.{IfSome}
+use Rattle.spec_calc.specs.declared.Operator.{Operator}
 use Rattle.spec_lists.proofs.laws.Both.{absurd_bool}
 use Rattle.calc_numeral.specs.laws.Runs.{passed_inside, head_at}
-use Rattle.calc_symbol.specs.laws.Bytes.{two_bytes, sign_nonzero, sign_start, not_start, differs_start}
+use Rattle.calc_symbol.specs.laws.Bytes.{two_bytes, no_second, sign_start, not_start, differs_start}
 
 -- a byte that is not 0 stands in the text
 pub nonzero_inside : (s : List ℕ) (at : ℕ) {b : ℕ} → b ≡ get_or s at 0 → 0 < b → at < length s
@@ -117,6 +115,10 @@ module _ (s : List ℕ) (at : ℕ) where
       go true e = finished (leb-true (length s) at e) (at_end (leb-true (length s) at e))
       go false e = stands_inside (leb-false (length s) at e) bare
 
+no_zero : single 0 ≡ wrong
+unfolding single
+no_zero = refl
+
 module _ (s : List ℕ) (at : ℕ) where
   -- ---- skip_blanks
 
@@ -133,32 +135,44 @@ module _ (s : List ℕ) (at : ℕ) where
   pub past_blanks : {p : ℕ} {x : Symbol} {n : ℕ} → BlanksTo s at p → SymbolAt s p x n → SymbolAt s at x n
   past_blanks z k = record { later = omega (arith, z.later, k.later); within = k.within; reads = z.reads ∙ k.reads }
 
+  -- ---- pair_at
+
+  within_pair : (r : Maybe Operator) → at + 1 < length s → IfSome r (λ _. at + 1 < length s)
+  within_pair (Some o) h = h
+  within_pair None h = tt
+
+  pub pair_read :
+      (r : Maybe Operator) {b d : ℕ} → at + 1 < length s → b ≡ get_or s at 0 → d ≡ get_or s (at + 1) 0 → pair_as r (single b) ≡ spelling b (d ∷ [])
+      → PairAt s at r
+  pair_read r {b} {d} h eb ed e =
+      record {
+        spells = rw (← eb) (e ∙ rw (ed, ← head_at numeral_byte s (at + 1)) (sym (two_bytes b (drop (at + 1) s))));
+        inside = within_pair r h;
+      }
+
+  pub pair_past : length s ≤ at + 1 → PairAt s at None
+  pair_past h = record { spells = no_second (get_or s at 0) ∙ ap (spelling (get_or s at 0)) (sym (drop_of_length-le s h)); inside = tt }
+
   -- ---- sign_at
 
-  module _ {b d : ℕ} (eb : b ≡ get_or s at 0) (ed : d ≡ get_or s (at + 1) 0) (r : Spelled) (er : spelled_as r 1 (single b) ≡ spelling b (d ∷ [])) where
-    sign_is : spelling_at s at ≡ spelled_as r 1 (single b)
-    sign_is = two_bytes (get_or s at 0) (drop (at + 1) s) ∙ rw (head_at numeral_byte s (at + 1), ← eb, ← ed) (sym er)
+  pub sign_two : (o : Operator) → PairAt s at (Some o) → SymbolAt s at (operator o) (at + 2)
+  sign_two o k =
+      let i = k.inside in
+      subst (SymbolAt s at (operator o)) (omega arith) (is_sign s at (omega arith) 1 (sign_start (get_or s at 0) (drop (at + 1) s) (sym k.spells)) (omega arith))
 
-    sign_here : {x : Symbol} {m : ℕ} → spelling_at s at ≡ sign x m → at < length s
-    sign_here e = nonzero_inside s at refl (sign_nonzero (get_or s at 0) (drop (at + 1) s) e)
+  module _ (k : PairAt s at None) where
+    pub sign_past : length s ≤ at → spelling_at s at ≡ wrong
+    sign_past h = sym k.spells ∙ ap single (get_or-eq_default s 0 h) ∙ no_zero
 
-    pub sign_two : {x : Sign} → r ≡ As x → PairOk d r → SignAt s at (Is x (at + 2))
-    sign_two {x} q k =
-        let i = nonzero_inside s (at + 1) ed (subst (PairOk d) q k) in
-        let z : spelling_at s at ≡ sign (symbol_of x) 1 = sign_is ∙ ap (λ (y : Spelled). spelled_as y 1 (single b)) q in
-        subst (SymbolAt s at (symbol_of x)) (omega arith) (is_sign s at (sign_here z) 1 (sign_start (get_or s at 0) (drop (at + 1) s) z) (omega arith))
+    module _ (h : at < length s) {b : ℕ} (eb : b ≡ get_or s at 0) where
+      sign_is : (r : Maybe Sign) → single_as r ≡ single b → spelling_at s at ≡ single_as r
+      sign_is r e = sym k.spells ∙ ap single (sym eb) ∙ sym e
 
-    module _ (q : r ≡ Nothing) (u : Spelled) (eu : spelled_as u 0 wrong ≡ single b) where
-      single_is : spelling_at s at ≡ spelled_as u 0 wrong
-      single_is = sign_is ∙ (ap (λ (y : Spelled). spelled_as y 1 (single b)) q ∙ sym eu)
+      pub sign_one : (x : Sign) → single_as (Some x) ≡ single b → SymbolAt s at (symbol_of x) (at + 1)
+      sign_one x e = is_single s at h (sign_start (get_or s at 0) (drop (at + 1) s) (sign_is (Some x) e))
 
-      pub sign_one : {x : Sign} → u ≡ As x → SignAt s at (Is x (at + 1))
-      sign_one {x} g =
-          let z : spelling_at s at ≡ sign (symbol_of x) 0 = single_is ∙ ap (λ (y : Spelled). spelled_as y 0 wrong) g in
-          is_single s at (sign_here z) (sign_start (get_or s at 0) (drop (at + 1) s) z)
-
-      pub sign_none : u ≡ Nothing → SignAt s at Wrong
-      sign_none g = single_is ∙ ap (λ (y : Spelled). spelled_as y 0 wrong) g
+      pub sign_none : single_as None ≡ single b → spelling_at s at ≡ wrong
+      sign_none e = sign_is None e
 
   -- ---- first_other
 
@@ -172,9 +186,11 @@ module _ (s : List ℕ) (at : ℕ) where
 
   -- ---- first_at
 
-  module _ (h : at < length s) (r : Class) (er : (y : List ℕ) → start (get_or s at 0) y ≡ started r (get_or s at 0) y) where
+  module _ (h : at < length s) {b : ℕ} (eb : b ≡ get_or s at 0) (r : Class) (er : (y : List ℕ) → start b y ≡ started r b y) where
     starts : (q : Class) → r ≡ q → start_at s at ≡ started q (get_or s at 0) (drop (at + 1) s)
-    starts q g = er (drop (at + 1) s) ∙ ap (λ (y : Class). started y (get_or s at 0) (drop (at + 1) s)) g
+    starts q g =
+        subst (λ (n : ℕ). start n (drop (at + 1) s) ≡ started q n (drop (at + 1) s)) eb
+        (er (drop (at + 1) s) ∙ ap (λ (y : Class). started y b (drop (at + 1) s)) g)
 
     pub not_blank : {A : Type 0} → r ≡ class.Blank → among " \t" (get_or s at 0) ≡ false → A
     not_blank g e = absurd_bool (sym (blank_byte (get_or s at 0) (drop (at + 1) s) (starts class.Blank g)) ∙ e)
@@ -182,14 +198,12 @@ module _ (s : List ℕ) (at : ℕ) where
     pub next_figure : r ≡ class.Figure → numeral_byte (get_or s at 0) ≡ true
     next_figure g = figure_byte (get_or s at 0) (drop (at + 1) s) (starts class.Figure g)
 
-    pub next_number : r ≡ class.Figure → (n : Figure) {v : Float} {p : ℕ} → Numbered s at n → n ≡ fig.Is v p → SymbolAt s at (number v) p
+    pub next_number : r ≡ class.Figure → {x : Float × ℕ} → Numbered s at (Some x) → SymbolAt s at (number x.0) x.1
     unfolding syms
-    next_number g n {v = v} k q =
-        let z = subst (Numbered s at) q k in
-        record { later = z.0.later; within = z.0.within; reads = figures s at h (starts class.Figure g) ∙ rw (z.1, z.0.behind) }
+    next_number g k = record { later = k.0.later; within = k.0.within; reads = figures s at h (starts class.Figure g) ∙ rw (k.1, k.0.behind) }
 
-    pub next_no_number : r ≡ class.Figure → (n : Figure) → Numbered s at n → n ≡ fig.Wrong → syms s at ≡ none
-    next_no_number g n k q = figures s at h (starts class.Figure g) ∙ rw (subst (Numbered s at) q k)
+    pub next_no_number : r ≡ class.Figure → Numbered s at None → syms s at ≡ none
+    next_no_number g k = figures s at h (starts class.Figure g) ∙ rw k
 
     pub next_letter : {i : ℕ} → r ≡ class.Letter i → ClassOk r → SymbolAt s at (letter i) (at + 1) × (i < 21)
     next_letter {i} g k = (is_single s at h (starts (class.Letter i) g), subst ClassOk g k)

@@ -1,8 +1,9 @@
 use Rattle.calc_truth.specs.laws.Answers.{outcome_stopped, outcome_computed}
 use Rattle.calc_truth.proofs.outcome_with.Goals as goal
 
-pub returns-then-letter-lt21 : goal.returns-then-letter-lt21
-returns-then-letter-lt21 c = outcome_stopped c.args.s.now c.requires.0 c.args.values.now c.args.goods.now c.lowest_bad-letter.ensures c.if-letter-lt21.true
+pub returns-in-Some : goal.returns-in-Some
+returns-in-Some c = let i = c.args.inputs.now in outcome_stopped c.args.s.now c.requires i.values i.good c.in-Some.ensures
 
-pub returns : goal.returns
-returns c = outcome_computed c.args.s.now c.requires.0 c.args.values.now c.args.goods.now c.lowest_bad-letter.ensures c.if-letter-lt21.false c.compute.ensures c.near.ensures
+pub returns-in-None : goal.returns-in-None
+returns-in-None c = let i = c.args.inputs.now in
+    outcome_computed c.args.s.now c.requires i.values i.good c.in-None.ensures c.compute.ensures c.near.ensures
