@@ -1,81 +1,74 @@
 // Whether bytes are a table.
 #![tactic(auto)]
 
-ghost use Rattle.std.specs.Prelude.{◌≡◌, true, ◌<◌};
+ghost use Rattle.std.specs.Prelude.{◌≡◌, true};
 ghost use Rattle.spec_lists.specs.Select.{all};
 ghost use Rattle.spec_table.specs.Layout.{sections};
 ghost use Rattle.spec_table.specs.View.{view};
 ghost use Rattle.spec_table.specs.Check.{sections_stand, calculation_stands, calculation_run};
 ghost use Rattle.spec_table.specs.Check.{rule_stands, is_table};
-ghost use Rattle.table_fields.specs.Field.{section_at, record_at, HasField};
+ghost use Rattle.spec_table.specs.Policy.{row};
+ghost use Rattle.spec_file.specs.Limit.{rules};
+ghost use Rattle.table_fields.specs.Field.{section, HasField};
 ghost use Rattle.table_records.specs.Records.{HasRule, record_stands, section_stands};
 
-use table_fields::{HOST_GROUPS, INPUTS, REFERENCES, RULES, STRINGS, USER_GROUPS};
+use table_fields::{SECTIONS, Section, field};
 use table_records::{flags_stand, no_calculation, numbers_fit, string_fits};
+
+const LONGEST_NAME: usize = 60;
+
+const LONGEST_CALCULATION: usize = 79;
+
+const GREATEST_LETTER: usize = 20;
 
 fn calculation_stands(b: &[u8], i: usize) -> bool
     requires { HasRule b.now i }
-    ensures { result ≡ calculation_stands (view b.now) (calculation_run (record_at b.now 5 i)) }
+    ensures { result ≡ calculation_stands (view b.now) (calculation_run (row (view b.now) rules i)) }
 {
-    let first = table_fields::field(b, RULES, i, 5);
-    let length = table_fields::field(b, RULES, i, 6);
+    let first = field(b, Section::Rules, i, 5);
+    let length = field(b, Section::Rules, i, 6);
     if no_calculation(first, length) {
         return true;
     }
-    if string_fits(b, RULES, i, 5, 79) {
-        let from = table_fields::offset(b, STRINGS) + first;
-        let to = from + length;
-        calc::allowed(&b[from..to])
-    } else {
-        false
+    if !string_fits(b, Section::Rules, i, 5, LONGEST_CALCULATION) {
+        return false;
     }
+    let from = table_fields::strings_offset(b) + first;
+    calc::allowed(&b[from..from + length])
 }
 
 fn rule_stands(b: &[u8], i: usize) -> bool
     requires { HasRule b.now i }
-    ensures { result ≡ rule_stands (view b.now) (record_at b.now 5 i) }
+    ensures { result ≡ rule_stands (view b.now) (row (view b.now) rules i) }
 {
-    flags_stand(table_fields::field(b, RULES, i, 0))
-        && (calculation_stands(b, i)
-            && (numbers_fit(
-                b,
-                table_fields::field(b, RULES, i, 1),
-                table_fields::field(b, RULES, i, 2),
-                USER_GROUPS,
-            ) && numbers_fit(
-                b,
-                table_fields::field(b, RULES, i, 3),
-                table_fields::field(b, RULES, i, 4),
-                HOST_GROUPS,
-            )))
+    let users = field(b, Section::Rules, i, 1);
+    let users_count = field(b, Section::Rules, i, 2);
+    let hosts = field(b, Section::Rules, i, 3);
+    let hosts_count = field(b, Section::Rules, i, 4);
+    flags_stand(field(b, Section::Rules, i, 0))
+        && calculation_stands(b, i)
+        && numbers_fit(b, users, users_count, Section::UserGroups)
+        && numbers_fit(b, hosts, hosts_count, Section::HostGroups)
 }
 
-fn record_stands(b: &[u8], n: usize, i: usize) -> bool
-    requires { HasField b.now n i 0 }
-    ensures { result ≡ record_stands (view b.now) (section_at n) (record_at b.now n i) }
+fn record_stands(b: &[u8], s: Section, i: usize) -> bool
+    requires { HasField b.now (section s) i 0 }
+    ensures { result ≡ record_stands (view b.now) (section s) (row (view b.now) (section s) i) }
 {
-    match n {
-        INPUTS => { string_fits(b, n, i, 1, 60) && table_fields::field(b, n, i, 0) <= 20 }
-        RULES => rule_stands(b, i),
-        REFERENCES => string_fits(b, n, i, 1, 60),
-        _ => string_fits(b, n, i, 0, 60),
+    match s {
+        Section::Inputs => string_fits(b, s, i, 1, LONGEST_NAME)
+            && field(b, s, i, 0) <= GREATEST_LETTER,
+        Section::Rules => rule_stands(b, i),
+        Section::References => string_fits(b, s, i, 1, LONGEST_NAME),
+        _ => string_fits(b, s, i, 0, LONGEST_NAME),
     }
 }
 
-fn section_stands(b: &[u8], n: usize) -> bool
-    requires { (sections_stand b.now ≡ true) × (n < 7) }
-    ensures { result ≡ section_stands (view b.now) (section_at n) }
+fn section_stands(b: &[u8], s: Section) -> bool
+    requires { sections_stand b.now ≡ true }
+    ensures { result ≡ section_stands (view b.now) (section s) }
 {
-    let records = table_fields::count(b, n);
-    let mut i = 0;
-    while i < records {
-        if record_stands(b, n, i) {
-            i += 1;
-        } else {
-            return false;
-        }
-    }
-    true
+    (0..table_fields::count(b, s)).all(|i| record_stands(b, s, i))
 }
 
 // Each turn looks at one section, so all of them at each record once. The runs of references follow each other, so the
@@ -84,23 +77,18 @@ fn records_stand(b: &[u8]) -> bool
     requires { sections_stand b.now ≡ true }
     ensures { result ≡ all (section_stands (view b.now)) sections }
 {
-    let mut n = 0;
-    while n < 7 {
-        if section_stands(b, n) {
-            n += 1;
-        } else {
-            return false;
-        }
-    }
-    true
+    SECTIONS.iter().all(|&s| section_stands(b, s))
 }
 
 // ---- the table
 
 // Whether bytes are a table.
+#[tactic(auto, using(crate::specs::laws::Whole::table_is))]
 pub fn is_table(b: &[u8]) -> bool
     ensures { result ≡ is_table b.now }
 {
     table_runs::sections_stand(b)
-        && (table_runs::counts_fit(b) && (table_follow::runs_stand(b) && records_stand(b)))
+        && table_runs::counts_fit(b)
+        && table_follow::runs_stand(b)
+        && records_stand(b)
 }

@@ -1,25 +1,33 @@
--- The words of a table's records, by the number of their section.
-use Rattle.std.specs.Prelude.{◌≡◌, true, List, [], ℕ, ◌<◌, get_or}
-use Rattle.spec_file.specs.Limit.{Section, references}
-use Rattle.spec_table.specs.Layout.{sections, width}
-use Rattle.spec_table.specs.View.{count_of, view}
+-- The words of a table's records.
+use Rattle.std.specs.Prelude.{◌≡◌, true, List, ℕ, ◌<◌, length, get_or}
+use Rattle.spec_file.specs.Limit.{Section, user_groups, host_groups, members, access_groups, inputs, rules, references}
+use Rattle.spec_table.specs.Layout.{width}
+use Rattle.spec_table.specs.View.{view}
+use Rattle.spec_table.specs.Policy.{row}
 use Rattle.spec_table.specs.Check.{sections_stand}
+use Rattle.table_fields.specs.declared.Section as coded
+use Rattle.table_fields.specs.declared.Section.TheVariants.{UserGroups, HostGroups, Members, AccessGroups, Inputs, Rules, References}
+
+abbrev pub section : coded.Section → Section
+section UserGroups = user_groups
+section HostGroups = host_groups
+section Members = members
+section AccessGroups = access_groups
+section Inputs = inputs
+section Rules = rules
+section References = references
 
 -- what reading the word v gives: the word, and that it is one
 pub record Word (v r : ℕ) : Type 0 where
   pub is : r ≡ v
   pub small : r < 65536
 
-abbrev pub section_at : ℕ → Section
-section_at n = get_or sections n references
+-- the j-th word of a record
+abbrev pub word_of : List ℕ → Section → ℕ → ℕ → ℕ
+word_of b s i j = get_or (row (view b) s i) j 0
 
--- the i-th record of the n-th section
-abbrev pub record_at : List ℕ → ℕ → ℕ → List ℕ
-record_at b n i = get_or ((view b).records (section_at n)) i []
-
--- bytes whose sections stand have a j-th word in the i-th record of the n-th section
-pub record HasField (b : List ℕ) (n i j : ℕ) : Type 0 where
+-- bytes whose sections stand have a j-th word in the i-th record of a section
+pub record HasField (b : List ℕ) (s : Section) (i j : ℕ) : Type 0 where
   pub stand : sections_stand b ≡ true
-  pub section : n < 7
-  pub row : i < count_of b n
-  pub field : j < width (section_at n)
+  pub row : i < length ((view b).records s)
+  pub field : j < width s

@@ -1,44 +1,48 @@
-// The words of a table's header and records, and the sections with their numbers and widths.
+// The words of a table's header and records, and the sections.
 #![tactic(auto)]
 
-ghost use Rattle.std.specs.Prelude.{◌≡◌, ◌+◌, ◌*◌, ◌<◌, ◌≤◌, length, get_or};
+ghost use Rattle.std.specs.Prelude.{◌≡◌, ◌+◌, ◌*◌, ◌<◌, ◌≤◌, length};
+ghost use Rattle.spec_file.specs.Limit.{order};
 ghost use Rattle.spec_table.specs.Layout.{header_bytes, width};
-ghost use Rattle.spec_table.specs.View.{header_word, count_of, offset_of};
+ghost use Rattle.spec_table.specs.View.{header_word, count_of, offset_of, strings_order};
 ghost use Rattle.spec_table.specs.Fields.{word_at};
-ghost use Rattle.table_fields.specs.Field.{Word, section_at, record_at, HasField};
+ghost use Rattle.table_fields.specs.Field.{section, Word, word_of, HasField};
 
-// The sections of a table, by their order.
-pub const USER_GROUPS: usize = 0;
-
-pub const HOST_GROUPS: usize = 1;
-
-pub const MEMBERS: usize = 2;
-
-pub const ACCESS_GROUPS: usize = 3;
-
-pub const INPUTS: usize = 4;
-
-pub const RULES: usize = 5;
-
-pub const REFERENCES: usize = 6;
-
-pub const STRINGS: usize = 7;
-
-const WIDTHS: [usize; 7] = [4, 4, 2, 6, 3, 7, 3];
-
-// A byte as a number.
-pub fn wide(b: u8) -> usize
-    ensures { (result ≡ b) × (result < 256) }
-{
-    b as usize
+// The sections that hold records. The strings stand behind them.
+#[derive(Clone, Copy)]
+pub enum Section {
+    UserGroups,
+    HostGroups,
+    Members,
+    AccessGroups,
+    Inputs,
+    Rules,
+    References,
 }
+
+// All of them, in a table's order.
+pub const SECTIONS: [Section; 7] = [
+    Section::UserGroups,
+    Section::HostGroups,
+    Section::Members,
+    Section::AccessGroups,
+    Section::Inputs,
+    Section::Rules,
+    Section::References,
+];
+
+// The bytes of a header.
+pub const HEADER_BYTES: usize = 36;
+
+// The strings are the section behind those.
+const STRINGS: usize = 7;
 
 // The little-endian word at a byte.
 fn word(b: &[u8], at: usize) -> usize
     requires { at + 1 < length b.now }
     ensures { Word (word_at b.now at) result }
 {
-    wide(b[at]) + wide(b[at + 1]) * 256
+    usize::from(b[at]) + usize::from(b[at + 1]) * 256
 }
 
 // A word of the header. Callers have looked at the length.
@@ -49,28 +53,56 @@ pub fn header_word(b: &[u8], i: usize) -> usize
     word(b, i * 2)
 }
 
-// The words in a record of the n-th section. Callers count sections from 0 to 6.
-pub fn width(n: usize) -> usize
-    requires { n < 7 }
-    ensures { result ≡ width (section_at n) }
+// Which section it is.
+fn order(s: Section) -> usize
+    ensures { result ≡ order (section s) }
 {
-    WIDTHS[n]
+    s as usize
 }
 
-// The records of the n-th section; of the strings, their bytes. Callers have looked at the length.
-pub fn count(b: &[u8], n: usize) -> usize
-    requires { (header_bytes ≤ length b.now) × (n < 8) }
-    ensures { Word (count_of b.now n) result }
+// The words in a record of a section.
+pub fn width(s: Section) -> usize
+    ensures { result ≡ width (section s) }
 {
-    header_word(b, 2 + n * 2)
+    match s {
+        Section::UserGroups | Section::HostGroups => 4,
+        Section::Members => 2,
+        Section::AccessGroups => 6,
+        Section::Inputs | Section::References => 3,
+        Section::Rules => 7,
+    }
 }
 
-// Where the n-th section starts. Callers have looked at the length.
-pub fn offset(b: &[u8], n: usize) -> usize
-    requires { (header_bytes ≤ length b.now) × (n < 8) }
-    ensures { Word (offset_of b.now n) result }
+// The records of a section. Callers have looked at the length.
+pub fn count(b: &[u8], s: Section) -> usize
+    requires { header_bytes ≤ length b.now }
+    ensures { Word (count_of b.now (order (section s))) result }
 {
-    header_word(b, 3 + n * 2)
+    header_word(b, 2 + order(s) * 2)
+}
+
+// Where a section starts. Callers have looked at the length.
+pub fn offset(b: &[u8], s: Section) -> usize
+    requires { header_bytes ≤ length b.now }
+    ensures { Word (offset_of b.now (order (section s))) result }
+{
+    header_word(b, 3 + order(s) * 2)
+}
+
+// The bytes of the strings. Callers have looked at the length.
+pub fn strings_count(b: &[u8]) -> usize
+    requires { header_bytes ≤ length b.now }
+    ensures { Word (count_of b.now strings_order) result }
+{
+    header_word(b, 2 + STRINGS * 2)
+}
+
+// Where the strings start. Callers have looked at the length.
+pub fn strings_offset(b: &[u8]) -> usize
+    requires { header_bytes ≤ length b.now }
+    ensures { Word (offset_of b.now strings_order) result }
+{
+    header_word(b, 3 + STRINGS * 2)
 }
 
 // The j-th word of the i-th record of a section that starts there and whose records have so many words.
@@ -81,10 +113,10 @@ fn record_word(b: &[u8], offset: usize, width: usize, i: usize, j: usize) -> usi
     word(b, offset + (i * width + j) * 2)
 }
 
-// The j-th word of the i-th record of the n-th section. Callers have found that the sections stand.
-pub fn field(b: &[u8], n: usize, i: usize, j: usize) -> usize
-    requires { HasField b.now n i j }
-    ensures { Word (get_or (record_at b.now n i) j 0) result }
+// The j-th word of the i-th record of a section. Callers have found that the sections stand.
+pub fn field(b: &[u8], s: Section, i: usize, j: usize) -> usize
+    requires { HasField b.now (section s) i j }
+    ensures { Word (word_of b.now (section s) i j) result }
 {
-    record_word(b, offset(b, n), width(n), i, j)
+    record_word(b, offset(b, s), width(s), i, j)
 }

@@ -1,5 +1,6 @@
 -- Searches among the records of a table.
-use Rattle.std.specs.Prelude.{List, [], ℕ, ◌<◌, eqb, length, get_or}
+use Rattle.std.specs.Prelude.{Some, None, List, [], ℕ, ◌<◌, eqb, length, get_or}
+use Rattle.std.specs.Prelude as rust
 use Rattle.std.proofs.Math.Option.{Option, none, some, map}
 use Rattle.spec_lists.specs.Select.{first}
 use Rattle.spec_lists.specs.Runs.{part}
@@ -9,18 +10,20 @@ use Rattle.spec_table.specs.View.{view}
 use Rattle.spec_table.specs.Check.{inputs_run, letter_field}
 use Rattle.spec_table.specs.Policy.{name, row}
 use Rattle.spec_decision.specs.Groups.{groups_of, group_name, group_named}
-use Rattle.table_read.specs.declared.Index.{Index}
-use Rattle.table_read.specs.declared.Index.TheVariants.{At, Missing}
+
+-- the number of what a search found, if it found anything
+abbrev pub Index : Type 0
+Index = rust.Option ℕ
 
 -- a search that finds one of the rows or none, and the number of that row
 pub data Finds (rows : List (List ℕ)) : Option (List ℕ) → Index → Type 0 where
-  found : (i : ℕ) → i < length rows → Finds rows (some (get_or rows i [])) (At i)
-  not_found : Finds rows none Missing
+  found : (i : ℕ) → i < length rows → Finds rows (some (get_or rows i [])) (Some i)
+  not_found : Finds rows none None
 
 -- a number that was found, or none
 abbrev pub index_of : Option ℕ → Index
-index_of none = Missing
-index_of (some i) = At i
+index_of none = None
+index_of (some i) = Some i
 
 -- the number of the first access group of a name, the name taken as it is
 abbrev pub number_named : List ℕ → List ℕ → Option ℕ

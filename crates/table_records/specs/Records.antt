@@ -1,16 +1,16 @@
 -- What is asked of each record by itself.
-use Rattle.std.specs.Prelude.{◌≡◌, Bool, true, ◌&&◌, ◌||◌, List, ℕ, ◌<◌, eqb, leb, ltb}
+use Rattle.std.specs.Prelude.{◌≡◌, Bool, true, ◌&&◌, ◌||◌, List, ℕ, ◌<◌, eqb, leb, ltb, length}
 use Rattle.spec_lists.specs.Select.{all}
 use Rattle.spec_token.specs.Word.{greatest_letter}
 use Rattle.spec_file.specs.Limit.{Section, user_groups, host_groups, members, access_groups, inputs, rules, references, longest_name}
 use Rattle.spec_table.specs.Layout.{Content}
-use Rattle.spec_table.specs.View.{count_of}
+use Rattle.spec_table.specs.View.{view}
 use Rattle.spec_table.specs.Check.{string_fits, name_run, letter_field, number_field, undefined_number, sections_stand, rule_stands}
 
 -- bytes whose sections stand have a rule i
 pub record HasRule (b : List ℕ) (i : ℕ) : Type 0 where
   pub stand : sections_stand b ≡ true
-  pub row : i < count_of b 5
+  pub row : i < length ((view b).records rules)
 
 abbrev pub name_stands : Content → Section → List ℕ → Bool
 name_stands c s row = string_fits c longest_name (name_run s row)

@@ -1,44 +1,39 @@
 -- Runs that are to follow each other, taken one after the other.
-use Rattle.std.specs.Prelude.{◌≡◌, Bool, true, false, ◌&&◌, List, [], ◌∷◌, ◌++◌, map, ℕ, ◌+◌, ◌≤◌, ◌<◌, eqb, leb, length}
+use Rattle.std.specs.Prelude.{◌≡◌, Option, Some, None, Bool, true, false, ◌&&◌, List, [], ◌∷◌, ◌++◌, map, ℕ, ◌+◌, ◌≤◌, ◌<◌, eqb, leb, length, slice_index}
 use Rattle.spec_lists.specs.Select.{joined}
 use Rattle.spec_lists.specs.Runs.{Run}
-use Rattle.spec_file.specs.Limit.{user_groups, host_groups, members}
+use Rattle.spec_file.specs.Limit.{Section, user_groups, host_groups, members}
 use Rattle.spec_table.specs.Layout.{Content, width}
 use Rattle.spec_table.specs.View.{total_of, count_of, offset_of, strings_order, view}
 use Rattle.spec_table.specs.Check.{run_at, members_run, in_turn, sections_stand}
-use Rattle.table_runs.specs.declared.RunEnd.{RunEnd}
-use Rattle.table_runs.specs.declared.RunEnd.TheVariants.{At, Gap}
-use Rattle.table_fields.specs.Field.{section_at}
 
 -- what is left to ask of the runs behind those that were taken
-abbrev pub rest_follows : RunEnd → List Run → ℕ → Bool
-rest_follows (At n) more e = in_turn n more e
-rest_follows Gap more e = false
+abbrev pub rest_follows : Option ℕ → List Run → ℕ → Bool
+rest_follows (Some n) more e = in_turn n more e
+rest_follows None more e = false
 
-abbrev pub reached : RunEnd → ℕ
-reached (At n) = n
-reached Gap = 0
+abbrev pub reached : Option ℕ → ℕ
+reached (Some n) = n
+reached None = 0
 
--- the runs rs from a number on, whatever runs follow and wherever these end
-pub record Follow (rs : List Run) (from limit : ℕ) (r : RunEnd) : Type 0 where
+-- the runs rs from a number on, whatever runs follow, and where they end; None if one of them starts elsewhere
+pub record Follow (rs : List Run) (from limit : ℕ) (r : Option ℕ) : Type 0 where
   pub same : (more : List Run) (e : ℕ) → in_turn from (rs ++ more) e ≡ rest_follows r more e
   pub small : reached r ≤ limit
 
--- the runs of a record from its j-th word on: one, or two side by side
-abbrev pub runs_in : Bool → ℕ → List ℕ → List Run
-runs_in true j row = run_at j row ∷ run_at (j + 2) row ∷ []
-runs_in false j row = run_at j row ∷ []
+-- the runs of a record that begin at some of its words
+abbrev pub runs_in : List ℕ → List ℕ → List Run
+runs_in starts row = joined (map (λ j. run_at j row ∷ []) starts)
 
--- bytes whose sections stand have such runs in the records of the n-th section
-pub record HasRuns (b : List ℕ) (n : ℕ) (two : Bool) (j : ℕ) : Type 0 where
+-- bytes whose sections stand have such runs, one or two, in the records of a section
+pub record HasRuns (b : List ℕ) (s : Section) (starts : List ℕ) : Type 0 where
   pub stand : sections_stand b ≡ true
-  pub section : n < 7
-  pub one : j + 1 < width (section_at n)
-  pub second : two ≡ true → j + 2 + 1 < width (section_at n)
+  pub few : length starts ≤ 2
+  pub within : (k : ℕ) → k < length starts → slice_index starts k + 1 < width s
 
--- the runs of the n-th section
-abbrev pub all_runs : List ℕ → ℕ → Bool → ℕ → List Run
-all_runs b n two j = joined (map (runs_in two j) ((view b).records (section_at n)))
+-- the runs of a section
+abbrev pub all_runs : List ℕ → Section → List ℕ → List Run
+all_runs b s starts = joined (map (runs_in starts) ((view b).records s))
 
 -- the runs of user groups, then of host groups, use up the members
 abbrev pub members_follow : Content → Bool

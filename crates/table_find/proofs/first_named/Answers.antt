@@ -1,20 +1,17 @@
-use Rattle.table_read.specs.laws.Search.{named_turn, named_hit, named_done}
+use Rattle.std.proofs.Common.{refl, sym, ◌∙◌, rules, tests}
+use Rattle.std.proofs.lemmas.Iterator.{YieldsList-from_range}
+use Rattle.std.proofs.lemmas.Iterator.Search.{find_from_yields_List}
 use Rattle.spec_lists.specs.Text.{same}
-use native.Mathlib.Omega.{arith}
-use mathlib.Core.Path.{refl, sym, ap, ◌∙◌}
+use Rattle.spec_file.specs.Limit.{access_groups}
+use Rattle.spec_table.specs.View.{view}
+use Rattle.spec_table.specs.Policy.{name, row}
+use Rattle.table_read.specs.laws.Search.{same_option, named_first}
 use Rattle.table_find.proofs.first_named.Goals as goal
 
-pub loop-i-init : goal.loop-i-init
-loop-i-init c = (omega arith, refl)
-
-pub name_of-requires : goal.name_of-requires
-name_of-requires c = record { table = c.requires; inside = omega (arith, c.count-n.ensures) }
-
-pub returns-then-equal : goal.returns-then-equal
-returns-then-equal c = named_hit c.args.table.now c.args.group.now c.loop-i.i (omega (arith, c.count-n.ensures)) (ap (λ l. same l c.args.group.now) (sym c.name_of.ensures) ∙ sym c.equal.ensures ∙ c.if-equal.true) c.loop-i.invariant.1
-
-pub loop-i-preserved : goal.loop-i-preserved
-loop-i-preserved c = (omega arith, named_turn c.args.table.now c.args.group.now c.loop-i.i (omega (arith, c.count-n.ensures)) (ap (λ l. same l c.args.group.now) (sym c.name_of.ensures) ∙ sym c.equal.ensures ∙ c.if-equal.false) c.loop-i.invariant.1)
-
 pub returns : goal.returns
-returns c = named_done c.args.table.now c.args.group.now c.loop-i.i (omega (arith, c.count-n.ensures)) c.loop-i.invariant.1
+returns c =
+    let b = c.args.table.now in
+    let g = c.args.group.now in
+    sym (same_option c.find.result)
+    ∙ find_from_yields_List (λ i. same (name (view b) access_groups (row (view b) access_groups i)) g) _ _ c.find.result c.find.ensures.ran (YieldsList-from_range 0 c.count-n.result _ refl refl) (λ x b q k. search (rules, tests))
+    ∙ named_first b g c.count-n.ensures

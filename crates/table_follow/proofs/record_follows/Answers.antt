@@ -1,21 +1,16 @@
-use Rattle.table_runs.specs.laws.Follow.{known_end, record_gap, record_both, record_one}
-use Rattle.table_fields.specs.Field.{section_at, record_at}
-use Rattle.table_fields.specs.laws.Fields.{width_small}
-use Prim.Native.Nat.{◌+◌}
-use native.Mathlib.Omega.{arith}
+use Rattle.std.proofs.Common.{[], ◌∷◌, ◌+◌, arith}
+use Rattle.table_fields.specs.Field.{section}
+use Rattle.table_runs.specs.laws.Follow.{followed_next, followed_gap, followed_all, known_end}
+use Rattle.spec_table.specs.View.{view}
+use Rattle.spec_table.specs.Policy.{row}
+use Rattle.spec_table.specs.Check.{run_at}
 use Rattle.table_follow.proofs.record_follows.Goals as goal
 
-pub overflow_add-j : goal.overflow_add-j
-overflow_add-j c = omega (arith, c.requires.0.field, width_small (section_at c.args.n))
+pub returns-in_err-at : goal.returns-in_err-at
+returns-in_err-at c = let a = c.args in rw c.from_residual.ensures (followed_gap (λ j. run_at j (row (view a.b.now) (section a.s) a.i) ∷ []) 0 a.starts.now a.from c.loop-j.j-index c.loop-j.at c.loop-j.invariant.1 (omega arith) (known_end c.in_err-at.was c.run_follows.ensures) (a.from + 131070))
 
-pub run_follows-requires-then-two : goal.run_follows-requires-then-two
-run_follows-requires-then-two c = let t = known_end c.in-At.is c.run_follows.ensures in (c.requires.1 c.if-two.true, omega (arith, t.small))
+pub loop-j-preserved : goal.loop-j-preserved
+loop-j-preserved c = let a = c.args in let t = known_end c.in_ok-at.was c.run_follows.ensures in (omega (arith, t.small), followed_next (λ j. run_at j (row (view a.b.now) (section a.s) a.i) ∷ []) 0 a.starts.now a.from c.loop-j.j-index c.loop-j.at c.loop-j.invariant.1 (omega arith) t)
 
-pub returns-in-Gap : goal.returns-in-Gap
-returns-in-Gap c = let a = c.args in record_gap a.j (record_at a.b.now a.n a.i) a.at (a.at + 131070) a.two (known_end c.in-Gap.is c.run_follows.ensures)
-
-pub returns-then-two : goal.returns-then-two
-returns-then-two c = let a = c.args in let t = known_end c.in-At.is c.run_follows.ensures in record_both a.j (record_at a.b.now a.n a.i) a.at (a.at + 131070) c.if-two.true t c.run_follows-then-two.ensures (omega (arith, t.small))
-
-pub returns-else-two : goal.returns-else-two
-returns-else-two c = let a = c.args in record_one a.j (record_at a.b.now a.n a.i) a.at (a.at + 131070) c.if-two.false (known_end c.in-At.is c.run_follows.ensures) (omega arith)
+pub returns : goal.returns
+returns c = let a = c.args in followed_all (λ j. run_at j (row (view a.b.now) (section a.s) a.i) ∷ []) 0 a.starts.now a.from c.loop-j.j-index c.loop-j.at c.loop-j.invariant.1 (omega arith) (a.from + 131070) (omega arith)

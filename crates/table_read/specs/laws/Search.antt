@@ -1,13 +1,15 @@
 -- A search among records, record by record.
-use Rattle.std.specs.Prelude.{◌≡◌, refl, Bool, true, false, not, ◌||◌, List, [], ◌∷◌, ℕ, ◌+◌, ◌≤◌, ◌<◌, eqb, length, drop, get_or}
-use Rattle.std.proofs.Common.{sym, ap, subst, ◌∙◌, arith}
+use Rattle.std.specs.Prelude as rust
+use Rattle.std.specs.Prelude.{◌≡◌, refl, Some, None, option_map, Bool, true, false, not, cond, ◌||◌, List, [], ◌∷◌, ℕ, zero, suc, ◌+◌, ◌-◌, ◌≤◌, ◌<◌, eqb, length, take, drop, get_or}
+use Rattle.std.specs.List.{find, range_with_len}
+use Rattle.std.proofs.Common.{sym, ap, ap₂, subst, ◌∙◌, arith}
 use Rattle.std.proofs.lemmas.Bool.{false≢true}
 use Rattle.std.proofs.Math.Option.{Option, none, some, map, map-eq-none_iff, map-eq-some_iff}
 use Rattle.spec_lists.specs.Text.{same}
 use Rattle.spec_lists.specs.Select.{any, first, first_if, missing}
 use Rattle.spec_lists.specs.Runs.{Run, part}
-use Rattle.spec_rule.proofs.laws.Walk.{list_on, list_end, part_on, part_end, first_off, first_on}
-use Rattle.spec_rule.specs.Answering.{named, or_default, default_name}
+use Rattle.spec_rule.proofs.laws.Walk.{list_on, list_end}
+use Rattle.spec_rule.specs.Answering.{named}
 use Rattle.spec_file.specs.Limit.{access_groups}
 use Rattle.spec_table.specs.View.{view}
 use Rattle.spec_table.specs.Check.{is_table, letter_field}
@@ -15,119 +17,95 @@ use Rattle.spec_table.specs.Policy.{name, row}
 use Rattle.spec_decision.specs.LookUp.{links_in}
 use Rattle.spec_decision.specs.Groups.{Numbered, groups_of, group_name, group_named, group_answering, answering_number}
 use Rattle.spec_decision.proofs.laws.Groups.{length_numbered, numbered_at, group_stands, answering_stands, by_number, answering_row}
-use Rattle.table_read.specs.declared.Index.{Index}
-use Rattle.table_read.specs.declared.Index.TheVariants.{At, Missing}
 use Rattle.table_read.specs.Stored.{Stored}
-use Rattle.table_read.specs.Search.{Finds, found, not_found, index_of, number_named, number_full, FindsAnswering, FindsInput}
+use Rattle.table_read.specs.Search.{Index, Finds, found, not_found, index_of, number_named, number_full, FindsAnswering, FindsInput}
 
-pub finds_at : {rows : List (List ℕ)} {o : Option (List ℕ)} {r : Index} (i : ℕ) → Finds rows o r → r ≡ At i → (o ≡ some (get_or rows i [])) × (i < length rows)
+pub finds_at : {rows : List (List ℕ)} {o : Option (List ℕ)} {r : Index} (i : ℕ) → Finds rows o r → r ≡ Some i → (o ≡ some (get_or rows i [])) × (i < length rows)
 finds_at {rows} i (found j l) e = let z : j ≡ i = cc in (ap (λ (k : ℕ). some (get_or rows k [])) z, rw z at l)
 finds_at i not_found e = let z : false ≡ true = cc in absurd (false≢true z)
 
-pub finds_none : {rows : List (List ℕ)} {o : Option (List ℕ)} {r : Index} → Finds rows o r → r ≡ Missing → o ≡ none
+pub finds_none : {rows : List (List ℕ)} {o : Option (List ℕ)} {r : Index} → Finds rows o r → r ≡ None → o ≡ none
 finds_none (found j l) e = let z : false ≡ true = cc in absurd (false≢true z)
 finds_none not_found e = refl
 
-found_here : (rows : List (List ℕ)) (j : ℕ) {o : Option (List ℕ)} → j < length rows → o ≡ some (get_or rows j []) → Finds rows o (At j)
-found_here rows j l e = subst (λ (o : Option (List ℕ)). Finds rows o (At j)) (sym e) (found j l)
+found_here : (rows : List (List ℕ)) (j : ℕ) {o : Option (List ℕ)} → j < length rows → o ≡ some (get_or rows j []) → Finds rows o (Some j)
+found_here rows j l e = subst (λ (o : Option (List ℕ)). Finds rows o (Some j)) (sym e) (found j l)
 
-nothing_left : (rows : List (List ℕ)) {o : Option (List ℕ)} → o ≡ none → Finds rows o Missing
-nothing_left rows e = subst (λ (o : Option (List ℕ)). Finds rows o Missing) (sym e) not_found
+nothing_left : (rows : List (List ℕ)) {o : Option (List ℕ)} → o ≡ none → Finds rows o None
+nothing_left rows e = subst (λ (o : Option (List ℕ)). Finds rows o None) (sym e) not_found
 
--- among all access groups: named-left says that the search is not over before the i-th
+-- among all access groups, by their numbers from the k-th on
 module _ (b g : List ℕ) where
-  abbrev pub NamedLeft : ℕ → Type 0
-  NamedLeft i = named (group_name b) g (groups_of b) ≡ named (group_name b) g (drop i (groups_of b))
+  abbrev is_named : ℕ → Bool
+  is_named i = same (name (view b) access_groups (row (view b) access_groups i)) g
 
-  module _ (i : ℕ) where
-    group_on :
-        i < length ((view b).records access_groups)
-        → drop i (groups_of b) ≡ record { number = i; row = row (view b) access_groups i } ∷ drop (i + 1) (groups_of b)
-    group_on l =
-        let d : Numbered = record { number = 0; row = [] } in
-        let c = length_numbered 0 ((view b).records access_groups) in
-        let z : 0 + i ≡ i = omega arith in
-        list_on (groups_of b) d i (omega arith)
-        ∙ ap (λ (x : Numbered). x ∷ drop (i + 1) (groups_of b)) (numbered_at 0 ((view b).records access_groups) d i l)
-        ∙ ap (λ (k : ℕ). record { number = k; row = row (view b) access_groups i } ∷ drop (i + 1) (groups_of b)) z
+  group_on :
+      (i : ℕ) → i < length ((view b).records access_groups)
+      → drop i (groups_of b) ≡ record { number = i; row = row (view b) access_groups i } ∷ drop (i + 1) (groups_of b)
+  group_on i l =
+      let d : Numbered = record { number = 0; row = [] } in
+      let c = length_numbered 0 ((view b).records access_groups) in
+      let z : 0 + i ≡ i = omega arith in
+      list_on (groups_of b) d i (omega arith)
+      ∙ ap (λ (x : Numbered). x ∷ drop (i + 1) (groups_of b)) (numbered_at 0 ((view b).records access_groups) d i l)
+      ∙ ap (λ (k : ℕ). record { number = k; row = row (view b) access_groups i } ∷ drop (i + 1) (groups_of b)) z
 
-    pub named_turn :
-        i < length ((view b).records access_groups) → same (name (view b) access_groups (row (view b) access_groups i)) g ≡ false → NamedLeft i
-        → NamedLeft (i + 1)
-    named_turn l t v = v ∙ first_off (λ x. same (group_name b x) g) (group_on l) t
+  abbrev number_from : List Numbered → Index
+  number_from xs = index_of (map (λ x. x.number) (named (group_name b) g xs))
 
-    pub named_hit :
-        i < length ((view b).records access_groups) → same (name (view b) access_groups (row (view b) access_groups i)) g ≡ true → NamedLeft i
-        → At i ≡ index_of (number_named b g)
-    named_hit l t v =
-        sym (ap (λ (o : Option Numbered). index_of (map (λ x. x.number) o)) (v ∙ first_on (λ x. same (group_name b x) g) (group_on l) t))
+  named_from : (k n : ℕ) → k + n ≡ length ((view b).records access_groups) → find is_named (range_with_len k n) ≡ number_from (drop k (groups_of b))
+  named_from k zero e = sym (ap number_from (list_end (groups_of b) k (omega (arith, length_numbered 0 ((view b).records access_groups)))))
+  named_from k (suc n) e = by (is_named k) (named_from (k + 1) n (omega arith)) ∙ sym (ap number_from (group_on k (omega arith)))
+    where
+      by :
+          (t : Bool) → find is_named (range_with_len (k + 1) n) ≡ number_from (drop (k + 1) (groups_of b))
+          → cond t (Some k) (find is_named (range_with_len (k + 1) n))
+          ≡ index_of (map (λ x. x.number) (first_if t (record { number = k; row = row (view b) access_groups k }) (named (group_name b) g (drop (k + 1) (groups_of b)))))
+      by true h = refl
+      by false h = h
 
-    pub named_done : length ((view b).records access_groups) ≤ i → NamedLeft i → Missing ≡ index_of (number_named b g)
-    named_done l v =
-        let c = length_numbered 0 ((view b).records access_groups) in
-        sym
-        (ap
-        (λ (o : Option Numbered). index_of (map (λ x. x.number) o))
-        (v ∙ ap (named (group_name b) g) (list_end (groups_of b) i (omega arith))))
+  pub named_first : {n : ℕ} → n ≡ length ((view b).records access_groups) → find is_named (range_with_len 0 (n - 0)) ≡ index_of (number_named b g)
+  named_first e = named_from 0 _ (omega arith)
 
--- among a run of records that the code knows as s and n
-module _ (p : List ℕ → Bool) (r : Run) (rows : List (List ℕ)) where
-  pub run_turn :
-      {s n : ℕ} (i : ℕ) → s ≡ r.first → n ≡ r.count → r.first + r.count ≤ length rows → i < n → p (get_or rows (s + i) []) ≡ false
-      → first p (part r rows) ≡ first p (drop i (part r rows)) → first p (part r rows) ≡ first p (drop (i + 1) (part r rows))
-  run_turn i e c h l t v = v ∙ first_off p (part_on r rows [] i h (omega arith)) (rw e at t)
+-- among a run of records, by their numbers
+module _ (p : List ℕ → Bool) (rows : List (List ℕ)) where
+  run_first : (k n : ℕ) → k + n ≤ length rows → Finds rows (first p (take n (drop k rows))) (find (λ i. p (get_or rows i [])) (range_with_len k n))
+  run_first k zero h = not_found
+  run_first k (suc n) h =
+      subst
+      (λ (xs : List (List ℕ)). Finds rows (first p (take (suc n) xs)) (find (λ i. p (get_or rows i [])) (range_with_len k (suc n))))
+      (sym (list_on rows [] k (omega arith)))
+      (by (p (get_or rows k [])) (run_first (k + 1) n (omega arith)))
+    where
+      by :
+          (t : Bool) → Finds rows (first p (take n (drop (k + 1) rows))) (find (λ i. p (get_or rows i [])) (range_with_len (k + 1) n))
+          → Finds
+          rows
+          (first_if t (get_or rows k []) (first p (take n (drop (k + 1) rows))))
+          (cond t (Some k) (find (λ i. p (get_or rows i [])) (range_with_len (k + 1) n)))
+      by true f = found k (omega arith)
+      by false f = f
 
-  pub run_hit :
-      {s n : ℕ} (i : ℕ) → s ≡ r.first → n ≡ r.count → r.first + r.count ≤ length rows → i < n → p (get_or rows (s + i) []) ≡ true
-      → first p (part r rows) ≡ first p (drop i (part r rows)) → Finds rows (first p (part r rows)) (At (s + i))
-  run_hit {s} i e c h l t v =
-      let x = part_on r rows [] i h (omega arith) ∙ ap (λ (k : ℕ). get_or rows (k + i) [] ∷ drop (i + 1) (part r rows)) (sym e) in
-      found_here rows (s + i) (omega arith) (v ∙ first_on p x t)
+  -- a run that the code knows as s and n
+  pub run_found :
+      {s n : ℕ} {r : Index} (q : Run) → s ≡ q.first → n ≡ q.count → q.first + q.count ≤ length rows
+      → r ≡ find (λ i. p (get_or rows i [])) (range_with_len s (s + n - s)) → Finds rows (first p (part q rows)) r
+  run_found {s} {n} q e c h f =
+      let z : s + n - s ≡ q.count = omega arith in
+      subst (λ (r : Index). Finds rows (first p (part q rows)) r) (sym (f ∙ ap₂ (λ (k m : ℕ). find (λ i. p (get_or rows i [])) (range_with_len k m)) e z)) (run_first q.first q.count h)
 
-  pub run_done :
-      {n : ℕ} (i : ℕ) → n ≡ r.count → n ≤ i → first p (part r rows) ≡ first p (drop i (part r rows)) → Finds rows (first p (part r rows)) Missing
-  run_done i c l v = nothing_left rows (v ∙ ap (first p) (part_end r rows i (omega arith)))
+pub same_option : {A : Type 0} (r : rust.Option A) → option_map (λ x. x) r ≡ r
+same_option (Some x) = refl
+same_option None = refl
 
 -- a number is found exactly where there is one
-pub index_at : (o : Option ℕ) {r : Index} (i : ℕ) → r ≡ index_of o → r ≡ At i → o ≡ some i
+pub index_at : (o : Option ℕ) {r : Index} (i : ℕ) → r ≡ index_of o → r ≡ Some i → o ≡ some i
 index_at none i e f = let z : false ≡ true = cc in absurd (false≢true z)
 index_at (some j) i e f = let z : j ≡ i = cc in ap some z
 
-pub index_none : (o : Option ℕ) {r : Index} → r ≡ index_of o → r ≡ Missing → o ≡ none
+pub index_none : (o : Option ℕ) {r : Index} → r ≡ index_of o → r ≡ None → o ≡ none
 index_none none e f = refl
 index_none (some j) e f = let z : false ≡ true = cc in absurd (false≢true z)
-
--- the group of a full name, then the group that answers, from the searches for the name and for DEFAULT
-module _ (b : List ℕ) where
-  pub named_empty : (g : List ℕ) {r : Index} → length g ≡ 0 → r ≡ index_of (number_named b default_name) → r ≡ index_of (number_full b g)
-  named_empty [] l e = e
-  named_empty (c ∷ g) l e = absurd (omega arith)
-
-  pub named_full : (g : List ℕ) {r : Index} → (length g ≡ 0 → ⊥) → r ≡ index_of (number_named b g) → r ≡ index_of (number_full b g)
-  named_full [] l e = absurd (l refl)
-  named_full (c ∷ g) l e = e
-
-  pub for_named : (g : List ℕ) (i : ℕ) {r : Index} → r ≡ index_of (number_full b g) → r ≡ At i → At i ≡ index_of (answering_number b g)
-  for_named [] i e f = sym f ∙ e
-  for_named (c ∷ g) i e f = by (named (group_name b) (c ∷ g) (groups_of b)) (sym f ∙ e)
-    where
-      by :
-          (o : Option Numbered) → At i ≡ index_of (map (λ x. x.number) o)
-          → At i ≡ index_of (map (λ x. x.number) (or_default (group_name b) o (groups_of b)))
-      by none h = let z : false ≡ true = cc in absurd (false≢true z)
-      by (some x) h = h
-
-  pub for_default :
-      (g : List ℕ) {r q : Index} → r ≡ index_of (number_full b g) → r ≡ Missing → q ≡ index_of (number_named b default_name)
-      → q ≡ index_of (answering_number b g)
-  for_default [] e f d = d
-  for_default (c ∷ g) {q = q} e f d = by (named (group_name b) (c ∷ g) (groups_of b)) (sym f ∙ e)
-    where
-      by :
-          (o : Option Numbered) → Missing ≡ index_of (map (λ x. x.number) o)
-          → q ≡ index_of (map (λ x. x.number) (or_default (group_name b) o (groups_of b)))
-      by none h = d
-      by (some x) h = let z : false ≡ true = cc in absurd (false≢true z)
 
 -- ---- what a number says
 
@@ -147,14 +125,14 @@ module _ (b g : List ℕ) {r : Index} where
           s.inside
           (sym (answering_row b g) ∙ ap (map (λ x. x.row)) h ∙ ap some s.row))
 
-  pub answering_stored : (i : ℕ) → is_table b ≡ true → r ≡ index_of (answering_number b g) → r ≡ At i → Stored b access_groups i
+  pub answering_stored : (i : ℕ) → is_table b ≡ true → r ≡ index_of (answering_number b g) → r ≡ Some i → Stored b access_groups i
   answering_stored i h e f = record { table = h; inside = (finds_at i (finds_answering e) f).1 }
 
   -- the group of a full name
-  pub group_none : r ≡ index_of (number_full b g) → r ≡ Missing → group_named b g ≡ none
+  pub group_none : r ≡ index_of (number_full b g) → r ≡ None → group_named b g ≡ none
   group_none e f = (map-eq-none_iff (λ x. x.number) (group_named b g)).0 (index_none (number_full b g) e f)
 
-  module _ (i : ℕ) (e : r ≡ index_of (number_full b g)) (f : r ≡ At i) where
+  module _ (i : ℕ) (e : r ≡ index_of (number_full b g)) (f : r ≡ Some i) where
     group_found : (x : Numbered) × (group_named b g ≡ some x) × (x.number ≡ i)
     group_found = (map-eq-some_iff (λ x. x.number) (group_named b g)).0 (index_at (number_full b g) i e f)
 
@@ -184,8 +162,8 @@ module _ (b : List ℕ) (i letter : ℕ) where
       any_first (λ w. eqb (letter_field w) letter) (links_in (view b) (row (view b) access_groups i))
       ∙ ap (λ (o : Option (List ℕ)). not (missing o)) e
 
-  pub input_there : {r : Index} (j : ℕ) → FindsInput b i letter r → r ≡ At j → has_input ≡ true
+  pub input_there : {r : Index} (j : ℕ) → FindsInput b i letter r → r ≡ Some j → has_input ≡ true
   input_there j f e = input_is (finds_at j f e).0
 
-  pub input_absent : {r : Index} → FindsInput b i letter r → r ≡ Missing → has_input ≡ false
+  pub input_absent : {r : Index} → FindsInput b i letter r → r ≡ None → has_input ≡ false
   input_absent f e = input_is (finds_none f e)

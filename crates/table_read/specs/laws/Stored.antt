@@ -1,43 +1,27 @@
 -- Where the words and the names of a table's records stand in the bytes.
-use Rattle.std.specs.Prelude.{◌≡◌, refl, true, List, ℕ, ◌+◌, ◌-◌, ◌≤◌, ◌<◌, length, take, drop, get_or}
+use Rattle.std.specs.Prelude.{◌≡◌, refl, true, List, ℕ, ◌+◌, ◌-◌, ◌≤◌, ◌<◌, length, take, drop}
 use Rattle.std.proofs.Common.{sym, ap, ap₂, ◌∙◌, arith}
 use Rattle.spec_lists.specs.Runs.{Run}
-use Rattle.spec_file.specs.Limit.{Section, order}
+use Rattle.spec_file.specs.Limit.{Section}
 use Rattle.spec_table.specs.Layout.{width, header_bytes}
 use Rattle.spec_table.specs.View.{view, strings_order, count_of, offset_of}
 use Rattle.spec_table.specs.Check.{is_table, run_at, name_run}
 use Rattle.spec_table.specs.Policy.{name, row}
-use Rattle.spec_table.proofs.laws.Bytes.{each}
-use Rattle.spec_table.proofs.laws.Fields.{has_header, view_count, strings_inside, strings_count, string_at}
+use Rattle.spec_table.proofs.laws.Fields.{has_header, strings_inside, strings_count, string_at}
 use Rattle.spec_table.proofs.laws.Standing.{stands, name_within}
 use Rattle.spec_decision.specs.declared.Found.TheVariants.{Part}
 use Rattle.spec_decision.specs.LookUp.{name_part}
-use Rattle.table_fields.specs.Field.{Word, section_at, record_at, HasField}
-use Rattle.table_read.specs.declared.Section as coded
-use Rattle.table_read.specs.declared.Section.TheVariants.{UserGroups, HostGroups, Members, AccessGroups, Inputs, Rules, References}
-use Rattle.table_read.specs.Stored.{section, Ordered, name_word, Stored, word_of}
+use Rattle.table_fields.specs.Field.{Word, HasField}
+use Rattle.table_fields.specs.declared.Section as coded
+use Rattle.table_fields.specs.declared.Section.TheVariants.{UserGroups, HostGroups, Members, AccessGroups, Inputs, Rules, References}
+use Rattle.table_read.specs.Stored.{section, name_word, Stored, word_of}
 
 pub header_there : (b : List ℕ) → is_table b ≡ true → header_bytes ≤ length b
 header_there b h = has_header b (stands b h).0
 
-pub counted : (b : List ℕ) (s : Section) {n r : ℕ} → Ordered s n → Word (count_of b n) r → r ≡ length ((view b).records s)
-counted b s o r = r.is ∙ ap (count_of b) o.is ∙ sym (view_count b s)
-
-in_order : (s : Section) → section_at (order s) ≡ s
-in_order = each (λ s. section_at (order s) ≡ s) refl refl refl refl refl refl refl
-
-section_is : {s : Section} {n : ℕ} → Ordered s n → section_at n ≡ s
-section_is {s} o = ap section_at o.is ∙ in_order s
-
 module _ (b : List ℕ) (s : Section) (i : ℕ) (h : Stored b s i) where
-  pub has_field : {n : ℕ} (j : ℕ) → j < width s → Ordered s n → HasField b n i j
-  has_field {n} j l o =
-      let e = section_is o in
-      let c : length ((view b).records s) ≡ count_of b n = view_count b s ∙ ap (count_of b) (sym o.is) in
-      record { stand = (stands b h.table).0; section = o.small; row = rw c at h.inside; field = rw e l }
-
-  pub word_read : {n r : ℕ} (j : ℕ) → Ordered s n → Word (get_or (record_at b n i) j 0) r → Word (word_of b s i j) r
-  word_read {n} j o r = record { is = r.is ∙ ap (λ (t : Section). word_of b t i j) (section_is o); small = r.small }
+  pub has_field : (j : ℕ) → j < width s → HasField b s i j
+  has_field j l = record { stand = (stands b h.table).0; row = h.inside; field = l }
 
   -- where a name begins and ends
   fits : (name_run s (row (view b) s i)).first + (name_run s (row (view b) s i)).count ≤ count_of b strings_order

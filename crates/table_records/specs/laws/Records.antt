@@ -1,20 +1,20 @@
 -- Laws of what is asked of each record.
-use Rattle.std.specs.Prelude.{◌≡◌, Bool, true, false, not, ◌&&◌, ◌||◌, List, [], ℕ, ◌+◌, ◌-◌, ◌≤◌, ◌<◌, leb, length, take, drop, get_or}
-use Rattle.std.proofs.Common.{sym, ap, ap₂, ◌∙◌, arith, length-take, get_or-take, leb-true}
+use Rattle.std.specs.Prelude.{◌≡◌, Bool, true, not, ◌&&◌, ◌||◌, List, [], ℕ, ◌+◌, ◌-◌, ◌≤◌, min, leb, length, take, drop, get_or}
+use Rattle.std.specs.List.{list_all, range_with_len}
+use Rattle.std.proofs.Common.{sym, ap, ap₂, ◌∙◌, arith, leb-true}
 use Rattle.std.proofs.Math.Nat.{add-sub_cancel_left}
 use Rattle.spec_lists.specs.Select.{all, missing}
 use Rattle.spec_lists.proofs.laws.Both.{both}
 use Rattle.spec_lists.specs.Runs.{part}
 use Rattle.spec_calc.specs.Reader.{tree_of}
-use Rattle.spec_file.specs.Limit.{user_groups, host_groups, references, longest_calculation}
+use Rattle.spec_file.specs.Limit.{Section, order, user_groups, host_groups, references, longest_calculation}
 use Rattle.spec_table.specs.View.{strings_order, count_of, offset_of, view}
 use Rattle.spec_table.specs.Check.{run_at, sections_stand, string_fits, no_calculation, calculation_run, calculation_stands, numbers_fit, flags_field}
 use Rattle.spec_table.specs.Check.{flags_stand, rule_stands}
-use Rattle.spec_table.proofs.laws.Fields.{strings_count, strings_inside, string_at}
-use Rattle.table_fields.specs.Field.{section_at, record_at}
-use Rattle.table_fields.specs.laws.Fields.{rows_count}
+use Rattle.spec_table.proofs.laws.Fields.{view_count, strings_count, strings_inside, string_at}
+use Rattle.spec_table.specs.Policy.{row}
 use Rattle.table_records.specs.Records.{number_stands}
-use Rattle.table_runs.specs.laws.All.{all_on, all_off, all_end, part_front}
+use Rattle.table_runs.specs.laws.All.{all_below, part_front}
 
 module _ (b : List ℕ) (h : sections_stand b ≡ true) where
   -- a string by the words that say where it stands
@@ -58,39 +58,16 @@ module _ (b : List ℕ) (h : sections_stand b ≡ true) where
         sym (ap₂ ◌||◌ (x ∙ ap₂ (λ (u v : ℕ). no_calculation (record { first = u; count = v })) p q) (ap₂ ◌&&◌ y z))
 
 -- the numbers of a run of references
-module _ (b : List ℕ) (of : ℕ) (h : of < 7) where
-  abbrev test : List ℕ → Bool
-  test = number_stands (length ((view b).records (section_at of)))
-
-  abbrev rows : List (List ℕ)
-  rows = (view b).records references
-
-  abbrev pub Numbers : ℕ → ℕ → Bool
-  Numbers i e = all test (drop i (take e rows))
-
-  pub numbers_start : (first length : ℕ) → numbers_fit (view b) (section_at of) (record { first = first; count = length }) ≡ Numbers first (first + length)
-  numbers_start f l = ap (all test) (part_front l f rows)
-
-  pub numbers_end : (i e : ℕ) → e ≤ i → Numbers i e ≡ true
-  numbers_end i e w = all_end test [] (take e rows) i (omega (arith, length-take e rows))
-
-  pub numbers_behind : (i e : ℕ) {c : ℕ} → c ≡ count_of b 6 → c ≤ i → Numbers i e ≡ true
-  numbers_behind i e p w = all_end test [] (take e rows) i (omega (arith, length-take e rows, rows_count b 6 (omega arith)))
-
-  module _
-      (i e : ℕ) {c g : ℕ} (p : c ≡ count_of b 6) (q : g ≡ count_of b of) (l : i < c) (k : i < e)
-      {r : Bool} (x : r ≡ number_stands g (record_at b 6 i)) where
-    inside : i < length (take e rows)
-    inside = omega (arith, length-take e rows, rows_count b 6 (omega arith))
-
-    tested : test (get_or (take e rows) i []) ≡ r
-    tested = ap test (get_or-take e rows i [] k) ∙ ap (λ (m : ℕ). number_stands m (record_at b 6 i)) (rows_count b of h ∙ sym q) ∙ sym x
-
-    pub numbers_on : r ≡ true → Numbers i e ≡ Numbers (i + 1) e
-    numbers_on y = all_on test [] (take e rows) i inside (tested ∙ y)
-
-    pub numbers_off : r ≡ false → Numbers i e ≡ false
-    numbers_off y = all_off test [] (take e rows) i inside (tested ∙ y)
+pub numbers_are :
+    (b : List ℕ) (of : Section) (first count : ℕ) {c g n : ℕ} → c ≡ count_of b (order references) → g ≡ count_of b (order of)
+    → n ≡ min c (first + count) - first
+    → list_all (λ i. number_stands g (row (view b) references i)) (range_with_len first n) ≡ numbers_fit (view b) of (record { first = first; count = count })
+numbers_are b of f l {n = n} p q e =
+    let rows = (view b).records references in
+    let c = view_count b references in
+    ap (λ (k : ℕ). list_all (λ i. number_stands k (row (view b) references i)) (range_with_len f n)) (q ∙ sym (view_count b of))
+    ∙ all_below (number_stands (length ((view b).records of))) [] rows (f + l) f n (omega arith)
+    ∙ sym (ap (all (number_stands (length ((view b).records of)))) (part_front l f rows))
 
 pub rule_is :
     (b row : List ℕ) {f u v w z : ℕ} {s k m n : Bool} → f ≡ flags_field row → s ≡ flags_stand f → k ≡ calculation_stands (view b) (calculation_run row)

@@ -1,35 +1,33 @@
 -- Laws of runs that are taken one after the other.
-use Rattle.std.specs.Prelude.{◌≡◌, refl, Bool, true, false, List, [], ◌∷◌, ◌++◌, map, ℕ, ◌+◌, ◌≤◌, ◌<◌, eqb, length, drop, get_or}
+use Rattle.std.specs.Prelude.{◌≡◌, refl, Option, Some, None, Bool, true, false, List, [], ◌∷◌, ◌++◌, map, ℕ, ◌+◌, ◌≤◌, ◌<◌, eqb, length, drop, get_or}
 use Rattle.std.proofs.Common.{sym, ap, subst, ◌∙◌, append_assoc, append-nil, arith, eq-eqb, ne_eqb}
 use Rattle.std.proofs.Math.Seq.{drop-length}
 use Rattle.spec_lists.specs.Select.{joined}
 use Rattle.spec_lists.specs.Runs.{Run}
 use Rattle.spec_rule.proofs.laws.Walk.{list_on}
 use Rattle.spec_table.specs.Check.{run_at, in_turn}
-use Rattle.table_runs.specs.declared.RunEnd.{RunEnd}
-use Rattle.table_runs.specs.declared.RunEnd.TheVariants.{At, Gap}
 use Rattle.table_runs.specs.Follow.{reached, Follow, runs_in}
 
 module _ (r : Run) (at limit : ℕ) where
-  pub starts_here : (m : ℕ) → r.first ≡ at → at + r.count ≡ m → m ≤ limit → Follow (r ∷ []) at limit (At m)
+  pub starts_here : (m : ℕ) → r.first ≡ at → at + r.count ≡ m → m ≤ limit → Follow (r ∷ []) at limit (Some m)
   starts_here m e a l = record { same = λ more x. rw (eq-eqb r.first at e, a); small = l }
 
-  pub starts_elsewhere : (r.first ≡ at → ⊥) → Follow (r ∷ []) at limit Gap
+  pub starts_elsewhere : (r.first ≡ at → ⊥) → Follow (r ∷ []) at limit None
   starts_elsewhere e = record { same = λ more x. rw (ne_eqb r.first at e); small = omega arith }
 
 module _ {xs : List Run} {from limit : ℕ} where
   -- the same runs, as the answer turned out
-  pub known_end : {r s : RunEnd} → r ≡ s → Follow xs from limit r → Follow xs from limit s
-  known_end e t = subst (λ (r : RunEnd). Follow xs from limit r) e t
+  pub known_end : {r s : Option ℕ} → r ≡ s → Follow xs from limit r → Follow xs from limit s
+  known_end e t = subst (λ (r : Option ℕ). Follow xs from limit r) e t
 
-  pub with_limit : {r : RunEnd} (l : ℕ) → reached r ≤ l → Follow xs from limit r → Follow xs from l r
+  pub with_limit : {r : Option ℕ} (l : ℕ) → reached r ≤ l → Follow xs from limit r → Follow xs from l r
   with_limit l h t = record { same = t.same; small = h }
 
-  pub gap_then : Follow xs from limit Gap → (ys : List Run) (l : ℕ) → Follow (xs ++ ys) from l Gap
+  pub gap_then : Follow xs from limit None → (ys : List Run) (l : ℕ) → Follow (xs ++ ys) from l None
   gap_then t ys l =
       record { same = λ more e. ap (λ (rs : List Run). in_turn from rs e) (append_assoc xs ys more) ∙ t.same (ys ++ more) e; small = omega arith }
 
-  pub follow_on : {m l : ℕ} {ys : List Run} {r : RunEnd} → Follow xs from limit (At m) → Follow ys m l r → Follow (xs ++ ys) from l r
+  pub follow_on : {m l : ℕ} {ys : List Run} {r : Option ℕ} → Follow xs from limit (Some m) → Follow ys m l r → Follow (xs ++ ys) from l r
   follow_on {ys = ys} t u =
       record {
         same = λ more e. ap (λ (rs : List Run). in_turn from rs e) (append_assoc xs ys more) ∙ t.same (ys ++ more) e ∙ u.same more e;
@@ -41,25 +39,11 @@ alone : (xs : List Run) (from e : ℕ) → in_turn from xs e ≡ in_turn from (x
 alone xs from e = ap (λ (rs : List Run). in_turn from rs e) (sym (append-nil xs))
 
 module _ {xs : List Run} {from limit : ℕ} (e : ℕ) where
-  pub follow_gap : Follow xs from limit Gap → in_turn from xs e ≡ false
+  pub follow_gap : Follow xs from limit None → in_turn from xs e ≡ false
   follow_gap t = alone xs from e ∙ t.same [] e
 
-  pub follow_end : {m : ℕ} → Follow xs from limit (At m) → in_turn from xs e ≡ eqb m e
+  pub follow_end : {m : ℕ} → Follow xs from limit (Some m) → in_turn from xs e ≡ eqb m e
   follow_end t = alone xs from e ∙ t.same [] e
-
--- the runs of a record
-module _ (j : ℕ) (row : List ℕ) (at l : ℕ) where
-  pub record_gap : (two : Bool) {m : ℕ} → Follow (run_at j row ∷ []) at m Gap → Follow (runs_in two j row) at l Gap
-  record_gap true t = gap_then t (run_at (j + 2) row ∷ []) l
-  record_gap false t = with_limit l (omega arith) t
-
-  pub record_both :
-      {two : Bool} {m k n : ℕ} {r : RunEnd} → two ≡ true → Follow (run_at j row ∷ []) at m (At k) → Follow (run_at (j + 2) row ∷ []) k n r → n ≤ l
-      → Follow (runs_in two j row) at l r
-  record_both {r = r} e t u h = rw e (with_limit l (omega (arith, u.small)) (follow_on t u))
-
-  pub record_one : {two : Bool} {m k : ℕ} → two ≡ false → Follow (run_at j row ∷ []) at m (At k) → m ≤ l → Follow (runs_in two j row) at l (At k)
-  record_one e t h = rw e (with_limit l (omega (arith, t.small)) t)
 
 -- runs of many, of which the first i are taken
 module _ {A : Type 0} (f : A → List Run) (d : A) where
@@ -78,13 +62,13 @@ module _ {A : Type 0} (f : A → List Run) (d : A) where
         ∙ ap (λ (ys : List A). in_turn at (joined (map f ys) ++ more) e) (list_on xs d i h)
         ∙ ap (λ (rs : List Run). in_turn at rs e) (append_assoc (f (get_or xs i d)) (joined (map f (drop (i + 1) xs))) more)
 
-    pub followed_next : {m l : ℕ} → i < length xs → Follow (f (get_or xs i d)) at l (At m) → Followed xs from (i + 1) m
+    pub followed_next : {m l : ℕ} → i < length xs → Follow (f (get_or xs i d)) at l (Some m) → Followed xs from (i + 1) m
     followed_next h t = record { same = λ more e. next h more e ∙ t.same (joined (map f (drop (i + 1) xs)) ++ more) e }
 
-    pub followed_gap : {l : ℕ} → i < length xs → Follow (f (get_or xs i d)) at l Gap → (limit : ℕ) → Follow (joined (map f xs)) from limit Gap
+    pub followed_gap : {l : ℕ} → i < length xs → Follow (f (get_or xs i d)) at l None → (limit : ℕ) → Follow (joined (map f xs)) from limit None
     followed_gap h t limit = record { same = λ more e. next h more e ∙ t.same (joined (map f (drop (i + 1) xs)) ++ more) e; small = omega arith }
 
-    pub followed_all : i ≡ length xs → (limit : ℕ) → at ≤ limit → Follow (joined (map f xs)) from limit (At at)
+    pub followed_all : i ≡ length xs → (limit : ℕ) → at ≤ limit → Follow (joined (map f xs)) from limit (Some at)
     followed_all h limit l =
         record {
           same = λ more e. g.same more e ∙ ap (λ (n : ℕ). in_turn at (joined (map f (drop n xs)) ++ more) e) h ∙ rw (drop-length xs);
