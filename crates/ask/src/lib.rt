@@ -10,7 +10,7 @@ ghost use Rattle.spec_decision.specs.Walk.{group_at};
 
 use spec_calc::Reading;
 use spec_decision::{Answer, Found};
-use table_read::{Index, Section};
+use table_read::Section;
 
 // The answer to a question on any bytes.
 pub fn decide(
@@ -59,8 +59,8 @@ pub fn look_up<'a>(table: &'a [u8], group: &[u8], letter: u32) -> &'a [u8]
 {
     if table::is_table(table) {
         match ask_input::input_of(table, group, letter) {
-            Index::At(i) => table_read::name_of(table, Section::Inputs, i),
-            Index::Missing => &table[0..0],
+            Some(i) => table_read::name_of(table, Section::Inputs, i),
+            None => &table[0..0],
         }
     } else {
         &table[0..0]

@@ -1,8 +1,7 @@
 // The answer to a question on a table that was checked before.
 #![tactic(auto)]
 
-ghost use Rattle.std.specs.Prelude.{◌≡◌, true, length};
-ghost use Rattle.spec_rule.specs.Roles.{cut_roles};
+ghost use Rattle.std.specs.Prelude.{◌≡◌, true};
 ghost use Rattle.spec_rule.specs.Question.{lent_question};
 ghost use Rattle.spec_file.specs.Limit.{access_groups};
 ghost use Rattle.spec_table.specs.Check.{is_table};
@@ -10,51 +9,26 @@ ghost use Rattle.spec_decision.specs.Decision.{decide};
 ghost use Rattle.table_read.specs.Stored.{Stored};
 ghost use Rattle.ask_checked.specs.Group.{ByGroup};
 
+use ask_roles::{Roles, User};
+use ask_rule::Client;
+use calc_inputs::Inputs;
 use spec_calc::Reading;
 use spec_decision::Answer;
 use spec_rule::{Access, Decision, Stop};
-use table_read::{Index, Section};
+use table_read::Section;
 
-// A level as a number.
-fn wide(n: u32) -> usize
-    ensures { result ≡ n }
-{
-    n as usize
-}
+// The word of an access group at which the run of its rules begins.
+pub const RULES: usize = 4;
 
 // What the rules of an access group give: each is tried at most once.
-fn decision_of_group(
-    table: &[u8],
-    group: usize,
-    user: &[u8],
-    host: &[u8],
-    roles: &[u8],
-    lengths: &[u8],
-    level: usize,
-    values: &[f64; 21],
-    goods: &[bool; 21],
-) -> Decision
-    requires { Stored table.now access_groups group × (length values.now ≡ 21) }
-    ensures { ByGroup table.now group user.now host.now (cut_roles roles.now lengths.now) level values.now goods.now result }
+fn decision_of_group(table: &[u8], group: usize, client: Client, inputs: &Inputs) -> Decision
+    requires { Stored table.now access_groups group }
+    ensures { ByGroup table.now group client.entry inputs.now result }
 {
-    let start = table_read::field(table, Section::AccessGroups, group, 4);
-    let n = table_read::field(table, Section::AccessGroups, group, 5);
+    let rules = table_read::run(table, Section::AccessGroups, group, RULES);
     let mut so_far = ask_verdict::nothing_given();
-    let mut i = 0;
-    while i < n {
-        so_far = ask_given::with_rule(
-            table,
-            start + i,
-            user,
-            host,
-            roles,
-            lengths,
-            level,
-            values,
-            goods,
-            so_far,
-        );
-        i += 1;
+    for rule in rules.start..rules.end {
+        so_far = ask_given::with_rule(table, rule, client, inputs, so_far);
     }
     ask_verdict::settled(so_far)
 }
@@ -77,30 +51,26 @@ pub fn decide_checked(
     if 1 < level {
         return Answer::BadLevel;
     }
-    if !ask_fit::fit(roles, lengths) {
+    let roles = Roles {
+        pool: roles,
+        lengths,
+    };
+    if !ask_fit::fit(roles) {
         return Answer::BadRoles;
     }
     match table_find::answering_group(table, group) {
-        Index::Missing => Answer::Answered(Decision {
+        None => Answer::Answered(Decision {
             access: Access::None,
             trap: false,
             letter: Stop::Nothing,
         }),
-        Index::At(i) => {
-            let h = calc_inputs::inputs_of(rs);
-            let values = h.values;
-            let goods = h.good;
-            let d = decision_of_group(
-                table,
-                i,
-                user,
+        Some(i) => {
+            let client = Client {
+                user: User { name: user, roles },
                 host,
-                roles,
-                lengths,
-                wide(level),
-                &values,
-                &goods,
-            );
+                level: level as usize,
+            };
+            let d = decision_of_group(table, i, client, &calc_inputs::inputs_of(rs));
             Answer::Answered(d)
         }
     }

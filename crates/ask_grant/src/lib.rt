@@ -12,19 +12,18 @@ use spec_rule::{Access, Decision, Stop};
 pub fn is_set(n: usize) -> bool
     ensures { result ≡ set_bit n }
 {
-    if n == 0 { false } else { true }
+    n != 0
 }
 
+// Stays: no From, as an impl would stand in spec_rule with Access, and crates spec_* hold definitions alone (docs/ARCHITECTURE.md).
 fn permission_of(n: usize) -> Access
     ensures { result ≡ permission n }
 {
-    if n == 0 {
-        return Access::None;
+    match n {
+        0 => Access::None,
+        1 => Access::Read,
+        _ => Access::Write,
     }
-    if n == 1 {
-        return Access::Read;
-    }
-    Access::Write
 }
 
 // A decision that no letter stops.
@@ -38,14 +37,11 @@ pub fn decision(access: Access, trap: bool) -> Decision
     }
 }
 
-// What a rule of these flags gives if it passes.
+// What a rule of these flags gives if it passes: the trap counts only with WRITE.
 pub fn granted_by(flags: usize) -> Decision
     ensures { result ≡ flagged flags }
 {
+    let access = permission_of(flags / 2 % 4);
     let trap = is_set(flags / 8 % 2);
-    match permission_of(flags / 2 % 4) {
-        Access::Write => decision(Access::Write, trap),
-        Access::Read => decision(Access::Read, false),
-        Access::None => decision(Access::None, false),
-    }
+    decision(access, trap && access == Access::Write)
 }

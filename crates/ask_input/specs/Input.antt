@@ -3,7 +3,7 @@ use Rattle.std.specs.Prelude.{List, ℕ}
 use Rattle.spec_file.specs.Limit.{inputs}
 use Rattle.spec_table.specs.View.{view}
 use Rattle.spec_decision.specs.LookUp.{input_of}
-use Rattle.table_read.specs.declared.Index.{Index}
+use Rattle.table_read.specs.Search.{Index}
 use Rattle.table_read.specs.Search.{Finds, group_for}
 
 -- the number of the input that has the letter, in the group that answers

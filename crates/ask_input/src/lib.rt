@@ -8,17 +8,15 @@ ghost use Rattle.spec_decision.specs.Walk.{group_at};
 ghost use Rattle.ask_input.specs.Input.{FindsLetter};
 
 use spec_decision::Found;
-use table_read::{Index, Section};
+use table_read::Section;
 
 // The input of a letter. ask::look_up has asked is_table.
-pub fn input_of(table: &[u8], group: &[u8], letter: u32) -> Index
+pub fn input_of(table: &[u8], group: &[u8], letter: u32) -> Option<usize>
     requires { is_table table.now ≡ true }
     ensures { FindsLetter table.now group.now letter result }
 {
-    match table_find::answering_group(table, group) {
-        Index::Missing => Index::Missing,
-        Index::At(i) => table_find::first_input(table, i, letter as usize),
-    }
+    let i = table_find::answering_group(table, group)?;
+    table_find::first_input(table, i, letter as usize)
 }
 
 // Where the name of a letter's input stands, in a table that was checked before. Callers as of ask_checked::decide_checked; others call ask::find_input.
@@ -27,8 +25,8 @@ pub fn find_input_checked(table: &[u8], group: &[u8], letter: u32) -> Found
     ensures { result ≡ look_up table.now group.now letter }
 {
     match input_of(table, group, letter) {
-        Index::Missing => Found::NoInput,
-        Index::At(i) => table_read::name_part(table, Section::Inputs, i),
+        None => Found::NoInput,
+        Some(i) => table_read::name_part(table, Section::Inputs, i),
     }
 }
 

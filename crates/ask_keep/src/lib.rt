@@ -1,31 +1,19 @@
 // An access group's decision in two parts, as bytes: which of its rules stand for a client, and what their calculations come to.
 #![tactic(auto)]
 
-ghost use Rattle.std.specs.Prelude.{◌≡◌, [], ◌+◌, ◌≤◌, length};
+ghost use Rattle.std.specs.Prelude.{◌≡◌, ◌+◌, ◌≤◌, length};
 ghost use Rattle.std.proofs.lemmas.List.Edits.{sets};
-ghost use Rattle.spec_rule.specs.Rule.{stands};
-ghost use Rattle.spec_rule.specs.Kept.{bit, outcome_byte};
+ghost use Rattle.spec_rule.specs.Kept.{outcome_byte};
 ghost use Rattle.spec_file.specs.Limit.{access_groups, rules, most};
 ghost use Rattle.table_read.specs.Stored.{Stored};
-ghost use Rattle.ask_rule.specs.Rules.{rule_at, question};
 ghost use Rattle.ask_kept.specs.Kept.{client_bits, Calculated};
 
+use ask_checked::RULES;
+use ask_roles::{Roles, User};
+use ask_rule::Client;
+use calc_inputs::Inputs;
 use spec_rule::Outcome;
 use table_read::Section;
-
-fn bit_of(b: bool) -> u8
-    ensures { result ≡ bit b }
-{
-    if b { 1 } else { 0 }
-}
-
-// Whether a rule stands for a client of a register, who has no roles.
-fn stands_for(table: &[u8], rule: usize, user: &[u8], host: &[u8], level: usize) -> bool
-    requires { Stored table.now rules rule }
-    ensures { result ≡ stands (question user.now host.now [] level []) (rule_at table.now rule) }
-{
-    ask_rule::stands_rule(table, rule, user, host, b"", b"", level)
-}
 
 // Keeps which rules of an access group stand for a client: a byte for each, in order. Inner: a caller knows the group from a search in a checked
 // table, and lends room for the 256 rules that a table has at most.
@@ -41,43 +29,40 @@ pub fn keep(
     requires { Stored table.now access_groups group × (at + most rules ≤ length kept.old) }
     ensures { kept.new ≡ sets kept.old at (client_bits table.now group user.now host.now level) }
 {
-    let start = table_read::field(table, Section::AccessGroups, group, 4);
-    let n = table_read::field(table, Section::AccessGroups, group, 5);
-    let mut i = 0;
-    while i < n {
-        kept[at + i] = bit_of(stands_for(table, start + i, user, host, level));
-        i += 1;
+    // A client of a register has no roles.
+    let roles = Roles {
+        pool: b"",
+        lengths: b"",
+    };
+    let user = User { name: user, roles };
+    let client = Client { user, host, level };
+    let rules = table_read::run(table, Section::AccessGroups, group, RULES);
+    for i in 0..rules.len() {
+        kept[at + i] = u8::from(client.stands(table, rules.start + i));
     }
 }
 
 // What a calculation comes to, as a byte.
+// Stays: no From, as an impl would stand in spec_rule with Outcome, and crates spec_* hold definitions alone (docs/ARCHITECTURE.md).
 fn byte_of(o: Outcome) -> u8
     ensures { result ≡ outcome_byte o }
 {
     match o {
-        Outcome::False => 0,
         Outcome::True => 1,
-        Outcome::Stopped(i) => { if i <= 20 { i + 2 } else { 0 } }
+        Outcome::Stopped(i) if i <= 20 => i + 2,
+        _ => 0,
     }
 }
 
 // Writes what the calculations come to: a byte for each rule of an access group, in order. Inner: a caller knows the group as for
-// keep, and has 21 values.
-pub fn calculate(
-    table: &[u8],
-    group: usize,
-    values: &[f64; 21],
-    goods: &[bool; 21],
-    outcomes: &mut [u8; 256],
-)
-    requires { Stored table.now access_groups group × (length values.now ≡ 21) }
-    ensures { Calculated table.now group values.now goods.now outcomes.old outcomes.new }
+// keep.
+pub fn calculate(table: &[u8], group: usize, inputs: &Inputs, outcomes: &mut [u8; 256])
+    requires { Stored table.now access_groups group }
+    ensures { Calculated table.now group inputs.now outcomes.old outcomes.new }
 {
-    let start = table_read::field(table, Section::AccessGroups, group, 4);
-    let n = table_read::field(table, Section::AccessGroups, group, 5);
-    let mut i = 0;
-    while i < n {
-        outcomes[i] = byte_of(ask_rule::calculation_outcome(table, start + i, values, goods));
-        i += 1;
+    let rules = table_read::run(table, Section::AccessGroups, group, RULES);
+    for i in 0..rules.len() {
+        let outcome = ask_rule::calculation_outcome(table, rules.start + i, inputs);
+        outcomes[i] = byte_of(outcome);
     }
 }

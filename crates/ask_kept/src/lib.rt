@@ -7,22 +7,19 @@ ghost use Rattle.spec_file.specs.Limit.{access_groups, rules, most};
 ghost use Rattle.table_read.specs.Stored.{Stored};
 ghost use Rattle.ask_kept.specs.Kept.{decision_kept, WithKept};
 
+use ask_checked::RULES;
+use ask_rule::FLAGS;
 use spec_rule::{Decision, Outcome, Verdict};
 use table_read::Section;
 
+// Stays: no From, as an impl would stand in spec_rule with Outcome, and crates spec_* hold definitions alone (docs/ARCHITECTURE.md).
 fn outcome_of(n: u8) -> Outcome
     ensures { result ≡ byte_outcome n }
 {
-    if n == 0 {
-        return Outcome::False;
-    }
-    if n == 1 {
-        return Outcome::True;
-    }
-    if n <= 22 {
-        Outcome::Stopped(n - 2)
-    } else {
-        Outcome::False
+    match n {
+        1 => Outcome::True,
+        2..=22 => Outcome::Stopped(n - 2),
+        _ => Outcome::False,
     }
 }
 
@@ -34,7 +31,7 @@ fn with_kept(table: &[u8], rule: usize, k: u8, o: u8, earlier: Verdict) -> Verdi
     if k == 0 {
         return earlier; // does not stand
     }
-    let offered = ask_grant::granted_by(table_read::field(table, Section::Rules, rule, 0));
+    let offered = ask_grant::granted_by(table_read::field(table, Section::Rules, rule, FLAGS));
     ask_verdict::with_outcome(earlier, offered, outcome_of(o))
 }
 
@@ -50,13 +47,10 @@ pub fn kept_decision(
     requires { Stored table.now access_groups group × (at + most rules ≤ length kept.now) × (most rules ≤ length outcomes.now) }
     ensures { result ≡ decision_kept table.now group kept.now at outcomes.now }
 {
-    let start = table_read::field(table, Section::AccessGroups, group, 4);
-    let n = table_read::field(table, Section::AccessGroups, group, 5);
+    let rules = table_read::run(table, Section::AccessGroups, group, RULES);
     let mut so_far = ask_verdict::nothing_given();
-    let mut i = 0;
-    while i < n {
-        so_far = with_kept(table, start + i, kept[at + i], outcomes[i], so_far);
-        i += 1;
+    for i in 0..rules.len() {
+        so_far = with_kept(table, rules.start + i, kept[at + i], outcomes[i], so_far);
     }
     ask_verdict::settled(so_far)
 }

@@ -1,8 +1,8 @@
 // A decision as a number, as a register's place keeps it and as it goes to callers in C; and back.
+// Stays: no From, as impls would stand in spec_rule with Decision, Stop and Access, and crates spec_* hold definitions alone (docs/ARCHITECTURE.md).
 #![tactic(auto)]
 
 ghost use Rattle.std.specs.Prelude.{◌≡◌};
-ghost use Rattle.spec_rule.specs.Rule.{rank};
 ghost use Rattle.spec_rule.specs.Number.{letter_number, decision_number, access_from, letter_from, decision_from};
 
 use spec_rule::{Access, Decision, Stop};
@@ -12,18 +12,8 @@ pub fn letter_number(s: Stop) -> u8
     ensures { result ≡ letter_number s }
 {
     match s {
-        Stop::Nothing => 0,
-        Stop::Letter(i) => { if i <= 20 { i + 1 } else { 0 } }
-    }
-}
-
-fn access_number(a: Access) -> u8
-    ensures { result ≡ rank a }
-{
-    match a {
-        Access::None => 0,
-        Access::Read => 1,
-        Access::Write => 2,
+        Stop::Letter(i) if i <= 20 => i + 1,
+        _ => 0,
     }
 }
 
@@ -31,35 +21,25 @@ fn access_number(a: Access) -> u8
 pub fn number(d: Decision) -> u8
     ensures { result ≡ decision_number d }
 {
-    let access = d.access;
-    let letter = d.letter;
-    let low = access_number(access);
-    let high = 8 * letter_number(letter);
-    if d.trap { low + 4 + high } else { low + high }
+    d.access as u8 + 4 * u8::from(d.trap) + 8 * letter_number(d.letter)
 }
 
 fn access_from(n: u8) -> Access
     ensures { result ≡ access_from n }
 {
-    if n == 1 {
-        return Access::Read;
+    match n {
+        1 => Access::Read,
+        2 => Access::Write,
+        _ => Access::None,
     }
-    if n == 2 {
-        return Access::Write;
-    }
-    Access::None
 }
 
 fn letter_from(n: u8) -> Stop
     ensures { result ≡ letter_from n }
 {
-    if n == 0 {
-        return Stop::Nothing;
-    }
-    if n <= 21 {
-        Stop::Letter(n - 1)
-    } else {
-        Stop::Nothing
+    match n {
+        1..=21 => Stop::Letter(n - 1),
+        _ => Stop::Nothing,
     }
 }
 

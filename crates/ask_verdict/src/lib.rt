@@ -1,29 +1,11 @@
 // What rules give one by one, and the decision in the end.
 #![tactic(auto)]
 
-ghost use Rattle.std.specs.Prelude.{◌≡◌, leb};
-ghost use Rattle.spec_rule.specs.Rule.{rank, stop_above, or_else};
+ghost use Rattle.std.specs.Prelude.{◌≡◌};
+ghost use Rattle.spec_rule.specs.Rule.{stop_above, or_else};
 ghost use Rattle.spec_rule.specs.Verdict.{nothing_given, by_outcome, then, normal, normal_by, settled};
 
-use ask_grant::decision;
 use spec_rule::{Access, Decision, Outcome, Stop, Verdict};
-
-fn rank_of(a: Access) -> usize
-    ensures { result ≡ rank a }
-{
-    match a {
-        Access::None => 0,
-        Access::Read => 1,
-        Access::Write => 2,
-    }
-}
-
-// Whether the first gives as much as the second.
-pub fn is_at_least(a: Access, b: Access) -> bool
-    ensures { result ≡ leb (rank b) (rank a) }
-{
-    rank_of(b) <= rank_of(a)
-}
 
 // No rule yet.
 pub fn nothing_given() -> Verdict
@@ -43,19 +25,19 @@ fn normal(access: Access, trap: bool, low: Stop, high: Stop) -> Verdict
 {
     match access {
         Access::None => Verdict {
-            access: Access::None,
+            access,
             trap: false,
             low,
             high,
         },
         Access::Read => Verdict {
-            access: Access::Read,
+            access,
             trap: false,
             low: Stop::Nothing,
             high,
         },
         Access::Write => Verdict {
-            access: Access::Write,
+            access,
             trap,
             low: Stop::Nothing,
             high: Stop::Nothing,
@@ -64,12 +46,13 @@ fn normal(access: Access, trap: bool, low: Stop, high: Stop) -> Verdict
 }
 
 // The first of two stops.
+// Stays: Stop is no Option, as the theorems of spec_demand and the definitions of spec_rule are stated with it.
 fn or_else(a: Stop, b: Stop) -> Stop
     ensures { result ≡ or_else a b }
 {
     match a {
         Stop::Nothing => b,
-        Stop::Letter(i) => Stop::Letter(i),
+        Stop::Letter(_) => a,
     }
 }
 
@@ -77,10 +60,10 @@ fn or_else(a: Stop, b: Stop) -> Stop
 fn above_read(permission: Access, letter: u8) -> Stop
     ensures { result ≡ stop_above Access.Read permission (Outcome.Stopped letter) }
 {
-    match permission {
-        Access::Write => Stop::Letter(letter),
-        Access::Read => Stop::Nothing,
-        Access::None => Stop::Nothing,
+    if Access::Read < permission {
+        Stop::Letter(letter)
+    } else {
+        Stop::Nothing
     }
 }
 
@@ -90,20 +73,16 @@ fn above_read(permission: Access, letter: u8) -> Stop
 pub fn with_outcome(earlier: Verdict, offered: Decision, outcome: Outcome) -> Verdict
     ensures { normal earlier ≡ earlier → result ≡ normal (then earlier (by_outcome outcome offered)) }
 {
-    let so_far = earlier.access;
-    let permission = offered.access;
-    if is_at_least(so_far, permission) {
+    if offered.access <= earlier.access {
         return earlier;
     }
-    let low = earlier.low;
-    let high = earlier.high;
     match outcome {
-        Outcome::True => normal(permission, offered.trap, low, high),
+        Outcome::True => normal(offered.access, offered.trap, earlier.low, earlier.high),
         Outcome::False => earlier,
         Outcome::Stopped(i) => {
-            let first = or_else(low, Stop::Letter(i));
-            let higher = or_else(high, above_read(permission, i));
-            normal(so_far, earlier.trap, first, higher)
+            let low = or_else(earlier.low, Stop::Letter(i));
+            let high = or_else(earlier.high, above_read(offered.access, i));
+            normal(earlier.access, earlier.trap, low, high)
         }
     }
 }
@@ -112,20 +91,13 @@ pub fn with_outcome(earlier: Verdict, offered: Decision, outcome: Outcome) -> Ve
 pub fn settled(v: Verdict) -> Decision
     ensures { result ≡ settled v }
 {
-    let access = v.access;
-    let low = v.low;
-    let high = v.high;
-    match access {
-        Access::None => Decision {
-            access: Access::None,
-            trap: false,
-            letter: low,
+    Decision {
+        access: v.access,
+        trap: v.trap && v.access == Access::Write,
+        letter: match v.access {
+            Access::None => v.low,
+            Access::Read => v.high,
+            Access::Write => Stop::Nothing,
         },
-        Access::Read => Decision {
-            access: Access::Read,
-            trap: false,
-            letter: high,
-        },
-        Access::Write => decision(Access::Write, v.trap),
     }
 }

@@ -1,8 +1,10 @@
 -- The answer to a question, from the group that a search finds and from what its rules give.
-use Rattle.std.specs.Prelude.{◌≡◌, true, false, List, ℕ, ◌+◌, ◌≤◌, ◌<◌, drop}
-use Rattle.std.proofs.Common.{sym, ap, ◌∙◌}
+use Rattle.std.specs.Prelude.{◌≡◌, true, false, List, ℕ, ◌+◌, ◌-◌, ◌≤◌, ◌<◌, drop}
+use Rattle.std.proofs.Common.{refl, sym, ap, ◌∙◌, arith}
 use Rattle.std.proofs.Math.Option.{Option, some}
 use borrow.Author.Tests.{le-leb, lt-leb}
+use Rattle.spec_lists.specs.Runs.{Run}
+use Rattle.spec_calc.specs.declared.Reading.{Reading}
 use Rattle.spec_rule.specs.declared.Decision.{Decision}
 use Rattle.spec_rule.specs.declared.Verdict.{Verdict}
 use Rattle.spec_rule.specs.Roles.{roles_fit}
@@ -13,45 +15,75 @@ use Rattle.spec_rule.specs.Verdict.{nothing_given, by_rule, then, verdict_by, no
 use Rattle.spec_rule.proofs.laws.Decision.{nothing_then, verdict_first, decision_settled, turned, normal_normal, settled_end}
 use Rattle.spec_file.specs.Limit.{access_groups}
 use Rattle.spec_table.specs.View.{view}
-use Rattle.spec_table.specs.Check.{is_table}
+use Rattle.spec_table.specs.Check.{is_table, rules_run}
 use Rattle.spec_table.specs.Policy.{row}
 use Rattle.spec_decision.specs.declared.Answer.{Answer}
 use Rattle.spec_decision.specs.declared.Answer.TheVariants as answer
 use Rattle.spec_decision.specs.Decision.{rules_in, decide}
 use Rattle.spec_decision.specs.Groups.{answering_number}
-use Rattle.table_fields.specs.Field.{Word}
-use Rattle.table_read.specs.declared.Index.{Index}
-use Rattle.table_read.specs.declared.Index.TheVariants.{At, Missing}
-use Rattle.table_read.specs.Stored.{Stored, word_of}
+use Rattle.table_read.specs.Search.{Index}
+use Rattle.std.specs.Prelude.{Some, None}
+use Rattle.table_read.specs.Stored.{Stored}
 use Rattle.table_read.specs.Search.{index_of, group_for}
 use Rattle.table_read.specs.laws.Search.{finds_at, finds_none, finds_answering}
-use Rattle.ask_rule.specs.Rules.{rule_at, question}
-use Rattle.ask_checked.specs.Group.{group_rules}
+use Rattle.calc_inputs.specs.declared.Inputs.{Inputs}
+use Rattle.ask_rule.specs.declared.Client.{Client}
+use Rattle.ask_rule.specs.Rules.{rule_at, question, asked_by, InputsAre, WithRule}
+use Rattle.ask_checked.specs.Group.{group_rules, ByGroup}
 use Rattle.ask_checked.specs.laws.Group.{group_on, group_end}
 
--- ---- rule by rule: v is what the rules before the k-th of the i-th group give
+-- ---- rule by rule
 
-module _ (b : List ℕ) (i : ℕ) (h : Stored b access_groups i) (q : Question) where
-  pub rules_begin : decision_by q (group_rules b i) ≡ settled (then nothing_given (verdict_by q (group_rules b i)))
-  rules_begin = decision_settled q (group_rules b i) ∙ ap settled (sym (nothing_then (verdict_by q (group_rules b i))))
+module _ (b : List ℕ) (i : ℕ) (c : Client) (inputs : Inputs) where
+  abbrev run : Run
+  run = rules_run (row (view b) access_groups i)
 
-  module _ {s n : ℕ} (f : Word (word_of b access_groups i 4) s) (c : Word (word_of b access_groups i 5) n) (k : ℕ) (v : Verdict) where
-    pub rules_turn :
-        {w : Verdict} → k < n → w ≡ normal (then v (by_rule q (rule_at b (s + k))))
-        → (normal w ≡ w)
-        × (settled (then v (verdict_by q (drop k (group_rules b i)))) ≡ settled (then w (verdict_by q (drop (k + 1) (group_rules b i)))))
-    rules_turn l e =
-        let rest = drop (k + 1) (group_rules b i) in
-        let one = by_rule q (rule_at b (s + k)) in (
-          rw e (normal_normal (then v one)),
-          ap
-              (λ (x : Verdict). settled (then v x))
-              (ap (verdict_by q) (group_on b i h f c k l) ∙ verdict_first q (rule_at b (s + k)) rest)
-              ∙ turned v one (verdict_by q rest) e,
+  abbrev rest : ℕ → List Rule
+  rest k = drop (k - run.first) (group_rules b i)
+
+  -- v is what the rules before the k-th give
+  pub record Tried (v : Verdict) (k : ℕ) : Type 0 where
+    pub is_normal : (rs : List Reading) → InputsAre inputs rs → normal v ≡ v
+    pub decides :
+        (rs : List Reading) → InputsAre inputs rs
+        → decision_by (asked_by c rs) (group_rules b i) ≡ settled (then v (verdict_by (asked_by c rs) (rest k)))
+
+  pub none_tried : {v : Verdict} → v ≡ nothing_given → Tried v run.first
+  none_tried {v} e = record {
+    is_normal = λ rs h. rw e refl;
+    decides = λ rs h.
+        let q = asked_by c rs in
+        let z : 0 ≡ run.first - run.first = omega arith in
+        decision_settled q (group_rules b i)
+        ∙ ap settled (sym (nothing_then (verdict_by q (group_rules b i))))
+        ∙ ap (λ (x : Verdict). settled (then x (verdict_by q (group_rules b i)))) (sym e)
+        ∙ ap (λ (k : ℕ). settled (then v (verdict_by q (drop k (group_rules b i))))) z;
+  }
+
+  module _ (h : Stored b access_groups i) {v : Verdict} {k : ℕ} (t : Tried v k) (low : run.first ≤ k) where
+    pub one_tried : {w : Verdict} → k < run.first + run.count → WithRule b k c inputs v w → Tried w (k + 1)
+    one_tried {w} l e =
+        let given : (rs : List Reading) → InputsAre inputs rs → w ≡ normal (then v (by_rule (asked_by c rs) (rule_at b k))) = λ rs g. e rs g (t.is_normal rs g) in
+        record {
+          is_normal = λ rs g. rw (given rs g) (normal_normal (then v (by_rule (asked_by c rs) (rule_at b k))));
+          decides = λ rs g.
+              let q = asked_by c rs in
+              let at : run.first + (k - run.first) ≡ k = omega arith in
+              let z : k - run.first + 1 ≡ k + 1 - run.first = omega arith in
+              let on = rw (at, z) at (group_on b i h (k - run.first) (omega arith)) in
+              t.decides rs g
+              ∙ ap (λ (x : Verdict). settled (then v x)) (ap (verdict_by q) on ∙ verdict_first q (rule_at b k) (rest (k + 1)))
+              ∙ turned v (by_rule q (rule_at b k)) (verdict_by q (rest (k + 1))) (given rs g);
+        }
+
+    pub all_tried : run.first + run.count ≤ k → ByGroup b i c inputs (settled v)
+    all_tried l = λ rs g.
+        let q = asked_by c rs in
+        sym (
+        t.decides rs g
+        ∙ ap (λ (rules : List Rule). settled (then v (verdict_by q rules))) (group_end b i h (k - run.first) (omega arith))
+        ∙ settled_end v
         )
-
-    pub rules_end : n ≤ k → settled (then v (verdict_by q (drop k (group_rules b i)))) ≡ settled v
-    rules_end l = ap (λ (rs : List Rule). settled (then v (verdict_by q rs))) (group_end b i h f c k l) ∙ settled_end v
 
 -- ---- the answer
 
@@ -81,11 +113,11 @@ module _ (b : List ℕ) (q : Question) where
         unfolding decide
         decided z = rw (h, le-leb q.level 1 l, fit) (ap given z)
 
-        pub decide_none : r ≡ Missing → decide b q ≡ answer.Answered no_access
+        pub decide_none : r ≡ None → decide b q ≡ answer.Answered no_access
         decide_none e = decided (finds_none (finds_answering b q.group f) e)
 
         pub decide_by :
-            {d : Decision} {n : ℕ} {roles : List (List ℕ)} (i : ℕ) → n ≡ q.level → q.roles ≡ roles → r ≡ At i
+            {d : Decision} {n : ℕ} {roles : List (List ℕ)} (i : ℕ) → n ≡ q.level → q.roles ≡ roles → r ≡ Some i
             → d ≡ decision_by (question q.user q.host roles n q.readings) (group_rules b i)
             → decide b q ≡ answer.Answered d
         decide_by i x y e w =

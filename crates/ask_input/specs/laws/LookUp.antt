@@ -12,8 +12,8 @@ use Rattle.spec_decision.specs.declared.Found.{Found}
 use Rattle.spec_decision.specs.declared.Found.TheVariants as found
 use Rattle.spec_decision.specs.LookUp.{part_in, name_part, input_of, named_part, look_up}
 use Rattle.spec_decision.specs.Groups.{answering_number}
-use Rattle.table_read.specs.declared.Index.{Index}
-use Rattle.table_read.specs.declared.Index.TheVariants.{At, Missing}
+use Rattle.table_read.specs.Search.{Index}
+use Rattle.std.specs.Prelude.{Some, None}
 use Rattle.table_read.specs.Search.{Finds, not_found, index_of, group_for}
 use Rattle.table_read.specs.laws.Search.{finds_at, finds_none, finds_answering}
 use Rattle.ask_input.specs.Input.{FindsLetter}
@@ -23,12 +23,12 @@ module _ (b g : List ℕ) (l : ℕ) where
   unfolding look_up
   look_not h = rw h
 
-  pub input_missing : {r : Index} → r ≡ index_of (answering_number b g) → r ≡ Missing → FindsLetter b g l Missing
+  pub input_missing : {r : Index} → r ≡ index_of (answering_number b g) → r ≡ None → FindsLetter b g l None
   input_missing f e =
-      subst (λ (o : Option (List ℕ)). Finds ((view b).records inputs) (input_of (view b) l o) Missing) (sym (finds_none (finds_answering b g f) e)) not_found
+      subst (λ (o : Option (List ℕ)). Finds ((view b).records inputs) (input_of (view b) l o) None) (sym (finds_none (finds_answering b g f) e)) not_found
 
   pub input_found :
-      {r p : Index} {x : ℕ} (i : ℕ) → r ≡ index_of (answering_number b g) → r ≡ At i → x ≡ l
+      {r p : Index} {x : ℕ} (i : ℕ) → r ≡ index_of (answering_number b g) → r ≡ Some i → x ≡ l
       → Finds ((view b).records inputs) (input_of (view b) x (some (row (view b) access_groups i))) p
       → FindsLetter b g l p
   input_found {r} {p} i f e y d =
@@ -38,14 +38,14 @@ module _ (b g : List ℕ) (l : ℕ) where
       (rw y at d)
 
   module _ (h : is_table b ≡ true) where
-    pub look_none : {r : Index} → FindsLetter b g l r → r ≡ Missing → look_up b g l ≡ found.NoInput
+    pub look_none : {r : Index} → FindsLetter b g l r → r ≡ None → look_up b g l ≡ found.NoInput
     unfolding look_up
     look_none f e =
         let z : input_of (view b) l (group_for b g) ≡ none = finds_none f e in
         rw h (ap (named_part inputs b) z)
 
     pub look_found :
-        {r : Index} (i : ℕ) → FindsLetter b g l r → r ≡ At i
+        {r : Index} (i : ℕ) → FindsLetter b g l r → r ≡ Some i
         → look_up b g l ≡ name_part inputs b (row (view b) inputs i)
     unfolding look_up
     look_found i f e =
@@ -53,7 +53,7 @@ module _ (b g : List ℕ) (l : ℕ) where
         rw h (ap (named_part inputs b) z)
 
     -- the part of the table is the name
-    pub part_found : {r : Index} (i : ℕ) → FindsLetter b g l r → r ≡ At i → name (view b) inputs (row (view b) inputs i) ≡ part_in (look_up b g l) b
+    pub part_found : {r : Index} (i : ℕ) → FindsLetter b g l r → r ≡ Some i → name (view b) inputs (row (view b) inputs i) ≡ part_in (look_up b g l) b
     part_found i f e =
         let s = stands b h in
         let w = name_within (view b) s.1 inputs i (finds_at i f e).1 in

@@ -1,13 +1,11 @@
 -- The loops over the rules of a group, turn by turn; and that what they leave gives the group's decision.
-use Rattle.std.specs.Prelude.{◌≡◌, refl, List, [], ◌∷◌, map, ℕ, zero, suc, ◌+◌, ◌-◌, ◌≤◌, ◌<◌, length, take, drop, set, get_or}
-use Rattle.std.proofs.Common.{sym, ap, ◌∙◌, arith, ne_eqb, le-leb}
+use Rattle.std.specs.Prelude.{◌≡◌, refl, List, [], ◌∷◌, map, ℕ, suc, ◌+◌, ◌≤◌, ◌<◌, length, take, drop, set, get_or}
+use Rattle.std.proofs.Common.{sym, ap, ◌∙◌, arith, ne_eqb}
 use Rattle.std.proofs.lemmas.List.{length-map}
 use Rattle.std.proofs.lemmas.List.Edits.{sets}
-use Rattle.std.proofs.lemmas.Bool.{lt-leb}
-use Rattle.spec_lists.specs.Runs.{part}
+use Rattle.spec_lists.specs.Runs.{Run, part}
 use Rattle.spec_lists.proofs.laws.Sets.{part_sets_all}
 use Rattle.spec_calc.specs.declared.Reading.{Reading}
-use Rattle.spec_rule.specs.declared.Outcome.TheVariants as outcomes
 use Rattle.spec_rule.specs.declared.Verdict.{Verdict}
 use Rattle.spec_rule.specs.Rule.{Rule, stands, outcome}
 use Rattle.spec_rule.specs.Decision.{granted, decision_by}
@@ -17,24 +15,14 @@ use Rattle.spec_rule.proofs.laws.Decision.{nothing_then, failed, normal_normal, 
 use Rattle.spec_rule.proofs.laws.Kept.{kept_is, outcome_bytes_enough, kept_turn}
 use Rattle.spec_rule.proofs.laws.Walk.{list_on, part_on, mapped_on, mapped_end, sets_on}
 use Rattle.spec_file.specs.Limit.{access_groups, rules, most}
-use Rattle.table_fields.specs.Field.{Word}
-use Rattle.table_read.specs.Stored.{Stored, word_of}
+use Rattle.spec_table.specs.View.{view}
+use Rattle.spec_table.specs.Check.{rules_run}
+use Rattle.spec_table.specs.Policy.{row}
+use Rattle.table_read.specs.Stored.{Stored}
 use Rattle.ask_rule.specs.Rules.{rule_at, question}
 use Rattle.ask_checked.specs.Group.{group_rules}
-use Rattle.ask_checked.specs.laws.Group.{group_count, group_few, group_on, group_end}
+use Rattle.ask_checked.specs.laws.Group.{group_counted, group_few, group_on, group_end}
 use Rattle.ask_kept.specs.Kept.{client_bits, decision_kept}
-
--- ---- what a byte says of a calculation
-
-pub stopped_byte : (n : ℕ) → (n ≡ 0 → ⊥) → (n ≡ 1 → ⊥) → n ≤ 22 → byte_outcome n ≡ outcomes.Stopped (n - 2)
-stopped_byte zero a b l = absurd (a refl)
-stopped_byte (suc zero) a b l = absurd (b refl)
-stopped_byte (suc (suc i)) a b l = rw (le-leb i 20 (omega arith)) (ap outcomes.Stopped (let e : i ≡ suc (suc i) - 2 = omega arith in e))
-
-pub false_byte : (n : ℕ) → 22 < n → byte_outcome n ≡ outcomes.False
-false_byte zero l = refl
-false_byte (suc zero) l = absurd (omega arith)
-false_byte (suc (suc i)) l = rw (lt-leb i 20 (omega arith))
 
 -- ---- one rule: it does not stand, or it is tried
 
@@ -52,23 +40,25 @@ module _ (v : Verdict) (k : ℕ) (o : ℕ) (r : Rule) where
 
 -- ---- all rules of a group
 
-module _
-    (b : List ℕ) (i : ℕ) (h : Stored b access_groups i) {s n : ℕ} (f : Word (word_of b access_groups i 4) s) (c : Word (word_of b access_groups i 5) n) where
-  pub rules_few : n ≤ most rules
-  rules_few = omega (arith, group_few b i h, group_count b i h f c)
+module _ (b : List ℕ) (i : ℕ) (h : Stored b access_groups i) where
+  abbrev run : Run
+  run = rules_run (row (view b) access_groups i)
+
+  pub rules_few : run.count ≤ most rules
+  rules_few = omega (arith, group_few b i h, group_counted b i h)
 
   -- what is stored for each rule
   module _ {A : Type 0} (g : Rule → A) (l : List A) (j k : ℕ) {x : List A} where
     pub stores_turn :
-        {m : ℕ} {v : A} → k < n → suc j ≡ m → v ≡ g (rule_at b (s + k)) → x ≡ sets l j (drop k (map g (group_rules b i)))
+        {m : ℕ} {v : A} → k < run.count → suc j ≡ m → v ≡ g (rule_at b (run.first + k)) → x ≡ sets l j (drop k (map g (group_rules b i)))
         → x ≡ sets (set l j v) m (drop (k + 1) (map g (group_rules b i)))
     stores_turn {m} u y e z =
         z
-        ∙ sets_on l j y (mapped_on g (group_rules b i) k (group_on b i h f c k u))
+        ∙ sets_on l j y (mapped_on g (group_rules b i) k (group_on b i h k u))
         ∙ ap (λ (a : A). sets (set l j a) m (drop (k + 1) (map g (group_rules b i)))) (sym e)
 
-    pub stores_done : n ≤ k → x ≡ sets l j (drop k (map g (group_rules b i))) → l ≡ x
-    stores_done u z = sym (z ∙ ap (sets l j) (mapped_end g (group_rules b i) k (group_end b i h f c k u)))
+    pub stores_done : run.count ≤ k → x ≡ sets l j (drop k (map g (group_rules b i))) → l ≡ x
+    stores_done u z = sym (z ∙ ap (sets l j) (mapped_end g (group_rules b i) k (group_end b i h k u)))
 
   -- what the rules give, from the k-th on
   module _ (kept : List ℕ) (at : ℕ) (os : List ℕ) (k : ℕ) (v : Verdict) where
@@ -77,32 +67,32 @@ module _
         kept_verdict (drop m (part (record { first = at; count = length (group_rules b i) }) kept)) (drop m os) (drop m (group_rules b i))
 
     pub decision_turn :
-        {w : Verdict} → k < n → at + most rules ≤ length kept → k < length os
-        → w ≡ normal (then v (by_kept (get_or kept (at + k) 0) (get_or os k 0) (rule_at b (s + k))))
+        {w : Verdict} → k < run.count → at + most rules ≤ length kept → k < length os
+        → w ≡ normal (then v (by_kept (get_or kept (at + k) 0) (get_or os k 0) (rule_at b (run.first + k))))
         → decision_kept b i kept at os ≡ settled (then v (rest k))
         → (normal w ≡ w) × (decision_kept b i kept at os ≡ settled (then w (rest (k + 1))))
     decision_turn u a t e z =
         let o = get_or kept (at + k) 0 in
         let y = get_or os k 0 in
-        let r = rule_at b (s + k) in
-        let x = group_count b i h f c in (
+        let r = rule_at b (run.first + k) in
+        let x = group_counted b i h in (
           rw e (normal_normal (then v (by_kept o y r))),
           z
               ∙ kept_turn v
               (part_on (record { first = at; count = length (group_rules b i) }) kept 0 k (omega (arith, x, rules_few)) (omega (arith, x)))
               (list_on os 0 k t)
-              (group_on b i h f c k u)
+              (group_on b i h k u)
               e,
         )
 
-    pub decision_done : n ≤ k → decision_kept b i kept at os ≡ settled (then v (rest k)) → settled v ≡ decision_kept b i kept at os
+    pub decision_done : run.count ≤ k → decision_kept b i kept at os ≡ settled (then v (rest k)) → settled v ≡ decision_kept b i kept at os
     decision_done u z =
         sym (
         z
         ∙ ap
         (λ (rs : List Rule).
         settled (then v (kept_verdict (drop k (part (record { first = at; count = length (group_rules b i) }) kept)) (drop k os) rs)))
-        (group_end b i h f c k u)
+        (group_end b i h k u)
         ∙ ap (λ (w : Verdict). settled (then v w)) (kept_none (drop k (part (record { first = at; count = length (group_rules b i) }) kept)) (drop k os))
         ∙ settled_end v
         )

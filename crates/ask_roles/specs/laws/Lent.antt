@@ -1,12 +1,13 @@
 -- Roles as they are lent, one length after the other: whether they fit, and whether one of them is a name.
-use Rattle.std.specs.Prelude.{◌≡◌, refl, Bool, true, false, cond, ◌&&◌, List, [], ◌∷◌, ℕ, suc, ◌+◌, ◌-◌, ◌*◌, ◌≤◌, ◌<◌, min, leb, length, take, drop, get_or}
-use Rattle.std.proofs.Common.{sym, ap, ap₂, ◌∙◌, arith, length-drop, drop_of_length-le, take_all, drop-drop, length-take-le, leb-true, leb-false, le-leb}
+use Rattle.std.specs.Prelude.{◌≡◌, refl, Bool, true, false, cond, ◌&&◌, List, [], ◌∷◌, ℕ, suc, ◌+◌, ◌≤◌, ◌<◌, min, leb, length, take, drop, get_or}
+use Rattle.std.specs.List.{list_all, sum}
+use Rattle.std.proofs.lemmas.List.Recursion.{is_sum_by}
+use Rattle.std.proofs.Common.{sym, ap, ap₂, ◌∙◌, arith, length-drop, drop_of_length-le, take_all, length-take-le, leb-true, leb-false, le-leb}
 use Rattle.std.proofs.lemmas.Bool.{false≢true, lt-leb}
 use Rattle.std.proofs.Math.Seq.{take-length, drop-length}
-use Rattle.spec_lists.specs.Text.{same}
-use Rattle.spec_lists.specs.Select.{all, any, total}
+use Rattle.spec_lists.specs.Select.{all, total}
 use Rattle.spec_rule.specs.Roles.{most_roles, longest_role, roles_fit, cut_roles, too_many_roles, lent_roles}
-use Rattle.spec_rule.proofs.laws.Walk.{list_on, list_end, any_off, any_on}
+use Rattle.spec_rule.proofs.laws.Walk.{list_on}
 
 -- ---- roles that fit
 
@@ -26,7 +27,7 @@ cut_short pool (n ∷ ns) h =
     (length-take-le n pool (omega arith))
     (cut_short (drop n pool) ns (omega (arith, length-drop n pool)))
 
-lent_fit : (pool ns : List ℕ) → roles_fit (lent_roles pool ns) ≡ leb (length ns) most_roles && (all short ns && leb (total ns) (length pool))
+pub lent_fit : (pool ns : List ℕ) → roles_fit (lent_roles pool ns) ≡ leb (length ns) most_roles && (all short ns && leb (total ns) (length pool))
 lent_fit pool ns = go (leb (total ns) (length pool)) refl
   where
     inside : leb (total ns) (length pool) ≡ true → roles_fit (cut_roles pool ns) ≡ leb (length ns) most_roles && all short ns
@@ -56,94 +57,47 @@ lent_cut pool ns = go (leb (total ns) (length pool))
     go true e = refl
     go false e = absurd (false≢true e)
 
--- the first i lengths are short, and come to n
-pub record Summed (ns : List ℕ) (n i : ℕ) : Type 0 where
-  pub few : length ns ≤ most_roles
-  pub reached : i ≤ length ns
-  pub small : n ≤ longest_role * i
-  pub rest : n + total (drop i ns) ≡ total ns
-  pub shorts : all short ns ≡ all short (drop i ns)
+-- in the words of the library
+all_is : (p : ℕ → Bool) (ns : List ℕ) → list_all p ns ≡ all p ns
+all_is p [] = refl
+all_is p (n ∷ ns) = ap (λ (b : Bool). p n && b) (all_is p ns)
+
+total_is : (ns : List ℕ) → total ns ≡ sum ns
+total_is ns = is_sum_by total (λ n. n) refl (λ n l. refl) ns
 
 module _ (pool ns : List ℕ) where
+  pub fit_by :
+      {a : Bool} {n : ℕ} → length ns ≤ most_roles → a ≡ list_all short ns → n ≡ sum ns
+      → a && leb n (length pool) ≡ roles_fit (lent_roles pool ns)
+  fit_by l e f = sym (lent_fit pool ns ∙ rw (le-leb (length ns) most_roles l, ← all_is short ns, total_is ns, ← e, ← f))
+
   pub too_many : most_roles < length ns → roles_fit (lent_roles pool ns) ≡ false
   too_many l = lent_fit pool ns ∙ rw (lt-leb (length ns) most_roles l)
-
-  pub none_summed : length ns ≤ most_roles → Summed ns 0 0
-  none_summed l = record { few = l; reached = omega arith; small = omega arith; rest = omega arith; shorts = refl }
-
-  module _ {n i : ℕ} (s : Summed ns n i) where
-    abbrev Fits : Bool → Type 0
-    Fits b = roles_fit (lent_roles pool ns) ≡ b
-
-    fits_rest : Fits (all short (drop i ns) && leb (total ns) (length pool))
-    fits_rest =
-        lent_fit pool ns ∙ rw (le-leb (length ns) most_roles s.few) (ap (λ (b : Bool). b && leb (total ns) (length pool)) s.shorts)
-
-    module _ {k : ℕ} (l : i < length ns) (e : k ≡ get_or ns i 0) where
-      on : drop i ns ≡ k ∷ drop (i + 1) ns
-      on = rw e (list_on ns 0 i l)
-
-      pub too_long : longest_role < k → Fits false
-      too_long g =
-          fits_rest
-          ∙ ap (λ (ms : List ℕ). all short ms && leb (total ns) (length pool)) on
-          ∙ rw (lt-leb k longest_role g)
-
-      pub one_summed : k ≤ longest_role → Summed ns (n + k) (i + 1)
-      one_summed g = record {
-        few = s.few;
-        reached = omega arith;
-        small = omega (arith, s.small);
-        rest = omega (arith, s.rest, ap total on);
-        shorts = s.shorts ∙ ap (all short) on ∙ rw (le-leb k longest_role g);
-      }
-
-    pub all_summed : length ns ≤ i → Fits (leb n (length pool))
-    all_summed l =
-        let x : drop i ns ≡ [] = list_end ns i l in
-        let y : total ns ≡ n = omega (arith, s.rest, ap total x) in
-        fits_rest ∙ ap₂ (λ (ms : List ℕ) (m : ℕ). all short ms && leb m (length pool)) x y
 
 -- ---- one of the roles is a name
 
 -- as far as the pool goes
 module _ (xs : List ℕ) (n : ℕ) where
-  go_least : {A : Type 0} (f : ℕ → A) → (length xs ≤ n → f (length xs) ≡ f n) → f (min n (length xs)) ≡ f n
-  go_least f h = by (leb n (length xs)) refl
+  go_least : {A : Type 0} (f : ℕ → A) → (length xs ≤ n → f (length xs) ≡ f n) → f (min (length xs) n) ≡ f n
+  go_least f h = by (leb (length xs) n) refl
     where
-      by : (t : Bool) → leb n (length xs) ≡ t → f (min n (length xs)) ≡ f n
-      by true e = let l = leb-true n (length xs) e in let x : min n (length xs) ≡ n = omega arith in ap f x
-      by false e = let l = leb-false n (length xs) e in let x : min n (length xs) ≡ length xs = omega arith in ap f x ∙ h (omega arith)
+      by : (t : Bool) → leb (length xs) n ≡ t → f (min (length xs) n) ≡ f n
+      by true e = let l = leb-true (length xs) n e in let x : min (length xs) n ≡ length xs = omega arith in ap f x ∙ h l
+      by false e = let l = leb-false (length xs) n e in let x : min (length xs) n ≡ n = omega arith in ap f x
 
-  take_least : take (min n (length xs)) xs ≡ take n xs
+  take_least : take (min (length xs) n) xs ≡ take n xs
   take_least = go_least (λ k. take k xs) (λ l. take-length xs ∙ sym (take_all n xs l))
 
-  drop_least : drop (min n (length xs)) xs ≡ drop n xs
+  drop_least : drop (min (length xs) n) xs ≡ drop n xs
   drop_least = go_least (λ k. drop k xs) (λ l. drop-length xs ∙ sym (drop_of_length-le xs l))
 
--- none of the first i roles is the name, and they end at n
-pub record Searched (pool ns name : List ℕ) (n i : ℕ) : Type 0 where
-  pub inside : n ≤ length pool
-  pub rest : any (same name) (cut_roles pool ns) ≡ any (same name) (cut_roles (drop n pool) (drop i ns))
-
-module _ {pool ns name : List ℕ} {n i : ℕ} (s : Searched pool ns name n i) where
-  module _ {k m : ℕ} (l : i < length ns) (e : k ≡ get_or ns i 0) (f : m ≡ min k (length pool - n)) where
-    cut : cut_roles (drop n pool) (drop i ns) ≡ take (n + m - n) (drop n pool) ∷ cut_roles (drop (n + m) pool) (drop (i + 1) ns)
-    cut =
-        let later = drop n pool in
-        let x : m ≡ min k (length later) = f ∙ ap (min k) (sym (length-drop n pool)) in
-        let y : min k (length later) ≡ n + m - n = omega arith in
-        ap (cut_roles later) (list_on ns 0 i l ∙ ap (λ (j : ℕ). j ∷ drop (i + 1) ns) (sym e))
-        ∙ ap₂
-        (λ (r p : List ℕ). r ∷ cut_roles p (drop (i + 1) ns))
-        (sym (take_least later k) ∙ ap (λ (j : ℕ). take j later) y)
-        (sym (drop_least later k) ∙ ap (λ (j : ℕ). drop j later) (sym x) ∙ drop-drop m n pool)
-
-    pub one_found : same name (take (n + m - n) (drop n pool)) ≡ true → any (same name) (cut_roles pool ns) ≡ true
-    one_found h = s.rest ∙ any_on (same name) cut h
-
-    pub one_searched : same name (take (n + m - n) (drop n pool)) ≡ false → Searched pool ns name (n + m) (i + 1)
-    one_searched h = record { inside = omega (arith, s.inside); rest = s.rest ∙ any_off (same name) cut h }
-
-  pub all_searched : length ns ≤ i → any (same name) (cut_roles pool ns) ≡ false
-  all_searched l = s.rest ∙ ap (λ (ms : List ℕ). any (same name) (cut_roles (drop n pool) ms)) (list_end ns i l)
+-- the next role, and what is left of the pool behind it
+pub role_on :
+    (pool ns : List ℕ) {role later : List ℕ} {n m : ℕ} (i : ℕ) → i < length ns → n ≡ get_or ns i 0 → m ≡ min (length pool) n
+    → role ≡ take m pool → later ≡ drop m pool → cut_roles pool (drop i ns) ≡ role ∷ cut_roles later (drop (i + 1) ns)
+role_on pool ns {n = n} i l d e f g =
+    ap (cut_roles pool) (list_on ns 0 i l ∙ ap (λ (k : ℕ). k ∷ drop (i + 1) ns) (sym d))
+    ∙ ap₂
+    (λ (r p : List ℕ). r ∷ cut_roles p (drop (i + 1) ns))
+    (sym (f ∙ ap (λ (k : ℕ). take k pool) e ∙ take_least pool n))
+    (sym (g ∙ ap (λ (k : ℕ). drop k pool) e ∙ drop_least pool n))
