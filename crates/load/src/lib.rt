@@ -3,54 +3,28 @@
 
 ghost use Rattle.std.specs.Prelude.{◌≡◌, ◌≤◌, length};
 ghost use Rattle.spec_load.specs.Load.{load};
-ghost use Rattle.load_judge.specs.Judged.{Space};
 
-use load_judge::{LONGEST, SHORT};
-use load_syntax::Judgment;
+use load_judge::{BLANK, LONGEST, SHORT};
+use load_spans::Tokens;
 use spec_file::Refusal;
 use spec_load::Loaded;
 
-// The load of a text whose tokens have room in the arrays.
-fn load_in(
-    text: &[u8],
-    places: &mut [u16],
-    starts: &mut [u16],
-    ends: &mut [u16],
-    roles: &mut [u8],
-    lent: &mut [u8],
-) -> Loaded
-    requires { Space text.now places.old starts.old ends.old roles.old }
+// The load of a text of at most N bytes.
+fn load_by<const N: usize>(text: &[u8], lent: &mut [u8]) -> Loaded
+    requires { (length text.now ≤ N) × (N ≤ 16384) }
     ensures { record { answer = result; bytes = lent.new } ≡ load lent.old text.now }
 {
-    match load_judge::judge(text, places, starts, ends, roles) {
-        Judgment::Refused(k, p) => Loaded::Refused {
-            refusal: k,
-            place: p,
-        },
-        Judgment::Tokens(n) => load_store::store(text, places, starts, ends, roles, n, lent),
+    let mut tokens = [BLANK; N];
+    match load_judge::judge(text, &mut tokens) {
+        Err((refusal, place)) => Loaded::Refused { refusal, place },
+        Ok(n) => {
+            let accepted = Tokens {
+                text,
+                list: &tokens[..n],
+            };
+            load_store::store(&accepted, lent)
+        }
     }
-}
-
-fn load_short(text: &[u8], lent: &mut [u8]) -> Loaded
-    requires { length text.now ≤ 2048 }
-    ensures { record { answer = result; bytes = lent.new } ≡ load lent.old text.now }
-{
-    let mut places = [0u16; SHORT];
-    let mut starts = [0u16; SHORT];
-    let mut ends = [0u16; SHORT];
-    let mut roles = [0u8; SHORT];
-    load_in(text, &mut places, &mut starts, &mut ends, &mut roles, lent)
-}
-
-fn load_long(text: &[u8], lent: &mut [u8]) -> Loaded
-    requires { length text.now ≤ 16384 }
-    ensures { record { answer = result; bytes = lent.new } ≡ load lent.old text.now }
-{
-    let mut places = [0u16; LONGEST];
-    let mut starts = [0u16; LONGEST];
-    let mut ends = [0u16; LONGEST];
-    let mut roles = [0u8; LONGEST];
-    load_in(text, &mut places, &mut starts, &mut ends, &mut roles, lent)
 }
 
 // The table of a text at the start of the lent bytes, or a refusal, which leaves them as they are.
@@ -59,10 +33,10 @@ pub fn load(text: &[u8], lent: &mut [u8]) -> Loaded
 {
     let long = text.len();
     if long <= SHORT {
-        return load_short(text, lent);
+        return load_by::<SHORT>(text, lent);
     }
     if long <= LONGEST {
-        return load_long(text, lent);
+        return load_by::<LONGEST>(text, lent);
     }
     Loaded::Refused {
         refusal: Refusal::FileTooLong,

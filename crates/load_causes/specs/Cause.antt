@@ -1,34 +1,27 @@
--- The causes by their refusals.
-use Rattle.std.specs.Prelude.{◌≡◌, Bool, false, List, map, ℕ, ◌≤◌, get_or}
-use Rattle.load_tokens.specs.Arrays.{Arrays, tagged_from}
+-- The verdict on a file's tokens by the causes.
+use Rattle.std.specs.Prelude.{◌≡◌, List, ℕ, length, get_or, Option, Some, None, Result, Ok, Err}
+use Rattle.spec_grammar.specs.Sentence.{Tagged}
 use Rattle.spec_file.specs.declared.Refusal.{Refusal}
-use Rattle.spec_file.specs.declared.Refusal.TheVariants.{FileTooLong, BadByte, TooDeep, Ungrammatical, NoRoom, StringTooLong, TooMany, GivenAgain, BadLevel}
-use Rattle.spec_file.specs.declared.Refusal.TheVariants.{UndefinedGroup, UnknownWord, BadCalculation}
-use Rattle.spec_file.specs.Refusal.{Context, too_long, too_many, given_again, undefined_group, bad_level, unknown_word, contexts}
-use Rattle.spec_file.specs.Load.{bad_calculation, causes, refused_by, by_causes}
-use Rattle.load_syntax.specs.declared.Judgment.{Judgment}
-use Rattle.load_syntax.specs.Syntax.{count, final_verdict}
+use Rattle.spec_file.specs.Refusal.{contexts}
+use Rattle.spec_file.specs.Load.{Verdict, refuse, accept, causes, refused_by, by_causes}
+use Rattle.load_tokens.specs.declared.Token.{Token}
+use Rattle.load_tokens.specs.Arrays.{tagged_from}
+use Rattle.load_tokens.specs.Views.{roles, kept, blank}
 
--- the refusal of the k-th cause, the last one's behind the last
-abbrev pub cause_at : ℕ → Refusal
-cause_at k = get_or (map (λ c. c.refusal) causes) k BadCalculation
+-- a refusal, if a token was found, at its place
+abbrev pub refusal_at : List Token → Refusal → Option ℕ → Result (Unit {0}) (Refusal × ℕ)
+refusal_at ts k None = Ok tt
+refusal_at ts k (Some i) = Err (k, (get_or ts i blank).place)
 
--- the cause of a refusal; the others have none that a token shows
-abbrev pub applies : Refusal → Context → Bool
-applies FileTooLong c = false
-applies BadByte c = false
-applies TooDeep c = false
-applies Ungrammatical c = false
-applies StringTooLong c = too_long c
-applies TooMany c = too_many c
-applies GivenAgain c = given_again c
-applies UndefinedGroup c = undefined_group c
-applies BadLevel c = bad_level c
-applies UnknownWord c = unknown_word c
-applies BadCalculation c = bad_calculation c
-applies NoRoom c = false
+-- the verdict that an answer stands for, on tokens that are read
+abbrev pub verdict_of : List Tagged → Result (Unit {0}) (Refusal × ℕ) → Verdict
+verdict_of xs (Ok u) = accept xs
+verdict_of xs (Err e) = refuse e.0 e.1
 
--- the verdict on n tokens by the causes
-pub record JudgedTokens (s : List ℕ) (a : Arrays) (roles : List ℕ) (n : ℕ) (r : Judgment) : Type 0 where
-  pub same : by_causes (tagged_from s a roles 0 n) (refused_by causes (contexts (tagged_from s a roles 0 n))) ≡ final_verdict s a roles r
-  pub few : count r ≤ n
+-- what a file's tokens say
+abbrev pub said : List ℕ → List Token → List Tagged
+said s ts = tagged_from s (kept ts) (roles ts) 0 (length ts)
+
+-- the answer is the verdict by the causes
+pub record JudgedTokens (s : List ℕ) (ts : List Token) (r : Result (Unit {0}) (Refusal × ℕ)) : Type 0 where
+  pub same : by_causes (said s ts) (refused_by causes (contexts (said s ts))) ≡ verdict_of (said s ts) r

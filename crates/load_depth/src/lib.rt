@@ -1,49 +1,39 @@
 // The braces rule: how many braces are open at once.
 #![tactic(auto)]
 
-ghost use Rattle.std.specs.Prelude.{◌≡◌, List, ℕ, ◌≤◌, length};
+ghost use Rattle.std.specs.Prelude.{◌≡◌, List, ℕ, ◌≤◌};
 ghost use Rattle.spec_file.specs.Depth.{opened};
 ghost use Rattle.spec_file.specs.Limit.{most_braces};
-ghost use Rattle.load_tokens.specs.Arrays.{kind_of_number};
 ghost use Rattle.load_depth.specs.Deep.{Finds};
 
-use load_tokens::{CLOSE_BRACE, OPEN_BRACE};
+use load_tokens::Token;
+use spec_token::Kind;
 
 // most_braces
 const MOST_BRACES: usize = 16;
 
-// Where the brace stands that makes too many open at once.
-#[derive(Clone, Copy)]
-pub enum Deep {
-    No,
-    At(usize),
-}
-
-// How many braces are open behind a token.
-fn opened(kind: u8, count: usize) -> usize
+// How many braces are open behind a token. The caller, too_deep, goes on only while no more are open than may be.
+fn opened(kind: Kind, count: usize) -> usize
     requires { count ≤ most_braces }
-    ensures { result ≡ opened (kind_of_number kind) count }
+    ensures { result ≡ opened kind count }
 {
     match kind {
-        OPEN_BRACE => count + 1,
-        CLOSE_BRACE => { if count == 0 { 0 } else { count - 1 } }
+        Kind::OpenBrace => count + 1,
+        Kind::CloseBrace => count.saturating_sub(1),
         _ => count,
     }
 }
 
-// The braces rule over the first n tokens. The caller, load_syntax, has arrays as long as the text, and no text has more tokens than bytes.
-pub fn too_deep(kinds: &[u8], places: &[u16], n: usize) -> Deep
-    requires { (n ≤ length kinds.now) × (n ≤ length places.now) }
-    ensures { (s starts ends : List ℕ) → Finds s starts ends kinds.now places.now n result }
+// The braces rule: the place of the brace that makes too many open at once.
+pub fn too_deep(tokens: &[Token]) -> Option<usize>
+    ensures { (s : List ℕ) → Finds s tokens.now result }
 {
-    let mut count: usize = 0;
-    let mut i = 0;
-    while i < n {
-        count = opened(kinds[i], count);
-        if MOST_BRACES < count {
-            return Deep::At(load_tokens::wide(places[i]));
+    let mut count = 0;
+    for token in tokens {
+        count = opened(token.kind, count);
+        if count > MOST_BRACES {
+            return Some(token.place());
         }
-        i += 1;
     }
-    Deep::No
+    None
 }

@@ -1,46 +1,78 @@
--- What a parser's function says: where it stands, which kind it sees there, and what the rest of the file comes to.
-use Rattle.std.specs.Prelude.{◌≡◌, cond, List, ◌++◌, map, ℕ, suc, ◌-◌, ◌≤◌, length, get_or, take, drop, ltb}
+-- What a parser's function says: which kind it sees where it stands, and what the rest of the file comes to.
+use Rattle.std.specs.Prelude.{◌≡◌, Bool, false, cond, ◌||◌, List, ◌++◌, map, ℕ, ◌+◌, ◌-◌, ◌≤◌, length, take, drop, slice_get, IfOk}
+use Rattle.std.specs.Prelude.{Option, Some, None, Result, Ok, Err}
+use Rattle.std.specs.Option.{option_map}
+use Rattle.spec_token.specs.declared.Kind.{Kind}
+use Rattle.spec_token.specs.declared.Kind.TheVariants.{Int, Float}
+use Rattle.spec_grammar.specs.declared.Role.{Role}
+use Rattle.spec_grammar.specs.Codes.{kind_number, same_kind}
 use Rattle.spec_grammar.specs.Production.{◌tagged◌}
 use Rattle.spec_grammar.specs.Reader.{Stack, Entry, once, token}
-use Rattle.load_tokens.specs.Arrays.{kind_of_number, role_of_number}
-use Rattle.load_tokens.specs.Scratch.{Scratch}
-use Rattle.load_elements.specs.declared.Cursor.{Cursor}
-use Rattle.load_elements.specs.declared.Cursor.TheVariants as cursor
+use Rattle.load_tokens.specs.declared.Token.{Token}
+use Rattle.load_tokens.specs.Names.{is_name}
+use Rattle.load_tokens.specs.Views.{kept}
+use Rattle.load_elements.specs.declared.Parser.{Parser}
 use Rattle.load_elements.specs.Parse.{Parsed, stopped_at, parse_from}
 
--- the number of a kind: every number from 13 on is a comma's
-abbrev pub kind_code : ℕ → ℕ
-kind_code x = cond (ltb x 13) x 13
+abbrev pub kinds_of : List Token → List Kind
+kinds_of ts = map (λ (t : Token). t.kind) ts
 
--- the kind of the token of index p, or 14 at the end
-abbrev pub kind_code_at : List ℕ → ℕ → ℕ
-kind_code_at kinds p = cond (ltb p (length kinds)) (kind_code (get_or kinds p 0)) 14
+abbrev pub roles_of : List Token → List Role
+roles_of ts = map (λ (t : Token). t.role) ts
 
--- the kind that stands next; behind a stop there is none
-unfoldable pub kind_at : List ℕ → Cursor → ℕ
-kind_at kinds (cursor.At p) = kind_code_at kinds p
-kind_at kinds (cursor.Stopped i) = 14
+-- the kind of the token that stands next; none at the end
+abbrev pub kind_of : List Token → ℕ → Option Kind
+kind_of ts i = option_map (λ (t : Token). t.kind) (slice_get ts i)
 
--- the tokens that are left, and the end; none behind a stop
-unfoldable pub remaining : List ℕ → Cursor → ℕ
-remaining kinds (cursor.At p) = suc (length kinds - p)
-remaining kinds (cursor.Stopped i) = 0
+abbrev pub kind_at : Parser → Option Kind
+kind_at p = kind_of p.tokens.now p.at
 
--- what the whole file comes to, if the stack k is still to come and the roles are right up to the cursor
-unfoldable pub parse_at : List ℕ → List ℕ → Cursor → Stack → Parsed
-parse_at kinds roles (cursor.At p) k = parse_from k p (map role_of_number (take p roles)) (drop p kinds)
-parse_at kinds roles (cursor.Stopped i) k = stopped_at i
+-- whether it is this kind
+abbrev pub is_next : Kind → Option Kind → Bool
+is_next k None = false
+is_next k (Some x) = same_kind x k
+
+-- the kind, if an element may have it as its name
+abbrev pub name_of : Option Kind → Option Kind
+name_of None = None
+name_of (Some x) = cond (is_name (kind_number x)) (Some x) None
+
+-- a generic_element: a name or a number
+abbrev pub is_element : Option Kind → Bool
+is_element None = false
+is_element (Some x) = is_name (kind_number x) || (same_kind x Int || same_kind x Float)
+
+-- what the whole file comes to, if the stack k is still to come and the roles are right up to where the parser stands
+unfoldable pub parse_on : List Token → ℕ → Stack → Parsed
+parse_on ts i k = parse_from k i (roles_of (take i ts)) (kinds_of (drop i ts))
+
+-- the same behind a function; or where parsing stopped
+unfoldable pub parse_at : Parser → Result Unit ℕ → Stack → Parsed
+parse_at p (Ok u) k = parse_on p.tokens.now p.at k
+parse_at p (Err i) k = stopped_at i
 
 -- a token of this kind with this role
-abbrev pub expected : ℕ → ℕ → Entry
-expected x r = once (token (kind_of_number x tagged role_of_number r))
+abbrev pub expected : Kind → Role → Entry
+expected k r = once (token (k tagged r))
 
 -- if k is still to come, the whole file comes to x
-pub record Leads (kinds roles : List ℕ) (s : Cursor) (k : Stack) (x : Parsed) : Type 0 where
-  pub same : parse_at kinds roles s k ≡ x
+pub record Leads (p : Parser) (k : Stack) (x : Parsed) : Type 0 where
+  pub same : parse_on p.tokens.now p.at k ≡ x
 
--- the stack l was read, with d tokens at least; the roles from the cursor on, and all of them at a stop, are scratch
-pub record Reads (d : ℕ) (l : Stack) (kinds roles : List ℕ) (s : Cursor) (roles' : List ℕ) (s' : Cursor) : Type 0 where
-  pub leads : (k : Stack) → Leads kinds roles s (l ++ k) (parse_at kinds roles' s' k)
-  pub scratch : Scratch roles roles'
-  pub less : remaining kinds s' ≤ remaining kinds s - d
+-- how many tokens are left
+unfoldable pub left : Parser → ℕ
+left p = length p.tokens.now - p.at
+
+-- The stack l was read, with d tokens at least. Nothing but roles was written, in the tokens that the parser was given.
+pub record Reads (d : ℕ) (l : Stack) (p p' : Parser) (r : Result Unit ℕ) : Type 0 where
+  pub leads : (k : Stack) → Leads p (l ++ k) (parse_at p' r k)
+  pub others : kept p'.tokens.now ≡ kept p.tokens.now
+  pub fewer : IfOk r (λ u. left p' + d ≤ left p)
+  pub lent : p'.tokens.ghost_name ≡ p.tokens.ghost_name
+
+-- of the stack l, which was to be read from p on, m is still to come at p'; d tokens at least were read
+pub record Begun (d : ℕ) (l m : Stack) (p p' : Parser) : Type 0 where
+  pub leads : (k : Stack) → Leads p (l ++ k) (parse_at p' (Ok tt) (m ++ k))
+  pub others : kept p'.tokens.now ≡ kept p.tokens.now
+  pub fewer : left p' + d ≤ left p
+  pub lent : p'.tokens.ghost_name ≡ p.tokens.ghost_name

@@ -1,4 +1,3 @@
-pub mod Kinds
 pub mod Cases
 pub mod Stacks
 pub mod Tokens

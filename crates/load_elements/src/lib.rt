@@ -1,121 +1,127 @@
-// A parser's cursor over the kinds of a file's tokens, and what 001 allows in an unknown part: elements, lists and heads.
-// Each function writes the roles of the tokens that it reads. It asks that there are as many roles as kinds: load_parse::read cuts
-// both slices to one length, and every caller hands them on. A kind that is expected is a constant, or one that was seen.
+// A parser's cursor over a file's tokens, and what 001 allows in an unknown part: elements, lists and heads.
+// Each function reads on from where the parser stands, and writes the roles of the tokens that it reads. Err is the index of the token
+// that may not come, or the number of tokens where they end too soon; it is final, and the caller hands it on.
 #![tactic(auto)]
 
-ghost use Rattle.std.specs.Prelude.{◌≡◌, [], ◌∷◌, ◌<◌, length};
+ghost use Rattle.std.specs.Prelude.{◌≡◌, [], ◌∷◌};
 ghost use Rattle.spec_token.specs.declared.Kind.TheVariants as kind;
 ghost use Rattle.spec_grammar.specs.Reader.{once, perhaps, element, more_until, arguments, headed, second_block};
-ghost use Rattle.load_tokens.specs.Arrays.{kind_of_number};
-ghost use Rattle.load_elements.specs.Reads.{kind_at, expected, Reads};
+ghost use Rattle.load_elements.specs.Reads.{kind_at, is_next, name_of, is_element, expected, Reads};
 
-use load_tokens::{CLOSE_BRACE, CLOSE_PAREN, COMMA, END, NO_ROLE, OPEN_BRACE, OPEN_PAREN, STRING};
+use load_tokens::{Token, is_name};
+use spec_grammar::Role;
+use spec_token::Kind;
 
-// Where a parser stands: before a token, or stopped at one for good.
-#[derive(Clone, Copy)]
-pub enum Cursor {
-    At(usize),
-    Stopped(usize),
+// The tokens, and the index of the one that stands next.
+#[derive(Drop)]
+pub struct Parser<'a> {
+    pub tokens: &'a mut [Token],
+    pub at: usize,
 }
 
-// The kind of the token that stands next.
-pub fn kind_at(kinds: &[u8], s: Cursor) -> u8
-    ensures { result ≡ kind_at kinds.now s }
+// What may stand as a generic_element: a name or a number.
+fn is_element(kind: Kind) -> bool
+    ensures { result ≡ is_element (Some kind) }
 {
-    match s {
-        Cursor::At(p) => {
-            if kinds.len() <= p {
-                return END;
-            }
-            let kind = kinds[p];
-            if kind < COMMA { kind } else { COMMA }
+    is_name(kind) || kind == Kind::Int || kind == Kind::Float
+}
+
+impl<'a> Parser<'a> {
+    // The kind of the token that stands next; none at the end.
+    pub fn kind(&self) -> Option<Kind>
+        ensures { result ≡ kind_at self.now }
+    {
+        Some(self.tokens.get(self.at)?.kind)
+    }
+
+    // Whether a token of this kind stands next.
+    pub fn next_is(&self, kind: Kind) -> bool
+        ensures { result ≡ is_next kind (kind_at self.now) }
+    {
+        self.kind() == Some(kind)
+    }
+
+    // The kind of the token that stands next, if an element may have it as its name.
+    pub fn name(&self) -> Option<Kind>
+        ensures { result ≡ name_of (kind_at self.now) }
+    {
+        match self.kind() {
+            Some(kind) if is_name(kind) => Some(kind),
+            _ => None,
         }
-        Cursor::Stopped(_) => END,
     }
-}
 
-// A token of this kind, which gets this role. Callers hand on both slices, which load_parse::read cuts to one length.
-pub fn expect(kinds: &[u8], roles: &mut [u8], s: Cursor, kind: u8, role: u8) -> Cursor
-    requires { (length roles.old ≡ length kinds.now) × (kind < 14) }
-    ensures { Reads 1 (expected kind role ∷ []) kinds.now roles.old s roles.new result }
-{
-    match s {
-        Cursor::At(p) => {
-            if kind_at(kinds, s) != kind {
-                return Cursor::Stopped(p);
-            }
-            roles[p] = role;
-            Cursor::At(p + 1)
+    // A token of this kind, which gets this role.
+    pub fn expect(&mut self, kind: Kind, role: Role) -> Result<(), usize>
+        ensures { Reads 1 (expected kind role ∷ []) self.old self.new result }
+    {
+        if !self.next_is(kind) {
+            return Err(self.at);
         }
-        Cursor::Stopped(_) => s,
+        self.tokens[self.at].role = role;
+        self.at += 1;
+        Ok(())
     }
-}
 
-// generic_element
-fn element(kinds: &[u8], roles: &mut [u8], s: Cursor) -> Cursor
-    requires { length roles.old ≡ length kinds.now }
-    ensures { Reads 1 (once element ∷ []) kinds.now roles.old s roles.new result }
-{
-    let kind = kind_at(kinds, s);
-    if kind <= STRING {
-        return expect(kinds, roles, s, kind, NO_ROLE);
+    // generic_element
+    pub fn element(&mut self) -> Result<(), usize>
+        ensures { Reads 1 (once element ∷ []) self.old self.new result }
+    {
+        match self.kind() {
+            Some(kind) if is_element(kind) => self.expect(kind, Role::NoRole),
+            _ => Err(self.at),
+        }
     }
-    expect(kinds, roles, s, STRING, NO_ROLE)
-}
 
-// { "," generic_element } and the token that closes.
-fn list_rest(kinds: &[u8], roles: &mut [u8], s: Cursor, close: u8) -> Cursor
-    requires { (length roles.old ≡ length kinds.now) × (close < 14) }
-    ensures { Reads 1 (more_until (kind_of_number close)) kinds.now roles.old s roles.new result }
-{
-    let mut at = s;
-    while kind_at(kinds, at) == COMMA {
-        at = expect(kinds, roles, at, COMMA, NO_ROLE);
-        at = element(kinds, roles, at);
+    // { "," generic_element } and the token that closes.
+    fn list_rest(&mut self, close: Kind) -> Result<(), usize>
+        ensures { Reads 1 (more_until close) self.old self.new result }
+    {
+        // Stays: no plainer as a `for`, since each turn reads as many tokens as the grammar says and may stop.
+        while self.next_is(Kind::Comma) {
+            self.expect(Kind::Comma, Role::NoRole)?;
+            self.element()?;
+        }
+        self.expect(close, Role::NoRole)
     }
-    expect(kinds, roles, at, close, NO_ROLE)
-}
 
-// What follows "(" in a generic_head. Callers hand on both slices, which load_parse::read cuts to one length.
-pub fn arguments(kinds: &[u8], roles: &mut [u8], s: Cursor) -> Cursor
-    requires { length roles.old ≡ length kinds.now }
-    ensures { Reads 1 (once arguments ∷ []) kinds.now roles.old s roles.new result }
-{
-    if kind_at(kinds, s) == CLOSE_PAREN {
-        return expect(kinds, roles, s, CLOSE_PAREN, NO_ROLE);
+    // What follows "(" in a generic_head.
+    pub fn arguments(&mut self) -> Result<(), usize>
+        ensures { Reads 1 (once arguments ∷ []) self.old self.new result }
+    {
+        if self.next_is(Kind::CloseParen) {
+            return self.expect(Kind::CloseParen, Role::NoRole);
+        }
+        self.element()?;
+        self.list_rest(Kind::CloseParen)
     }
-    let at = element(kinds, roles, s);
-    list_rest(kinds, roles, at, CLOSE_PAREN)
-}
 
-// generic_head. Callers hand on both slices, which load_parse::read cuts to one length.
-pub fn head(kinds: &[u8], roles: &mut [u8], s: Cursor) -> Cursor
-    requires { length roles.old ≡ length kinds.now }
-    ensures { Reads 1 (headed []) kinds.now roles.old s roles.new result }
-{
-    let at = expect(kinds, roles, s, OPEN_PAREN, NO_ROLE);
-    arguments(kinds, roles, at)
-}
-
-// generic_list and "}". Callers hand on both slices, which load_parse::read cuts to one length.
-pub fn list(kinds: &[u8], roles: &mut [u8], s: Cursor) -> Cursor
-    requires { length roles.old ≡ length kinds.now }
-    ensures { Reads 1 (once element ∷ more_until kind.CloseBrace) kinds.now roles.old s roles.new result }
-{
-    let at = element(kinds, roles, s);
-    list_rest(kinds, roles, at, CLOSE_BRACE)
-}
-
-// The second half of a generic_list_block, which need not come. Callers hand on both slices, which load_parse::read cuts to one length.
-pub fn second_block(kinds: &[u8], roles: &mut [u8], s: Cursor) -> Cursor
-    requires { length roles.old ≡ length kinds.now }
-    ensures { Reads 0 (perhaps second_block ∷ []) kinds.now roles.old s roles.new result }
-{
-    if kind_at(kinds, s) != OPEN_BRACE {
-        return s;
+    // generic_head
+    pub fn head(&mut self) -> Result<(), usize>
+        ensures { Reads 1 (headed []) self.old self.new result }
+    {
+        self.expect(Kind::OpenParen, Role::NoRole)?;
+        self.arguments()
     }
-    let inside = expect(kinds, roles, s, OPEN_BRACE, NO_ROLE);
-    let first = element(kinds, roles, inside);
-    let at = expect(kinds, roles, first, COMMA, NO_ROLE);
-    list(kinds, roles, at)
+
+    // generic_list and "}"
+    pub fn list(&mut self) -> Result<(), usize>
+        ensures { Reads 1 (once element ∷ more_until kind.CloseBrace) self.old self.new result }
+    {
+        self.element()?;
+        self.list_rest(Kind::CloseBrace)
+    }
+
+    // The second half of a generic_list_block, which need not come.
+    pub fn second_block(&mut self) -> Result<(), usize>
+        ensures { Reads 0 (perhaps second_block ∷ []) self.old self.new result }
+    {
+        if !self.next_is(Kind::OpenBrace) {
+            return Ok(());
+        }
+        self.expect(Kind::OpenBrace, Role::NoRole)?;
+        self.element()?;
+        self.expect(Kind::Comma, Role::NoRole)?;
+        self.list()
+    }
 }

@@ -7,12 +7,18 @@ use Rattle.spec_grammar.specs.declared.Role.TheVariants.{AsgName}
 use Rattle.spec_grammar.specs.Sentence.{Tagged}
 use Rattle.spec_file.specs.Contents.{until, texts, head_of}
 use Rattle.spec_table.specs.Check.{undefined_number}
+use Rattle.load_tokens.specs.declared.Token.{Token}
+use Rattle.load_tokens.specs.Views.{starts, ends, roles}
 use Rattle.load_spans.specs.Spans.{text_at}
 use Rattle.load_spans.specs.Roles.{arrays, tokens}
 
 -- the tokens from one index up to another
 abbrev pub tokens_in : List ℕ → List ℕ → List ℕ → List ℕ → ℕ → ℕ → List Tagged
 tokens_in s starts ends roles from to = tokens s (arrays starts ends) roles from to
+
+-- the same of a file's tokens
+abbrev pub part : List ℕ → List Token → ℕ → ℕ → List Tagged
+part s ts from to = tokens_in s (starts ts) (ends ts) (roles ts) from to
 
 -- the texts of the tokens with some indices
 abbrev pub texts_at : List ℕ → List ℕ → List ℕ → List ℕ → List (List ℕ)

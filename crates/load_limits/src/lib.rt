@@ -1,104 +1,103 @@
 // Causes 5 and 6: a string too long, a limit of the table passed.
 #![tactic(auto)]
 
-ghost use Rattle.std.specs.Prelude.{◌≡◌, map, ℕ, ◌<◌};
-ghost use Rattle.spec_grammar.specs.declared.Role.{Role};
-ghost use Rattle.load_tokens.specs.Arrays.{role_of_number};
+ghost use Rattle.std.specs.Prelude.{◌≡◌, ◌<◌, length};
+ghost use Rattle.spec_file.specs.Limit.{longest, order, most, item_of};
 ghost use Rattle.spec_file.specs.Refusal.{too_long, too_many};
-ghost use Rattle.load_spans.specs.Roles.{SpansFit};
-ghost use Rattle.load_spans.specs.Search.{first_of, applies_at};
-ghost use Rattle.load_limits.specs.Limit.{every_role, limit};
+ghost use Rattle.load_spans.specs.Search.{first_in, applies_in};
+ghost use Rattle.load_limits.specs.Limit.{known, section_of, as_section};
 
-// As long as a file: no text is longer, and no token stands behind as many.
-const ANY: usize = 16384;
+use load_spans::Tokens;
+use spec_grammar::Role;
 
-// How long a text may be, by its role's number.
-const LIMITS: [usize; 18] = [
-    ANY, // no_role
-    60, // a UAG's name
-    60, // a user
-    60, // a HAG's name
-    60, // a host
-    60, // an ASG's name
-    ANY, // INP
-    60, // a process variable
-    ANY, // RULE
-    ANY, // a level
-    ANY, // a permission
-    ANY, // a log option
-    60, // a UAG that a rule names
-    60, // a HAG that a rule names
-    ANY, // CALC
-    79, // a calculation
-    ANY, // an unknown item
-    ANY, // an unknown predicate
-];
-
-// The section in which a role is an item, by its number, 0 for none.
-const SECTIONS: [usize; 18] = [0, 1, 3, 2, 3, 4, 5, 0, 6, 0, 0, 0, 7, 7, 0, 0, 0, 0];
-
-// How many items a section may have: none, UAG, HAG, members, ASG, inputs, rules, groups that rules name.
-const MOST: [usize; 8] = [ANY, 64, 64, 1024, 64, 512, 256, 1024];
-
-// The entry of a role, given by its number. A table is handed down, so that it is laid out once and not at each token.
-fn by_role(table: &[usize; 18], role: u8) -> usize
-    ensures { (f : Role → ℕ) → table.now ≡ map f every_role → result ≡ f (role_of_number role) }
+// How long a text may be, by what it says.
+fn longest(role: Role) -> Option<usize>
+    ensures { result ≡ known (longest role) }
 {
-    if role < 18 {
-        return table[role as usize];
+    match role {
+        Role::UagName | Role::HagName | Role::AsgName | Role::UagNamed | Role::HagNamed => Some(60),
+        Role::User | Role::Host | Role::Pvname => Some(60),
+        Role::Calculation => Some(79),
+        _ => None,
     }
-    table[0]
 }
 
-fn long_at(
-    limits: &[usize; 18],
-    s: &[u8],
-    starts: &[u16],
-    ends: &[u16],
-    roles: &[u8],
-    n: usize,
-    i: usize,
-) -> bool
-    requires { SpansFit s.now starts.now ends.now roles.now n × (i < n) × (limits.now ≡ map limit every_role) }
-    ensures { result ≡ applies_at too_long s.now starts.now ends.now roles.now n i }
+fn too_long_at(t: &Tokens<'_>, i: usize) -> bool
+    requires { i < length t.now.list.now }
+    ensures { result ≡ applies_in too_long t.now.text.now t.now.list.now i }
 {
-    by_role(limits, roles[i]) < load_spans::long(s, starts, ends, i)
+    match longest(t.list[i].role) {
+        Some(most) => most < t.long(i),
+        None => false,
+    }
 }
 
-// The first token whose text is longer than its role allows, or n.
-// The caller, load_causes, has the tokens from load_syntax.
-pub fn too_long(s: &[u8], starts: &[u16], ends: &[u16], roles: &[u8], n: usize) -> usize
-    requires { SpansFit s.now starts.now ends.now roles.now n }
-    ensures { result ≡ first_of too_long s.now starts.now ends.now roles.now n }
+// The first token whose text is longer than its role allows.
+pub fn too_long(t: &Tokens<'_>) -> Option<usize>
+    ensures { result ≡ first_in too_long t.now.text.now t.now.list.now }
 {
-    let limits = LIMITS;
-    let mut i = 0;
-    while i < n {
-        if long_at(&limits, s, starts, ends, roles, n, i) {
-            return i;
+    t.first(|i| too_long_at(t, i))
+}
+
+// The sections of a table, in their order.
+#[derive(Clone, Copy)]
+enum Section {
+    UserGroups,
+    HostGroups,
+    Members,
+    AccessGroups,
+    Inputs,
+    Rules,
+    References,
+}
+
+// The section in which a token is an item, by what it says.
+fn section_of(role: Role) -> Option<Section>
+    ensures { result ≡ section_of (item_of role) }
+{
+    match role {
+        Role::UagName => Some(Section::UserGroups),
+        Role::HagName => Some(Section::HostGroups),
+        Role::User | Role::Host => Some(Section::Members),
+        Role::AsgName => Some(Section::AccessGroups),
+        Role::Input => Some(Section::Inputs),
+        Role::RuleWord => Some(Section::Rules),
+        Role::UagNamed | Role::HagNamed => Some(Section::References),
+        _ => None,
+    }
+}
+
+// How many items it may have.
+fn most(section: Section) -> usize
+    ensures { result ≡ most (as_section section) }
+{
+    match section {
+        Section::UserGroups | Section::HostGroups | Section::AccessGroups => 64,
+        Section::Members | Section::References => 1024,
+        Section::Inputs => 512,
+        Section::Rules => 256,
+    }
+}
+
+fn order(section: Section) -> usize
+    ensures { result ≡ order (as_section section) }
+{
+    section as usize
+}
+
+// The first item that passes the limit of its section.
+pub fn too_many(t: &Tokens<'_>) -> Option<usize>
+    ensures { result ≡ first_in too_many t.now.text.now t.now.list.now }
+{
+    let mut counts = [0usize; 7];
+    for (i, token) in t.list.iter().enumerate() {
+        if let Some(section) = section_of(token.role) {
+            let k = order(section);
+            if most(section) <= counts[k] {
+                return Some(i);
+            }
+            counts[k] += 1;
         }
-        i += 1;
     }
-    i
-}
-
-// The first item that passes the limit of its section, or n.
-// The caller, load_causes, has the tokens from load_syntax.
-pub fn too_many(s: &[u8], starts: &[u16], ends: &[u16], roles: &[u8], n: usize) -> usize
-    requires { SpansFit s.now starts.now ends.now roles.now n }
-    ensures { result ≡ first_of too_many s.now starts.now ends.now roles.now n }
-{
-    let most = MOST;
-    let sections = SECTIONS;
-    let mut counts = [0usize; 8];
-    let mut i = 0;
-    while i < n {
-        let k = by_role(&sections, roles[i]);
-        if most[k] <= counts[k] {
-            return i;
-        }
-        counts[k] += 1;
-        i += 1;
-    }
-    i
+    None
 }

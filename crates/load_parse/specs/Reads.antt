@@ -1,36 +1,40 @@
 -- What the functions say that read the items of a file, and what reading all of it answers.
-use Rattle.std.specs.Prelude.{◌≡◌, List, [], ◌∷◌, map, ℕ, take, drop}
-use Rattle.spec_grammar.specs.Reader.{Stack, Expected, perhaps, named, string_list, rules, braced}
-use Rattle.load_tokens.specs.Arrays.{role_of_number}
-use Rattle.load_tokens.specs.Scratch.{Scratch}
-use Rattle.load_elements.specs.declared.Cursor.{Cursor}
-use Rattle.load_elements.specs.declared.Cursor.TheVariants as cursor
+use Rattle.std.specs.Prelude.{◌≡◌, List, [], ◌∷◌, ℕ, Result, Ok, Err}
+use Rattle.spec_token.specs.declared.Kind.{Kind}
+use Rattle.spec_grammar.specs.declared.Role.{Role}
+use Rattle.spec_grammar.specs.Reader.{Stack, Expected, perhaps, often, item, named, no_role, string_list, rules, braced, start}
+use Rattle.load_tokens.specs.declared.Token.{Token}
+use Rattle.load_tokens.specs.Views.{kept}
+use Rattle.load_elements.specs.declared.Parser.{Parser}
 use Rattle.load_elements.specs.Parse.{Parsed, parsed, stopped_at, parse}
-use Rattle.load_elements.specs.Reads.{expected}
-use Rattle.load_parse.specs.declared.ParseEnd.{ParseEnd}
-use Rattle.load_parse.specs.declared.ParseEnd.TheVariants as outcome
+use Rattle.load_elements.specs.Reads.{kinds_of, roles_of, parse_on}
 
 -- a group: its word, its name, and its part in braces, which need not come
-abbrev pub group : ℕ → ℕ → Expected → Stack
-group word name p = expected word 0 ∷ named (role_of_number name) (perhaps p ∷ [])
+abbrev pub group : Kind → Role → Expected → Stack
+group word name x = no_role word ∷ named name (perhaps x ∷ [])
 
--- p is a list of strings with this role, in braces
-abbrev pub Members : ℕ → Expected → Type 0
-Members role p = rules p ≡ braced (string_list (role_of_number role))
+-- x is a list of strings with this role, in braces
+abbrev pub Members : Role → Expected → Type 0
+Members role x = rules x ≡ braced (string_list role)
 
--- what the whole file comes to, where the parser ends
-abbrev pub ended : List ℕ → Cursor → Parsed
-ended roles (cursor.At p) = parsed (map role_of_number roles)
-ended roles (cursor.Stopped i) = stopped_at i
+-- what reading answers: each token's role, or where it stops
+abbrev pub answered : List Token → Result Unit ℕ → Parsed
+answered ts (Ok u) = parsed (roles_of ts)
+answered ts (Err i) = stopped_at i
 
--- what reading answers
-abbrev pub answered : List ℕ → ParseEnd → Parsed
-answered roles outcome.File = parsed (map role_of_number roles)
-answered roles (outcome.Stopped i) = stopped_at i
+-- items were read from p₀ on, and more may follow at p
+pub record Items (p₀ p : Parser) : Type 0 where
+  pub same : parse_on p₀.tokens.now p₀.at (often item ∷ []) ≡ parse_on p.tokens.now p.at (often item ∷ [])
+  pub others : kept p.tokens.now ≡ kept p₀.tokens.now
+  pub lent : p.tokens.ghost_name ≡ p₀.tokens.ghost_name
 
--- The first n kinds were read: their roles stand in the first n roles, or reading stops at a token, and these are scratch. The other
--- roles stay.
-pub record Answers (kinds : List ℕ) (n : ℕ) (roles roles' : List ℕ) (r : ParseEnd) : Type 0 where
-  pub answer : parse (take n kinds) ≡ answered (take n roles') r
-  pub scratch : Scratch (take n roles) (take n roles')
-  pub rest : drop n roles' ≡ drop n roles
+-- all that is left was read
+pub record Ends (p p' : Parser) (r : Result Unit ℕ) : Type 0 where
+  pub answer : parse_on p.tokens.now p.at start ≡ answered p'.tokens.now r
+  pub others : kept p'.tokens.now ≡ kept p.tokens.now
+  pub lent : p'.tokens.ghost_name ≡ p.tokens.ghost_name
+
+-- The tokens ts were read: their roles stand in ts', or reading stops at a token, and the roles are scratch. All else is as it was.
+pub record Answers (ts ts' : List Token) (r : Result Unit ℕ) : Type 0 where
+  pub answer : parse (kinds_of ts) ≡ answered ts' r
+  pub others : kept ts' ≡ kept ts

@@ -1,131 +1,107 @@
-// The items of a file by 001's grammar, over the kinds of its tokens: the role of each token, or where reading stops.
-// The inner functions ask that there are as many roles as kinds, since `read` cuts both slices to n.
+// The items of a file by 001's grammar, over its tokens: the role of each token, or where reading stops.
 #![tactic(auto)]
 
-ghost use Rattle.std.specs.Prelude.{◌≡◌, [], ◌∷◌, ◌≤◌, ◌<◌, length};
+ghost use Rattle.std.specs.Prelude.{[], ◌∷◌};
 ghost use Rattle.spec_token.specs.declared.Kind.TheVariants as kind;
 ghost use Rattle.spec_grammar.specs.declared.Role.TheVariants as role;
 ghost use Rattle.spec_grammar.specs.Reader.{Expected, once, perhaps, often, no_role, string, named, headed, block, top, asg_block, asg_item, item};
-ghost use Rattle.load_elements.specs.Parse.{parse};
 ghost use Rattle.load_elements.specs.Reads.{Reads};
 ghost use Rattle.load_strings.specs.Enclosed.{in_braces};
-ghost use Rattle.load_parse.specs.Reads.{group, Members, ended, Answers};
+ghost use Rattle.load_parse.specs.Reads.{group, Members, Ends, Answers};
 
 use load_blocks::top_block;
-use load_elements::{Cursor, expect, head, kind_at};
+use load_elements::Parser;
 use load_rules::rule;
 use load_strings::{named, strings_in};
-use load_tokens::{
-    ASG, ASG_NAME, CLOSE_BRACE, END, HAG, HAG_NAME, HOST, INP, INPUT, NO_ROLE, OPEN_BRACE, PVNAME,
-    STRING, UAG, UAG_NAME, UNKNOWN_ITEM, USER,
-};
-
-// Every token was read and has its role, or reading stops at a token, by its index.
-#[derive(Clone, Copy)]
-pub enum ParseEnd {
-    File,
-    Stopped(usize),
-}
+use load_tokens::Token;
+use spec_grammar::Role;
+use spec_token::Kind;
 
 // A user or host access group: its word, the role of its name, and the role of its members.
-fn group(kinds: &[u8], roles: &mut [u8], s: Cursor, word: u8, name: u8, member: u8) -> Cursor
-    requires { (length roles.old ≡ length kinds.now) × (word < 14) }
-    ensures { (p : Expected) → Members member p → Reads 1 (group word name p) kinds.now roles.old s roles.new result }
+fn group(p: &mut Parser<'_>, word: Kind, name: Role, member: Role) -> Result<(), usize>
+    ensures { (x : Expected) → Members member x → Reads 1 (group word name x) p.old p.new result }
 {
-    let at = named(kinds, roles, s, word, NO_ROLE, name);
-    if kind_at(kinds, at) != OPEN_BRACE {
-        return at;
+    named(p, word, Role::NoRole, name)?;
+    if !p.next_is(Kind::OpenBrace) {
+        return Ok(());
     }
-    strings_in(kinds, roles, at, OPEN_BRACE, CLOSE_BRACE, member)
+    strings_in(p, Kind::OpenBrace, Kind::CloseBrace, member)
 }
 
 // asg_body_item
-fn asg_item(kinds: &[u8], roles: &mut [u8], s: Cursor) -> Cursor
-    requires { length roles.old ≡ length kinds.now }
-    ensures { Reads 1 (once asg_item ∷ []) kinds.now roles.old s roles.new result }
+fn asg_item(p: &mut Parser<'_>) -> Result<(), usize>
+    ensures { Reads 1 (once asg_item ∷ []) p.old p.new result }
 {
-    if kind_at(kinds, s) == INP {
-        return named(kinds, roles, s, INP, INPUT, PVNAME);
+    if p.next_is(Kind::Inp) {
+        return named(p, Kind::Inp, Role::Input, Role::Pvname);
     }
-    rule(kinds, roles, s)
+    rule(p)
 }
 
 // asg_body
-fn asg_block(kinds: &[u8], roles: &mut [u8], s: Cursor) -> Cursor
-    requires { length roles.old ≡ length kinds.now }
-    ensures { Reads 1 (in_braces (λ k. once asg_item ∷ often asg_item ∷ k))
-        kinds.now roles.old s roles.new result }
+fn asg_block(p: &mut Parser<'_>) -> Result<(), usize>
+    ensures { Reads 1 (in_braces (λ k. once asg_item ∷ often asg_item ∷ k)) p.old p.new result }
 {
-    let inside = expect(kinds, roles, s, OPEN_BRACE, NO_ROLE);
-    let mut at = asg_item(kinds, roles, inside);
-    while kind_at(kinds, at) < CLOSE_BRACE {
-        at = asg_item(kinds, roles, at);
+    p.expect(Kind::OpenBrace, Role::NoRole)?;
+    asg_item(p)?;
+    // Stays: no plainer as a `for`, since each turn reads as many tokens as the grammar says and may stop.
+    while !p.next_is(Kind::CloseBrace) {
+        asg_item(p)?;
     }
-    expect(kinds, roles, at, CLOSE_BRACE, NO_ROLE)
+    p.expect(Kind::CloseBrace, Role::NoRole)
 }
 
 // An access security group.
-fn asg(kinds: &[u8], roles: &mut [u8], s: Cursor) -> Cursor
-    requires { length roles.old ≡ length kinds.now }
-    ensures { Reads 1 (no_role kind.Asg ∷ named role.AsgName (perhaps asg_block ∷ []))
-        kinds.now roles.old s roles.new result }
+fn asg(p: &mut Parser<'_>) -> Result<(), usize>
+    ensures { Reads 1 (no_role kind.Asg ∷ named role.AsgName (perhaps asg_block ∷ [])) p.old p.new result }
 {
-    let at = named(kinds, roles, s, ASG, NO_ROLE, ASG_NAME);
-    if kind_at(kinds, at) != OPEN_BRACE {
-        return at;
+    named(p, Kind::Asg, Role::NoRole, Role::AsgName)?;
+    if !p.next_is(Kind::OpenBrace) {
+        return Ok(());
     }
-    asg_block(kinds, roles, at)
+    asg_block(p)
 }
 
 // An unknown item.
-fn unknown_item(kinds: &[u8], roles: &mut [u8], s: Cursor) -> Cursor
-    requires { length roles.old ≡ length kinds.now }
-    ensures { Reads 1 (string role.UnknownItem ∷ headed (perhaps (block top) ∷ []))
-        kinds.now roles.old s roles.new result }
+fn unknown_item(p: &mut Parser<'_>) -> Result<(), usize>
+    ensures { Reads 1 (string role.UnknownItem ∷ headed (perhaps (block top) ∷ [])) p.old p.new result }
 {
-    let word = expect(kinds, roles, s, STRING, UNKNOWN_ITEM);
-    let at = head(kinds, roles, word);
-    top_block(kinds, roles, at)
+    p.expect(Kind::String, Role::UnknownItem)?;
+    p.head()?;
+    top_block(p)
 }
 
 // asconfig_item
-fn item(kinds: &[u8], roles: &mut [u8], s: Cursor) -> Cursor
-    requires { length roles.old ≡ length kinds.now }
-    ensures { Reads 1 (once item ∷ []) kinds.now roles.old s roles.new result }
+fn item(p: &mut Parser<'_>) -> Result<(), usize>
+    ensures { Reads 1 (once item ∷ []) p.old p.new result }
 {
-    let kind = kind_at(kinds, s);
-    if kind == UAG {
-        return group(kinds, roles, s, UAG, UAG_NAME, USER);
+    let Some(kind) = p.kind() else {
+        return Err(p.at);
+    };
+    match kind {
+        Kind::Uag => group(p, Kind::Uag, Role::UagName, Role::User),
+        Kind::Hag => group(p, Kind::Hag, Role::HagName, Role::Host),
+        Kind::Asg => asg(p),
+        _ => unknown_item(p),
     }
-    if kind == HAG {
-        return group(kinds, roles, s, HAG, HAG_NAME, HOST);
-    }
-    if kind == ASG {
-        return asg(kinds, roles, s);
-    }
-    unknown_item(kinds, roles, s)
 }
 
 // All of a file's tokens.
-fn file(kinds: &[u8], roles: &mut [u8]) -> Cursor
-    requires { length roles.old ≡ length kinds.now }
-    ensures { parse kinds.now ≡ ended roles.new result }
+fn file(p: &mut Parser<'_>) -> Result<(), usize>
+    ensures { Ends p.old p.new result }
 {
-    let mut at = item(kinds, roles, Cursor::At(0));
-    while kind_at(kinds, at) < END {
-        at = item(kinds, roles, at);
+    item(p)?;
+    // Stays: no plainer as a `for`, since each turn reads as many tokens as the grammar says and may stop.
+    while p.kind().is_some() {
+        item(p)?;
     }
-    at
+    Ok(())
 }
 
-// What each of the first n tokens says, or where reading stops.
-// The caller, load_syntax, has both arrays as long as the text, and no text has more tokens than bytes.
-pub fn read(kinds: &[u8], n: usize, roles: &mut [u8]) -> ParseEnd
-    requires { (n ≤ length kinds.now) × (n ≤ length roles.old) }
-    ensures { Answers kinds.now n roles.old roles.new result }
+// What each of a file's tokens says, or the index of the token at which reading stops; that is their number if they end too soon.
+pub fn read(tokens: &mut [Token]) -> Result<(), usize>
+    ensures { Answers tokens.old tokens.new result }
 {
-    match file(&kinds[..n], &mut roles[..n]) {
-        Cursor::At(_) => ParseEnd::File,
-        Cursor::Stopped(i) => ParseEnd::Stopped(i),
-    }
+    let mut parser = Parser { tokens, at: 0 };
+    file(&mut parser)
 }

@@ -1,3 +1,4 @@
+pub mod Source
 pub mod Pass
 pub mod Passed
 pub mod laws

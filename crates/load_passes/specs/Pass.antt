@@ -6,7 +6,7 @@ use Rattle.spec_grammar.specs.Sentence.{Tagged}
 use Rattle.spec_file.specs.Contents.{has_role}
 use Rattle.load_flags.specs.Tokens.{cut}
 use Rattle.load_records.specs.declared.Cursor.{Cursor}
-use Rattle.load_records.specs.declared.Work.{Work}
+use Rattle.load_records.specs.Work.{Work}
 use Rattle.load_records.specs.Record.{emit, move}
 
 -- ---- each token that says q

@@ -1,3 +1,4 @@
 pub mod Each
 pub mod Bounds
 pub mod Loops
+pub mod Passes

@@ -1,12 +1,10 @@
 -- What a byte inside quotes does, and what reading a quoted text gives.
-use Rattle.std.specs.Prelude.{◌≡◌, Bool, true, false, cond, List, ℕ, ◌+◌, ◌-◌, ◌≤◌, ◌<◌, length, take, drop}
+use Rattle.std.specs.Prelude.{◌≡◌, Bool, true, false, cond, List, ℕ, ◌+◌, ◌-◌, ◌≤◌, ◌<◌, length, take, drop, Result, Ok, Err}
 use Rattle.spec_lists.specs.Text.{among}
 use Rattle.spec_token.specs.Word.{newline}
-use Rattle.spec_token.specs.Scanner.{closed, broken, unclosed, quoted}
+use Rattle.spec_token.specs.Scanner.{Quoted, closed, broken, unclosed, quoted}
 use Rattle.load_quote.specs.declared.Act.{Act}
 use Rattle.load_quote.specs.declared.Act.TheVariants.{On, Close, Break}
-use Rattle.load_quote.specs.declared.Quote.{Quote}
-use Rattle.load_quote.specs.declared.Quote.TheVariants as quote
 
 -- of a byte that stands behind a backslash or not
 abbrev pub act : Bool → ℕ → Act
@@ -19,8 +17,13 @@ pub record ClosedAt (s : List ℕ) (from e : ℕ) : Type 0 where
   pub high : e < length s
   pub text : quoted false from (drop from s) ≡ closed (take (e - from) (drop from s)) (drop (e + 1) s)
 
--- what was found of a quoted text that starts at a place
-abbrev pub QuoteRead : List ℕ → ℕ → Quote → Type 0
-QuoteRead s from (quote.Closed e) = ClosedAt s from e
-QuoteRead s from (quote.Broken e) = quoted false from (drop from s) ≡ broken e
-QuoteRead s from quote.Unclosed = quoted false from (drop from s) ≡ unclosed
+-- the place of the bad byte, if the quote stands at q
+abbrev pub NoEnd : Quoted → ℕ → ℕ → Type 0
+NoEnd (closed t r) q p = ⊥
+NoEnd (broken b) q p = p ≡ b
+NoEnd unclosed q p = p ≡ q
+
+-- what was found of a quoted text whose quote stands at q
+abbrev pub QuoteRead : List ℕ → ℕ → Result ℕ ℕ → Type 0
+QuoteRead s q (Ok e) = ClosedAt s (q + 1) e
+QuoteRead s q (Err p) = NoEnd (quoted false (q + 1) (drop (q + 1) s)) q p

@@ -1,12 +1,12 @@
 // Where a quoted text ends.
 #![tactic(auto)]
 
-ghost use Rattle.std.specs.Prelude.{◌≡◌, ◌≤◌, length};
+ghost use Rattle.std.specs.Prelude.{◌≡◌, ◌<◌, length};
 ghost use Rattle.load_quote.specs.Quote.{act, QuoteRead};
 
 // What a byte inside quotes does: the text goes on, behind a backslash or not; the quote closes; a bare newline breaks it.
 #[derive(Clone, Copy)]
-pub enum Act {
+enum Act {
     On(bool),
     Close,
     Break,
@@ -26,30 +26,19 @@ fn quote_act(escaped: bool, b: u8) -> Act
     }
 }
 
-// Where a quoted text ends; where a bare newline breaks it; or that it has no end.
-#[derive(Clone, Copy)]
-pub enum Quote {
-    Closed(usize),
-    Broken(usize),
-    Unclosed,
-}
-
-// The end of a quoted text that starts at a place. The caller, load_scan, has read the quote before it.
-pub fn quote_end(s: &[u8], from: usize) -> Quote
-    requires { from ≤ length s.now }
-    ensures { QuoteRead s.now from result }
+// The end of a quoted text whose opening quote stands at a place. Err is the place of the bad byte: a bare newline, or that quote if nothing
+// closes it. The caller, load_scan, stands at the quote.
+pub fn quote_end(s: &[u8], quote: usize) -> Result<usize, usize>
+    requires { quote < length s.now }
+    ensures { QuoteRead s.now quote result }
 {
-    let mut i = from;
     let mut escaped = false;
-    while i < s.len() {
+    for i in quote + 1..s.len() {
         match quote_act(escaped, s[i]) {
-            Act::Close => return Quote::Closed(i),
-            Act::Break => return Quote::Broken(i),
-            Act::On(e) => {
-                escaped = e;
-            }
+            Act::Close => return Ok(i),
+            Act::Break => return Err(i),
+            Act::On(behind) => escaped = behind,
         }
-        i += 1;
     }
-    Quote::Unclosed
+    Err(quote)
 }

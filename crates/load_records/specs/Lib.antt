@@ -1,3 +1,4 @@
+pub mod Work
 pub mod Cursor
 pub mod Record
 pub mod Step

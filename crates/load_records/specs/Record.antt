@@ -10,8 +10,8 @@ use Rattle.spec_file.specs.Contents.{text, texts, until, head_of, rule_text}
 use Rattle.spec_table.specs.Written.{flags, calculation_words}
 use Rattle.load_flags.specs.Tokens.{cut, first_text, numbered, size}
 use Rattle.load_records.specs.declared.Cursor.{Cursor}
-use Rattle.load_records.specs.declared.Work.{Work}
-use Rattle.load_records.specs.declared.Work.TheVariants.{Groups, Names, Access, Inputs, Rules, References, Texts, Lowered, Firsts}
+use Rattle.load_records.specs.Work.{Work}
+use Rattle.load_records.specs.Work.{Groups, Names, Access, Inputs, Rules, References, Texts, Lowered, Firsts}
 use Rattle.load_records.specs.Cursor.{cursor}
 
 -- q: the role of the tokens; m: the role of what belongs to each; names: those that references are numbered by

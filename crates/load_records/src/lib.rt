@@ -1,28 +1,20 @@
 // The record or string of the table that is written for one token.
 #![tactic(auto)]
 
-ghost use Rattle.std.specs.Prelude.{cond, map, [], ◌≡◌, ◌<◌, length};
-ghost use Rattle.load_spans.specs.Spans.{SpanFits, ListedSpansFit};
+ghost use Rattle.std.specs.Prelude.{List, [], map, ◌≡◌, ◌+◌, ◌-◌, ◌<◌, ◌≤◌, ℕ, length};
+ghost use Rattle.spec_grammar.specs.Codes.{role_number};
+ghost use Rattle.spec_grammar.specs.declared.Role.{Role};
+ghost use Rattle.spec_grammar.specs.declared.Role.TheVariants.{Calculation, Pvname};
+ghost use Rattle.load_tokens.specs.Views.{roles};
+ghost use Rattle.load_spans.specs.Spans.{AmongTokens};
+ghost use Rattle.load_spans.specs.Roles.{gap, tally};
 ghost use Rattle.byte_write.specs.Put.{cased};
 ghost use Rattle.load_records.specs.Cursor.{Bounded, cursor_limit};
-ghost use Rattle.load_records.specs.Step.{Ready, Step, StringPut, NamePut, ReferencePut};
-ghost use Rattle.load_records.specs.declared.Work.TheVariants.{Groups, Access, Inputs, Rules, Firsts};
+ghost use Rattle.load_records.specs.Work.{Work, Groups, Names, Access, Inputs, Rules, References, Texts, Lowered, Firsts};
+ghost use Rattle.load_records.specs.Step.{Ready, Step, StringPut};
 
-use load_tokens::{ASG_NAME, HAG_NAMED, INPUT, RULE_WORD, UAG_NAMED};
-
-// What is written for each token of a role: a record of a section, or a string.
-#[derive(Clone, Copy)]
-pub enum Work {
-    Groups,
-    Names,
-    Access,
-    Inputs,
-    Rules,
-    References,
-    Texts,
-    Lowered,
-    Firsts,
-}
+use load_spans::Tokens;
+use spec_grammar::Role;
 
 // The next byte's place, the next string's offset, and the numbers of the next records that a run begins with.
 #[derive(Clone, Copy)]
@@ -33,230 +25,333 @@ pub struct Cursor {
     pub second: usize,
 }
 
-fn or_none(b: bool, n: usize) -> usize
-    ensures { result ≡ cond b n 0 }
-{
-    if b { n } else { 0 }
+// What is written for each token of a role: a record of a section, or a string.
+pub trait Entry {
+    ghost work: { Work };
+
+    // The role of what belongs to a token of a role, and the tokens by whose texts references are numbered.
+    ghost part: { Self → Role → Role };
+
+    ghost names: { Self → List ℕ };
+
+    // Writes for the i-th token, of that role, in the part that ends at to, and returns the cursor behind. Inner: load_passes::pass calls it,
+    // with the tokens of a part and a cursor that it keeps bounded (load_passes/specs/laws/Loops.antt).
+    fn put(
+        &self,
+        tokens: &Tokens,
+        i: usize,
+        to: usize,
+        role: Role,
+        p: Cursor,
+        lent: &mut [u8],
+    ) -> Cursor
+        requires ready { Ready tokens.now i to role (part self.now role) p }
+        requires listed { AmongTokens (names self.now) (length tokens.now.list.now) }
+        ensures { Step work role (part self.now role) (names self.now) tokens.now i to lent.old lent.new p result };
 }
 
-// Each function writes for the i-th token at the cursor p and returns the cursor behind. The caller, load_passes::put, has the
-// token in a part whose texts lie in s, and a cursor that a pass keeps bounded (load_passes/specs/laws/Loops.antt).
-
-// A group's name and the run of its members, which end where the next group begins. Inner: load_passes::put calls it.
-pub fn put_group(
-    s: &[u8],
-    starts: &[u16],
-    ends: &[u16],
-    roles: &[u8],
-    i: usize,
-    to: usize,
-    q: u8,
-    m: u8,
-    p: Cursor,
-    lent: &mut [u8],
-) -> Cursor
-    requires { Ready s.now starts.now ends.now roles.now i to q m p }
-    ensures { Step Groups q m [] s.now starts.now ends.now roles.now i to lent.old lent.new p result }
+// Where what belongs to the i-th token ends: at the next token of one of two roles, or with the part.
+fn end_of(tokens: &Tokens, i: usize, to: usize, a: Role, b: Role) -> usize
+    requires { (i < to) × (to ≤ length tokens.now.list.now) }
+    ensures within { result ≤ to }
+    ensures end { result ≡ i + 1 + gap (role_number a) (role_number b) (roles tokens.now.list.now) (i + 1) (to - (i + 1)) }
 {
-    let len = load_spans::long(s, starts, ends, i);
-    let e = load_flags::next(roles, i + 1, to, q, q);
-    let k = load_flags::count(roles, i + 1, e, m);
-    let half = byte_write::put_two(lent, p.at, p.string, len);
-    let end = byte_write::put_two(lent, half, p.first, k);
-    Cursor {
-        at: end,
-        string: p.string + len,
-        first: p.first + k,
-        second: p.second,
+    load_flags::next(tokens, i + 1, to, a, b)
+}
+
+// How many of those that belong to it have a role, a number which no cursor is too great to be added to.
+fn count(tokens: &Tokens, from: usize, e: usize, role: Role) -> usize
+    requires { e ≤ length tokens.now.list.now }
+    ensures few { result ≤ 16384 }
+    ensures exact { result ≡ tally (role_number role) (roles tokens.now.list.now) from (e - from) }
+{
+    load_flags::count(tokens, from, e, role)
+}
+
+// A group's name and the run of its members, which end where the next group begins.
+#[derive(Clone, Copy)]
+pub struct Group {
+    pub member: Role,
+}
+
+impl Entry for Group {
+    ghost work = { Groups };
+
+    ghost part = { λ e _. e.member };
+
+    ghost names = { λ _. [] };
+
+    fn put(
+        &self,
+        tokens: &Tokens,
+        i: usize,
+        to: usize,
+        role: Role,
+        p: Cursor,
+        lent: &mut [u8],
+    ) -> Cursor {
+        let len = tokens.long(i);
+        let e = end_of(tokens, i, to, role, role);
+        let k = count(tokens, i + 1, e, self.member);
+        let at = byte_write::put_words(lent, p.at, &[p.string, len, p.first, k]);
+        Cursor {
+            at,
+            string: p.string + len,
+            first: p.first + k,
+            ..p
+        }
     }
 }
 
-// A member's name. Inner: load_passes::put calls it, with a token whose text lies in s.
-pub fn put_name(
-    s: &[u8],
-    starts: &[u16],
-    ends: &[u16],
-    i: usize,
-    p: Cursor,
-    lent: &mut [u8],
-) -> Cursor
-    requires { SpanFits s.now starts.now ends.now i × Bounded cursor_limit p × (length s.now < cursor_limit) }
-    ensures { NamePut s.now starts.now ends.now i lent.old lent.new p result }
-{
-    let len = load_spans::long(s, starts, ends, i);
-    let end = byte_write::put_two(lent, p.at, p.string, len);
-    Cursor {
-        at: end,
-        string: p.string + len,
-        first: p.first,
-        second: p.second,
+// A member's name.
+#[derive(Clone, Copy)]
+pub struct Name;
+
+impl Entry for Name {
+    ghost work = { Names };
+
+    ghost part = { λ _ role. role };
+
+    ghost names = { λ _. [] };
+
+    fn put(
+        &self,
+        tokens: &Tokens,
+        i: usize,
+        _to: usize,
+        _role: Role,
+        p: Cursor,
+        lent: &mut [u8],
+    ) -> Cursor {
+        let len = tokens.long(i);
+        let at = byte_write::put_words(lent, p.at, &[p.string, len]);
+        Cursor {
+            at,
+            string: p.string + len,
+            ..p
+        }
     }
 }
 
-// An access group's name and its runs of inputs and rules. Inner: load_passes::put calls it.
-pub fn put_access(
-    s: &[u8],
-    starts: &[u16],
-    ends: &[u16],
-    roles: &[u8],
-    i: usize,
-    to: usize,
-    q: u8,
-    m: u8,
-    p: Cursor,
-    lent: &mut [u8],
-) -> Cursor
-    requires { Ready s.now starts.now ends.now roles.now i to q m p }
-    ensures { Step Access q m [] s.now starts.now ends.now roles.now i to lent.old lent.new p result }
-{
-    let len = load_spans::long(s, starts, ends, i);
-    let e = load_flags::next(roles, i + 1, to, q, q);
-    let inputs = load_flags::count(roles, i + 1, e, INPUT);
-    let rules = load_flags::count(roles, i + 1, e, RULE_WORD);
-    let one = byte_write::put_two(lent, p.at, p.string, len);
-    let two = byte_write::put_two(lent, one, p.first, inputs);
-    let end = byte_write::put_two(lent, two, p.second, rules);
-    Cursor {
-        at: end,
-        string: p.string + len,
-        first: p.first + inputs,
-        second: p.second + rules,
+// An access group's name and its runs of inputs and rules.
+#[derive(Clone, Copy)]
+pub struct AccessGroup;
+
+impl Entry for AccessGroup {
+    ghost work = { Access };
+
+    ghost part = { λ _ role. role };
+
+    ghost names = { λ _. [] };
+
+    fn put(
+        &self,
+        tokens: &Tokens,
+        i: usize,
+        to: usize,
+        role: Role,
+        p: Cursor,
+        lent: &mut [u8],
+    ) -> Cursor {
+        let len = tokens.long(i);
+        let e = end_of(tokens, i, to, role, role);
+        let inputs = count(tokens, i + 1, e, Role::Input);
+        let rules = count(tokens, i + 1, e, Role::RuleWord);
+        let words = [p.string, len, p.first, inputs, p.second, rules];
+        let at = byte_write::put_words(lent, p.at, &words);
+        Cursor {
+            at,
+            string: p.string + len,
+            first: p.first + inputs,
+            second: p.second + rules,
+        }
     }
 }
 
-// An input's letter and the name behind it. Inner: load_passes::put calls it.
-pub fn put_input(
-    s: &[u8],
-    starts: &[u16],
-    ends: &[u16],
-    roles: &[u8],
-    i: usize,
-    to: usize,
-    q: u8,
-    m: u8,
-    p: Cursor,
-    lent: &mut [u8],
-) -> Cursor
-    requires { Ready s.now starts.now ends.now roles.now i to q m p }
-    ensures { Step Inputs q m [] s.now starts.now ends.now roles.now i to lent.old lent.new p result }
-{
-    let e = load_flags::next(roles, i + 1, to, q, ASG_NAME);
-    let t = load_flags::first_text(s, starts, ends, roles, i + 1, e, m);
-    let len = t.len();
-    let end = byte_write::put_three(
-        lent,
-        p.at,
-        load_spans::letter(s, starts, ends, i),
-        p.string,
-        len,
-    );
-    Cursor {
-        at: end,
-        string: p.string + len,
-        first: p.first,
-        second: p.second,
+// An input's letter and the name behind it.
+#[derive(Clone, Copy)]
+pub struct Input;
+
+impl Entry for Input {
+    ghost work = { Inputs };
+
+    ghost part = { λ _ _. Pvname };
+
+    ghost names = { λ _. [] };
+
+    fn put(
+        &self,
+        tokens: &Tokens,
+        i: usize,
+        to: usize,
+        role: Role,
+        p: Cursor,
+        lent: &mut [u8],
+    ) -> Cursor {
+        let e = end_of(tokens, i, to, role, Role::AsgName);
+        let len = load_flags::first_text(tokens, i + 1, e, Role::Pvname).len();
+        let at = byte_write::put_words(lent, p.at, &[tokens.letter(i), p.string, len]);
+        Cursor {
+            at,
+            string: p.string + len,
+            ..p
+        }
     }
 }
 
-// A rule's flags, its runs of references and its calculation. Inner: load_passes::put calls it.
-pub fn put_rule(
-    s: &[u8],
-    starts: &[u16],
-    ends: &[u16],
-    roles: &[u8],
-    i: usize,
-    to: usize,
-    q: u8,
-    m: u8,
-    p: Cursor,
-    lent: &mut [u8],
-) -> Cursor
-    requires { Ready s.now starts.now ends.now roles.now i to q m p }
-    ensures { Step Rules q m [] s.now starts.now ends.now roles.now i to lent.old lent.new p result }
-{
-    let e = load_flags::next(roles, i + 1, to, q, ASG_NAME);
-    let users = load_flags::count(roles, i + 1, e, UAG_NAMED);
-    let hosts = load_flags::count(roles, i + 1, e, HAG_NAMED);
-    let j = load_flags::next(roles, i + 1, e, m, m);
-    let t = load_flags::first_text(s, starts, ends, roles, i + 1, e, m);
-    let len = t.len();
-    let flags = load_flags::flags_of(s, starts, ends, roles, i + 1, e);
-    let one = byte_write::put_three(lent, p.at, flags, p.first, users);
-    let two = byte_write::put_two(lent, one, p.first + users, hosts);
-    let end = byte_write::put_two(lent, two, or_none(j < e, p.string), len);
-    Cursor {
-        at: end,
-        string: p.string + len,
-        first: p.first + users + hosts,
-        second: p.second,
+// A rule's flags, its runs of references and its calculation.
+#[derive(Clone, Copy)]
+pub struct Rule;
+
+impl Entry for Rule {
+    ghost work = { Rules };
+
+    ghost part = { λ _ _. Calculation };
+
+    ghost names = { λ _. [] };
+
+    fn put(
+        &self,
+        tokens: &Tokens,
+        i: usize,
+        to: usize,
+        role: Role,
+        p: Cursor,
+        lent: &mut [u8],
+    ) -> Cursor {
+        let e = end_of(tokens, i, to, role, Role::AsgName);
+        let users = count(tokens, i + 1, e, Role::UagNamed);
+        let hosts = count(tokens, i + 1, e, Role::HagNamed);
+        let j = load_flags::next(tokens, i + 1, e, Role::Calculation, Role::Calculation);
+        let len = load_flags::first_text(tokens, i + 1, e, Role::Calculation).len();
+        let flags = load_flags::flags_of(tokens, i + 1, e);
+        let behind = p.first + users;
+        let calculation = if j < e { p.string } else { 0 };
+        let words = [flags, p.first, users, behind, hosts, calculation, len];
+        let at = byte_write::put_words(lent, p.at, &words);
+        Cursor {
+            at,
+            string: p.string + len,
+            first: behind + hosts,
+            ..p
+        }
     }
 }
 
-// A reference's number and name. Inner: load_passes::put calls it, with the tokens that define groups.
-pub fn put_reference(
-    s: &[u8],
-    starts: &[u16],
-    ends: &[u16],
-    names: &[u16],
-    i: usize,
-    p: Cursor,
-    lent: &mut [u8],
-) -> Cursor
-    requires { SpanFits s.now starts.now ends.now i × ListedSpansFit s.now starts.now ends.now names.now × Bounded cursor_limit p ×
-        (length s.now < cursor_limit) }
-    ensures { ReferencePut s.now starts.now ends.now names.now i lent.old lent.new p result }
-{
-    let len = load_spans::long(s, starts, ends, i);
-    let end = byte_write::put_three(
-        lent,
-        p.at,
-        load_flags::number_of(s, starts, ends, names, i),
-        p.string,
-        len,
-    );
-    Cursor {
-        at: end,
-        string: p.string + len,
-        first: p.first,
-        second: p.second,
+// A reference's number, by some names, and its own name.
+#[derive(Clone, Copy)]
+pub struct Reference<'a> {
+    pub names: &'a [u16],
+}
+
+impl<'a> Entry for Reference<'a> {
+    ghost work = { References };
+
+    ghost part = { λ _ role. role };
+
+    ghost names = { λ e. e.names.now };
+
+    fn put(
+        &self,
+        tokens: &Tokens,
+        i: usize,
+        _to: usize,
+        _role: Role,
+        p: Cursor,
+        lent: &mut [u8],
+    ) -> Cursor {
+        let len = tokens.long(i);
+        let number = load_flags::number_of(tokens, self.names, i);
+        let at = byte_write::put_words(lent, p.at, &[number, p.string, len]);
+        Cursor {
+            at,
+            string: p.string + len,
+            ..p
+        }
     }
 }
 
-// A string, in lower case if asked. Inner: load_passes::put calls it with a token's text, and put_first.
-pub fn put_string(t: &[u8], low: bool, p: Cursor, lent: &mut [u8]) -> Cursor
+// A string, in lower case if asked.
+fn put_string(t: &[u8], low: bool, p: Cursor, lent: &mut [u8]) -> Cursor
     requires { Bounded cursor_limit p × (length t.now < cursor_limit) }
     ensures { StringPut (map (cased low) t.now) lent.old lent.new p result }
 {
-    let end = byte_write::put_text(lent, p.at, t, low);
-    Cursor {
-        at: end,
-        string: p.string,
-        first: p.first,
-        second: p.second,
+    let at = byte_write::put_text(lent, p.at, t, low);
+    Cursor { at, ..p }
+}
+
+// The token's text.
+#[derive(Clone, Copy)]
+pub struct Text;
+
+impl Entry for Text {
+    ghost work = { Texts };
+
+    ghost part = { λ _ role. role };
+
+    ghost names = { λ _. [] };
+
+    fn put(
+        &self,
+        tokens: &Tokens,
+        i: usize,
+        _to: usize,
+        _role: Role,
+        p: Cursor,
+        lent: &mut [u8],
+    ) -> Cursor {
+        put_string(tokens.text_of(i), false, p, lent)
     }
 }
 
-// The first text of a role that belongs to a token. Inner: load_passes::put calls it.
-pub fn put_first(
-    s: &[u8],
-    starts: &[u16],
-    ends: &[u16],
-    roles: &[u8],
-    i: usize,
-    to: usize,
-    q: u8,
-    m: u8,
-    p: Cursor,
-    lent: &mut [u8],
-) -> Cursor
-    requires { Ready s.now starts.now ends.now roles.now i to q m p }
-    ensures { Step Firsts q m [] s.now starts.now ends.now roles.now i to lent.old lent.new p result }
-{
-    let e = load_flags::next(roles, i + 1, to, q, ASG_NAME);
-    put_string(
-        load_flags::first_text(s, starts, ends, roles, i + 1, e, m),
-        false,
-        p,
-        lent,
-    )
+// Its text in lower case.
+#[derive(Clone, Copy)]
+pub struct LowerText;
+
+impl Entry for LowerText {
+    ghost work = { Lowered };
+
+    ghost part = { λ _ role. role };
+
+    ghost names = { λ _. [] };
+
+    fn put(
+        &self,
+        tokens: &Tokens,
+        i: usize,
+        _to: usize,
+        _role: Role,
+        p: Cursor,
+        lent: &mut [u8],
+    ) -> Cursor {
+        put_string(tokens.text_of(i), true, p, lent)
+    }
+}
+
+// The first text of a role that belongs to the token.
+#[derive(Clone, Copy)]
+pub struct FirstText {
+    pub of: Role,
+}
+
+impl Entry for FirstText {
+    ghost work = { Firsts };
+
+    ghost part = { λ e _. e.of };
+
+    ghost names = { λ _. [] };
+
+    fn put(
+        &self,
+        tokens: &Tokens,
+        i: usize,
+        to: usize,
+        role: Role,
+        p: Cursor,
+        lent: &mut [u8],
+    ) -> Cursor {
+        let e = end_of(tokens, i, to, role, Role::AsgName);
+        let text = load_flags::first_text(tokens, i + 1, e, self.of);
+        put_string(text, false, p, lent)
+    }
 }

@@ -1,91 +1,59 @@
 // Cause 7: a name or letter given again.
 #![tactic(auto)]
 
-ghost use Rattle.std.specs.Prelude.{◌≡◌, ◌≤◌, min, length};
-ghost use Rattle.load_tokens.specs.Arrays.{role_of_number};
-ghost use Rattle.load_tokens.specs.Scratch.{Scratch};
+ghost use Rattle.std.specs.Prelude.{◌≡◌, ◌≤◌, length};
+ghost use Rattle.spec_grammar.specs.Codes.{role_number};
 ghost use Rattle.spec_file.specs.Refusal.{given_again};
-ghost use Rattle.load_spans.specs.Roles.{RoleCode, SpansFit};
-ghost use Rattle.load_spans.specs.Search.{first_of};
+ghost use Rattle.load_tokens.specs.Scratch.{Scratch};
+ghost use Rattle.load_spans.specs.Roles.{RoleCode};
+ghost use Rattle.load_spans.specs.Search.{first_in};
 ghost use Rattle.load_repeats.specs.Repeated.{repeated, name_repeated};
 
-use load_tokens::{ASG_NAME, CALC_WORD, HAG_NAME, INPUT, RULE_WORD, UAG_NAME};
+use load_spans::{Tokens, earlier};
+use spec_grammar::Role;
 
-fn least(a: usize, b: usize) -> usize
-    ensures { result ≡ min a b }
-{
-    if a < b {
-        return a;
-    }
-    b
-}
-
-// The first token of the role q that has the text of one before it, or n. A token of the role stop, if that is another
-// role, ends the scope of those before it.
-fn repeated(
-    s: &[u8],
-    starts: &[u16],
-    ends: &[u16],
-    roles: &[u8],
-    n: usize,
-    q: u8,
-    stop: u8,
-    seen: &mut [u16],
-) -> usize
-    requires { SpansFit s.now starts.now ends.now roles.now n × RoleCode q × RoleCode stop × (n ≤ length seen.old) }
-    ensures { result ≡ first_of (repeated (role_of_number q) (role_of_number stop)) s.now starts.now ends.now roles.now n }
+// The first token of a role that has the text of one before it. A token of the role stop, if that is another role, ends the
+// scope of those before it.
+fn repeated(t: &Tokens<'_>, role: Role, stop: Role, seen: &mut [u16]) -> Option<usize>
+    requires room { length t.now.list.now ≤ length seen.old }
+    requires role_code { RoleCode (role_number role) × RoleCode (role_number stop) }
+    ensures { result ≡ first_in (repeated role stop) t.now.text.now t.now.list.now }
 {
     let mut k = 0;
-    let mut i = 0;
-    while i < n {
-        if roles[i] == q {
-            if load_spans::position(s, starts, ends, &seen[..k], i) < k {
-                return i;
+    for (i, token) in t.list.iter().enumerate() {
+        if token.role == role {
+            if t.position(&seen[..k], i).is_some() {
+                return Some(i);
             }
             seen[k] = i as u16;
             k += 1;
-        } else if roles[i] == stop {
+        } else if token.role == stop {
             k = 0;
         }
-        i += 1;
     }
-    i
+    None
 }
 
-// The first name of a group given again, or n.
-fn name_repeated(
-    s: &[u8],
-    starts: &[u16],
-    ends: &[u16],
-    roles: &[u8],
-    n: usize,
-    seen: &mut [u16],
-) -> usize
-    requires { SpansFit s.now starts.now ends.now roles.now n × (n ≤ length seen.old) }
-    ensures { result ≡ first_of name_repeated s.now starts.now ends.now roles.now n }
+// The first name of a group given again.
+fn name_repeated(t: &Tokens<'_>, seen: &mut [u16]) -> Option<usize>
+    requires { length t.now.list.now ≤ length seen.old }
+    ensures { result ≡ first_in name_repeated t.now.text.now t.now.list.now }
 {
-    let uag = repeated(s, starts, ends, roles, n, UAG_NAME, UAG_NAME, seen);
-    let hag = repeated(s, starts, ends, roles, n, HAG_NAME, HAG_NAME, seen);
-    let asg = repeated(s, starts, ends, roles, n, ASG_NAME, ASG_NAME, seen);
-    least(uag, least(hag, asg))
+    let uag = repeated(t, Role::UagName, Role::UagName, seen);
+    let hag = repeated(t, Role::HagName, Role::HagName, seen);
+    let asg = repeated(t, Role::AsgName, Role::AsgName, seen);
+    earlier(uag, earlier(hag, asg))
 }
 
-// The first name or letter given again, or n.
-// The caller, load_causes, has the tokens from load_syntax.
-pub fn given_again(
-    s: &[u8],
-    starts: &[u16],
-    ends: &[u16],
-    roles: &[u8],
-    n: usize,
-    seen: &mut [u16],
-) -> usize
-    requires { SpansFit s.now starts.now ends.now roles.now n × (n ≤ length seen.old) }
-    ensures value { result ≡ first_of given_again s.now starts.now ends.now roles.now n }
+// The first name or letter given again.
+// The caller, load_causes, lends an array with an entry for each byte of the text to work in.
+pub fn given_again(t: &Tokens<'_>, seen: &mut [u16]) -> Option<usize>
+    requires { length t.now.list.now ≤ length seen.old }
+    ensures value { result ≡ first_in given_again t.now.text.now t.now.list.now }
     ensures scratch { Scratch seen.old seen.new }
 {
-    let name = name_repeated(s, starts, ends, roles, n, seen);
-    let letter = repeated(s, starts, ends, roles, n, INPUT, ASG_NAME, seen);
-    let calc = repeated(s, starts, ends, roles, n, CALC_WORD, RULE_WORD, seen);
-    least(name, least(letter, calc))
+    let name = name_repeated(t, seen);
+    let letter = repeated(t, Role::Input, Role::AsgName, seen);
+    let calc = repeated(t, Role::CalcWord, Role::RuleWord, seen);
+    earlier(name, earlier(letter, calc))
 }

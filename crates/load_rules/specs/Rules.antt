@@ -1,14 +1,9 @@
--- What the functions say that read a rule, and the shapes that a rule shares with the items of a file.
-use Rattle.std.specs.Prelude.{cond, [], ◌∷◌, ℕ}
+-- The shapes that the functions read that read a rule.
+use Rattle.std.specs.Prelude.{[], ◌∷◌}
 use Rattle.spec_token.specs.declared.Kind.TheVariants as kind
 use Rattle.spec_grammar.specs.declared.Role.TheVariants as role
 use Rattle.spec_grammar.specs.Production.{◌tagged◌}
 use Rattle.spec_grammar.specs.Reader.{Stack, once, token, no_role, string, log_option}
-use Rattle.load_tokens.specs.Names.{is_name}
-
--- the kind that a name must have, where x stands
-abbrev pub name_or_string : ℕ → ℕ
-name_or_string x = cond (is_name x) x 8
 
 -- what follows the level in a rule_head
 abbrev pub permission : Stack

@@ -1,128 +1,103 @@
 // A rule of an access security group.
-// Each function asks that there are as many roles as kinds: load_parse::read cuts both slices to one length, and its callees hand them on.
-// A kind that is expected is a constant, or one that was seen.
 #![tactic(auto)]
 
-ghost use Rattle.std.specs.Prelude.{◌≡◌, [], ◌∷◌, ◌++◌, ◌<◌, length};
+ghost use Rattle.std.specs.Prelude.{[], ◌∷◌, ◌++◌};
 ghost use Rattle.spec_grammar.specs.declared.Role.TheVariants as role;
-ghost use Rattle.spec_grammar.specs.Codes.{role_number};
-ghost use Rattle.spec_grammar.specs.Reader.{once, perhaps, often, string_list, headed, block, inner, log_option, rule_item, rule_block};
-ghost use Rattle.load_tokens.specs.Arrays.{role_of_number};
+ghost use Rattle.spec_grammar.specs.Reader.{once, perhaps, often, string_list, no_role, headed, block, inner, log_option, rule_item, rule_block};
 ghost use Rattle.load_elements.specs.Reads.{expected, Reads};
 ghost use Rattle.load_strings.specs.Enclosed.{in_braces, in_parens};
-ghost use Rattle.load_rules.specs.Rules.{name_or_string, permission, rule_head};
+ghost use Rattle.load_rules.specs.Rules.{permission, rule_head};
 
 use load_blocks::block;
-use load_elements::{Cursor, expect, head, kind_at};
+use load_elements::Parser;
 use load_strings::{named, strings_in};
-use load_tokens::{
-    CALC, CALC_WORD, CALCULATION, CLOSE_BRACE, CLOSE_PAREN, COMMA, HAG, HAG_NAMED, INT, LEVEL,
-    LOG_OPTION, NO_ROLE, OPEN_BRACE, OPEN_PAREN, PERMISSION, RULE, RULE_WORD, STRING, UAG,
-    UAG_NAMED, UNKNOWN_PREDICATE, is_name,
-};
+use spec_grammar::Role;
+use spec_token::Kind;
 
 // The end of a rule_head, with or without rule_log_option.
-fn log_option(kinds: &[u8], roles: &mut [u8], s: Cursor) -> Cursor
-    requires { length roles.old ≡ length kinds.now }
-    ensures { Reads 1 (once log_option ∷ []) kinds.now roles.old s roles.new result }
+fn log_option(p: &mut Parser<'_>) -> Result<(), usize>
+    ensures { Reads 1 (once log_option ∷ []) p.old p.new result }
 {
-    if kind_at(kinds, s) == COMMA {
-        let comma = expect(kinds, roles, s, COMMA, NO_ROLE);
-        let at = expect(kinds, roles, comma, STRING, LOG_OPTION);
-        return expect(kinds, roles, at, CLOSE_PAREN, NO_ROLE);
+    if !p.next_is(Kind::Comma) {
+        return p.expect(Kind::CloseParen, Role::NoRole);
     }
-    expect(kinds, roles, s, CLOSE_PAREN, NO_ROLE)
+    p.expect(Kind::Comma, Role::NoRole)?;
+    p.expect(Kind::String, Role::LogOption)?;
+    p.expect(Kind::CloseParen, Role::NoRole)
 }
 
 // What follows the level in a rule_head.
-fn permission(kinds: &[u8], roles: &mut [u8], s: Cursor) -> Cursor
-    requires { length roles.old ≡ length kinds.now }
-    ensures { Reads 1 permission kinds.now roles.old s roles.new result }
+fn permission(p: &mut Parser<'_>) -> Result<(), usize>
+    ensures { Reads 1 permission p.old p.new result }
 {
-    let comma = expect(kinds, roles, s, COMMA, NO_ROLE);
-    let at = expect(kinds, roles, comma, STRING, PERMISSION);
-    log_option(kinds, roles, at)
+    p.expect(Kind::Comma, Role::NoRole)?;
+    p.expect(Kind::String, Role::Permission)?;
+    log_option(p)
 }
 
 // RULE and rule_head.
-fn rule_head(kinds: &[u8], roles: &mut [u8], s: Cursor) -> Cursor
-    requires { length roles.old ≡ length kinds.now }
-    ensures { Reads 1 rule_head kinds.now roles.old s roles.new result }
+fn rule_head(p: &mut Parser<'_>) -> Result<(), usize>
+    ensures { Reads 1 rule_head p.old p.new result }
 {
-    let word = expect(kinds, roles, s, RULE, RULE_WORD);
-    let open = expect(kinds, roles, word, OPEN_PAREN, NO_ROLE);
-    let level = expect(kinds, roles, open, INT, LEVEL);
-    permission(kinds, roles, level)
+    p.expect(Kind::Rule, Role::RuleWord)?;
+    p.expect(Kind::OpenParen, Role::NoRole)?;
+    p.expect(Kind::Int, Role::Level)?;
+    permission(p)
 }
 
 // UAG or HAG, and the groups that it names.
-fn groups(kinds: &[u8], roles: &mut [u8], s: Cursor, word: u8, role: u8) -> Cursor
-    requires { (length roles.old ≡ length kinds.now) × (word < 14) }
-    ensures { Reads 1 (expected word 0 ∷ in_parens (string_list (role_of_number role)))
-        kinds.now roles.old s roles.new result }
+fn groups(p: &mut Parser<'_>, word: Kind, role: Role) -> Result<(), usize>
+    ensures { Reads 1 (no_role word ∷ in_parens (string_list role)) p.old p.new result }
 {
-    let at = expect(kinds, roles, s, word, NO_ROLE);
-    strings_in(kinds, roles, at, OPEN_PAREN, CLOSE_PAREN, role)
-}
-
-// The token that a name must be.
-fn name_or_string(kind: u8) -> u8
-    ensures { result ≡ name_or_string kind }
-{
-    if is_name(kind) { kind } else { STRING }
+    p.expect(word, Role::NoRole)?;
+    strings_in(p, Kind::OpenParen, Kind::CloseParen, role)
 }
 
 // An unknown predicate with this name.
-fn predicate(kinds: &[u8], roles: &mut [u8], s: Cursor, word: u8) -> Cursor
-    requires { (length roles.old ≡ length kinds.now) × (word < 14) }
-    ensures { Reads 1 (expected word (role_number role.UnknownPredicate) ∷ headed (perhaps (block inner) ∷ []))
-        kinds.now roles.old s roles.new result }
+fn predicate(p: &mut Parser<'_>, name: Kind) -> Result<(), usize>
+    ensures { Reads 1 (expected name role.UnknownPredicate ∷ headed (perhaps (block inner) ∷ []))
+        p.old p.new result }
 {
-    let at = expect(kinds, roles, s, word, UNKNOWN_PREDICATE);
-    let behind = head(kinds, roles, at);
-    block(kinds, roles, behind)
+    p.expect(name, Role::UnknownPredicate)?;
+    p.head()?;
+    block(p)
 }
 
 // rule_list_item
-fn rule_item(kinds: &[u8], roles: &mut [u8], s: Cursor) -> Cursor
-    requires { length roles.old ≡ length kinds.now }
-    ensures { Reads 1 (once rule_item ∷ []) kinds.now roles.old s roles.new result }
+fn rule_item(p: &mut Parser<'_>) -> Result<(), usize>
+    ensures { Reads 1 (once rule_item ∷ []) p.old p.new result }
 {
-    let kind = kind_at(kinds, s);
-    if kind == UAG {
-        return groups(kinds, roles, s, UAG, UAG_NAMED);
+    let Some(name) = p.name() else {
+        return Err(p.at);
+    };
+    match name {
+        Kind::Uag => groups(p, Kind::Uag, Role::UagNamed),
+        Kind::Hag => groups(p, Kind::Hag, Role::HagNamed),
+        Kind::Calc => named(p, Kind::Calc, Role::CalcWord, Role::Calculation),
+        _ => predicate(p, name),
     }
-    if kind == HAG {
-        return groups(kinds, roles, s, HAG, HAG_NAMED);
-    }
-    if kind == CALC {
-        return named(kinds, roles, s, CALC, CALC_WORD, CALCULATION);
-    }
-    predicate(kinds, roles, s, name_or_string(kind))
 }
 
 // rule_body
-fn rule_block(kinds: &[u8], roles: &mut [u8], s: Cursor) -> Cursor
-    requires { length roles.old ≡ length kinds.now }
-    ensures { Reads 1 (in_braces (λ k. once rule_item ∷ often rule_item ∷ k))
-        kinds.now roles.old s roles.new result }
+fn rule_block(p: &mut Parser<'_>) -> Result<(), usize>
+    ensures { Reads 1 (in_braces (λ k. once rule_item ∷ often rule_item ∷ k)) p.old p.new result }
 {
-    let inside = expect(kinds, roles, s, OPEN_BRACE, NO_ROLE);
-    let mut at = rule_item(kinds, roles, inside);
-    while kind_at(kinds, at) < CLOSE_BRACE {
-        at = rule_item(kinds, roles, at);
+    p.expect(Kind::OpenBrace, Role::NoRole)?;
+    rule_item(p)?;
+    // Stays: no plainer as a `for`, since each turn reads as many tokens as the grammar says and may stop.
+    while !p.next_is(Kind::CloseBrace) {
+        rule_item(p)?;
     }
-    expect(kinds, roles, at, CLOSE_BRACE, NO_ROLE)
+    p.expect(Kind::CloseBrace, Role::NoRole)
 }
 
-// A rule. Callers hand on both slices, which load_parse::read cuts to one length.
-pub fn rule(kinds: &[u8], roles: &mut [u8], s: Cursor) -> Cursor
-    requires { length roles.old ≡ length kinds.now }
-    ensures { Reads 1 (rule_head ++ (perhaps rule_block ∷ [])) kinds.now roles.old s roles.new result }
+// A rule.
+pub fn rule(p: &mut Parser<'_>) -> Result<(), usize>
+    ensures { Reads 1 (rule_head ++ (perhaps rule_block ∷ [])) p.old p.new result }
 {
-    let at = rule_head(kinds, roles, s);
-    if kind_at(kinds, at) != OPEN_BRACE {
-        return at;
+    rule_head(p)?;
+    if !p.next_is(Kind::OpenBrace) {
+        return Ok(());
     }
-    rule_block(kinds, roles, at)
+    rule_block(p)
 }

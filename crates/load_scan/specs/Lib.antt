@@ -1,4 +1,3 @@
 pub mod Found
-pub mod Stored
 pub mod Answer
 pub mod laws

@@ -1,156 +1,111 @@
-// The tokens of a text, found in one pass and kept in arrays.
+// The tokens of a text, found in one pass.
 #![tactic(auto)]
 
-ghost use Rattle.std.specs.Prelude.{◌+◌, ◌≤◌, ◌<◌, length};
-ghost use Rattle.spec_token.specs.Scanner.{quote, stop, word};
-ghost use Rattle.load_tokens.specs.Stores.{arrays_of, Room};
-ghost use Rattle.load_scan.specs.Found.{BeginsAt, Found};
-ghost use Rattle.load_scan.specs.Stored.{Small, Put};
+ghost use Rattle.std.specs.Prelude.{◌≤◌, ◌<◌, length};
+ghost use Rattle.spec_token.specs.Scanner as lexeme;
+ghost use Rattle.load_scan.specs.Found.{Short, BeginsAt, Found};
+ghost use Rattle.load_tokens.specs.Scratch.{Scratch};
 ghost use Rattle.load_scan.specs.Answer.{Answer};
 
-use load_quote::Quote;
+use load_tokens::Token;
 use load_word::{Class, Start};
+use spec_grammar::Role;
+use spec_token::Kind;
 
-// The numbers of a token: its kind, its place, and where its text starts and ends.
-#[derive(Clone, Copy)]
-pub struct Entry {
-    pub kind: u8,
-    pub place: usize,
-    pub start: usize,
-    pub end: usize,
-}
-
-// What stands at a place: a token, or none, and where the scan goes on; or a bad byte.
+// What stands at a place: a token, or none, and where the scan goes on.
 #[derive(Clone, Copy)]
 pub enum Step {
-    Token(Entry, usize),
+    Token(Token, usize),
     Skip(usize),
-    Bad(usize),
 }
 
 fn stop_token(s: &[u8], at: usize) -> Step
-    requires { BeginsAt s.now at stop }
-    ensures { Found s.now at result }
+    requires { BeginsAt s.now at lexeme.stop }
+    ensures { Found s.now at (Ok result) }
 {
-    let end = at + 1;
     let kind = load_word::stop_kind(s[at]);
-    let entry = Entry {
+    let end = at + 1;
+    let token = Token {
         kind,
-        place: at,
-        start: at,
-        end,
+        role: Role::NoRole,
+        place: at as u16,
+        start: at as u16,
+        end: end as u16,
     };
-    Step::Token(entry, end)
+    Step::Token(token, end)
 }
 
 fn word_token(s: &[u8], at: usize) -> Step
-    requires { BeginsAt s.now at word }
-    ensures { Found s.now at result }
+    requires { BeginsAt s.now at lexeme.word }
+    ensures { Found s.now at (Ok result) }
 {
     let end = load_word::run_end(Class::Name, s, at);
     let kind = load_kind::word_kind(&s[at..end]);
-    let entry = Entry {
+    let token = Token {
         kind,
-        place: at,
-        start: at,
-        end,
+        role: Role::NoRole,
+        place: at as u16,
+        start: at as u16,
+        end: end as u16,
     };
-    Step::Token(entry, end)
+    Step::Token(token, end)
 }
 
-// A quoted text is a STRING, whatever it spells.
-fn quote_token(s: &[u8], at: usize) -> Step
-    requires { BeginsAt s.now at quote }
-    ensures { Found s.now at result }
+// A quoted text is a STRING, whatever it spells. Err is the place of a bad byte.
+fn quote_token(s: &[u8], quote: usize) -> Result<Step, usize>
+    requires { BeginsAt s.now quote lexeme.quote }
+    ensures { Found s.now quote result }
 {
-    let start = at + 1;
-    match load_quote::quote_end(s, start) {
-        Quote::Closed(end) => {
-            let entry = Entry {
-                kind: 8,
-                place: at,
-                start,
-                end,
-            };
-            Step::Token(entry, end + 1)
-        }
-        Quote::Broken(p) => Step::Bad(p),
-        Quote::Unclosed => Step::Bad(at),
-    }
+    let end = load_quote::quote_end(s, quote)?;
+    let start = quote + 1;
+    let token = Token {
+        kind: Kind::String,
+        role: Role::NoRole,
+        place: quote as u16,
+        start: start as u16,
+        end: end as u16,
+    };
+    Ok(Step::Token(token, end + 1))
 }
 
-// What the byte at a place begins.
-fn step_at(s: &[u8], at: usize) -> Step
-    requires { at < length s.now }
+// What the byte at a place begins. Err is the place of a bad byte.
+fn step_at(s: &[u8], at: usize) -> Result<Step, usize>
+    requires short { Short s.now }
+    requires here { at < length s.now }
     ensures { Found s.now at result }
 {
     match load_word::begun_by(s[at]) {
-        Start::Blank => Step::Skip(at + 1),
-        Start::Comment => {
-            let to = load_word::run_end(Class::Comment, s, at + 1);
-            Step::Skip(to)
-        }
+        Start::Blank => Ok(Step::Skip(at + 1)),
+        Start::Comment => Ok(Step::Skip(load_word::run_end(Class::Comment, s, at + 1))),
         Start::Quote => quote_token(s, at),
-        Start::Stop => stop_token(s, at),
-        Start::Word => word_token(s, at),
-        Start::Wrong => Step::Bad(at),
+        Start::Stop => Ok(stop_token(s, at)),
+        Start::Word => Ok(word_token(s, at)),
+        Start::Wrong => Err(at),
     }
 }
 
-fn put(
-    kinds: &mut [u8],
-    places: &mut [u16],
-    starts: &mut [u16],
-    ends: &mut [u16],
-    n: usize,
-    t: Entry,
-)
-    requires room { Room (n + 1) (arrays_of kinds.old places.old starts.old ends.old) }
-    requires small { Small t }
-    ensures { Put (arrays_of kinds.old places.old starts.old ends.old) n t
-        (arrays_of kinds.new places.new starts.new ends.new) }
-{
-    kinds[n] = t.kind;
-    places[n] = t.place as u16;
-    starts[n] = t.start as u16;
-    ends[n] = t.end as u16;
-}
-
-// How many tokens the arrays hold, or the place of the first bad byte.
-#[derive(Clone, Copy)]
-pub enum Scanned {
-    Tokens(usize),
-    Bad(usize),
-}
-
-// The tokens of a text, kept in the arrays.
-// The caller, load_judge by load_syntax, has looked at the text's length and has arrays as long as the text.
-pub fn scan(
-    s: &[u8],
-    kinds: &mut [u8],
-    places: &mut [u16],
-    starts: &mut [u16],
-    ends: &mut [u16],
-) -> Scanned
-    requires s_len_bound { length s.now ≤ 16384 }
-    requires room { Room (length s.now) (arrays_of kinds.old places.old starts.old ends.old) }
-    ensures { Answer s.now (arrays_of kinds.old places.old starts.old ends.old)
-        (arrays_of kinds.new places.new starts.new ends.new) result }
+// How many tokens a text has; they are kept in order from the first on. Err is the place of the first bad byte.
+// The caller, load_judge by load_syntax, has looked at the text's length and has room for as many tokens as the text has bytes.
+pub fn scan(s: &[u8], tokens: &mut [Token]) -> Result<usize, usize>
+    requires short { Short s.now }
+    requires room { length s.now ≤ length tokens.old }
+    ensures answer { Answer s.now tokens.new result }
+    ensures scratch { Scratch tokens.old tokens.new }
 {
     let mut at = 0;
-    let mut n = 0;
+    let mut count = 0;
+    // Stays: no plainer as a `for`, since the step jumps behind a token.
     while at < s.len() {
-        match step_at(s, at) {
-            Step::Token(entry, to) => {
-                put(kinds, places, starts, ends, n, entry);
-                n += 1;
+        match step_at(s, at)? {
+            Step::Token(token, to) => {
+                tokens[count] = token;
+                count += 1;
                 at = to;
             }
             Step::Skip(to) => {
                 at = to;
             }
-            Step::Bad(p) => return Scanned::Bad(p),
         }
     }
-    Scanned::Tokens(n)
+    Ok(count)
 }

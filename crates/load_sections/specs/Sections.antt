@@ -6,10 +6,12 @@ use Rattle.spec_grammar.specs.declared.Role.TheVariants.{UagName, User, HagName,
 use Rattle.spec_grammar.specs.Sentence.{Tagged}
 use Rattle.spec_file.specs.Contents.{has_role}
 use Rattle.byte_write.specs.Put.{Put}
-use Rattle.load_flags.specs.Tokens.{size, texts_at, tokens_in}
+use Rattle.load_flags.specs.Tokens.{size}
 use Rattle.load_records.specs.declared.Cursor.{Cursor}
-use Rattle.load_records.specs.declared.Work.TheVariants.{Groups, Names, Access, Inputs, References, Rules}
+use Rattle.load_records.specs.Work.{Groups, Names, Access, Inputs, References, Rules}
 use Rattle.load_records.specs.Cursor.{Bounded, cursor}
+use Rattle.load_passes.specs.declared.source.Source.{Source}
+use Rattle.load_passes.specs.Source.{all_of, host_names, user_names}
 use Rattle.load_passes.specs.Pass.{emits, moves, refer_emits, refer_moves}
 use Rattle.load_sections.specs.declared.AccessSections.{AccessSections}
 use Rattle.load_sections.specs.declared.GroupSections.{GroupSections}
@@ -114,7 +116,6 @@ module _ (us hs : List (List ℕ)) (xs : List Tagged) where
     pub last : r.cursor ≡ behind_7 p
     pub bounded : Bounded limit_7 r.cursor
 
--- the same for kept tokens
-abbrev pub RulesPut : List ℕ → List ℕ → List ℕ → List ℕ → ℕ → List ℕ → List ℕ → List ℕ → List ℕ → Cursor → RuleSections → Type 0
-RulesPut s starts ends roles n uags hags b c p r =
-    RulesWritten (texts_at s starts ends uags) (texts_at s starts ends hags) (tokens_in s starts ends roles 0 n) b c p r
+-- the same for the tokens of a file
+abbrev pub RulesPut : Source → List ℕ → List ℕ → Cursor → RuleSections → Type 0
+RulesPut s b c p r = RulesWritten (user_names s) (host_names s) (all_of s.tokens) b c p r

@@ -4,7 +4,7 @@ use Rattle.spec_grammar.specs.declared.Role.TheVariants.{UagName, User, HagName,
 use Rattle.spec_grammar.specs.Sentence.{Tagged}
 use Rattle.byte_write.specs.Put.{Put}
 use Rattle.load_records.specs.declared.Cursor.{Cursor}
-use Rattle.load_records.specs.declared.Work.TheVariants.{Texts, Lowered, Firsts}
+use Rattle.load_records.specs.Work.{Texts, Lowered, Firsts}
 use Rattle.load_records.specs.Cursor.{Bounded, cursor}
 use Rattle.load_passes.specs.Pass.{emits, refer_emits}
 use Rattle.load_sections.specs.Sections.{from, limit_strings}

@@ -1,9 +1,7 @@
 -- The tokens of a role in the arrays: how many, and how far to the next. Roles stand as numbers, as in the arrays.
 use Rattle.std.specs.Prelude.{cond, ◌||◌, List, [], ℕ, zero, suc, ◌+◌, ◌-◌, ◌≤◌, ◌<◌, eqb, length, get_or}
-use Rattle.std.proofs.Math.Option.{some}
 use Rattle.spec_grammar.specs.Sentence.{Tagged}
 use Rattle.load_tokens.specs.Arrays.{Arrays, tagged_from}
-use Rattle.spec_file.specs.Contents.{texts}
 
 -- the code of a role other than NoRole
 pub record RoleCode (q : ℕ) : Type 0 where

@@ -1,6 +1,5 @@
 -- The first token of a file to which something applies in its context.
-use Rattle.std.specs.Prelude.{Bool, cond, List, [], ◌∷◌, ℕ, zero, suc, ◌+◌, ◌-◌}
-use Rattle.spec_lists.specs.Select.{first}
+use Rattle.std.specs.Prelude.{Bool, cond, List, [], ◌∷◌, ℕ, zero, suc, ◌+◌}
 use Rattle.spec_grammar.specs.Sentence.{Tagged}
 use Rattle.load_tokens.specs.Arrays.{Arrays, tagged_at}
 use Rattle.spec_file.specs.Refusal.{Context}

@@ -5,4 +5,4 @@ pub mod Listed
 pub mod Position
 pub mod Roles
 pub mod Seek
-pub mod Spans
+pub mod Tokens

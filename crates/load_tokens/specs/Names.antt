@@ -1,4 +1,4 @@
--- Kinds by their codes.
+-- Kinds by their numbers: spec_grammar/specs/Codes, kind_number.
 use Rattle.std.specs.Prelude.{Bool, true, cond, ℕ, eqb, leb}
 
 -- generic_block_elem_name: a keyword or a STRING

@@ -1,2 +1,4 @@
 pub mod Arrays
 pub mod Stores
+pub mod Views
+pub mod Same

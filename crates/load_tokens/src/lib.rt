@@ -1,91 +1,48 @@
-// How a load keeps tokens in arrays: the codes of kinds and roles, and in specs/ what the arrays mean.
+// How a load keeps tokens: a slice of structs, and in specs/ what they mean.
 #![tactic(auto)]
 
-ghost use Rattle.std.specs.Prelude.{◌≡◌};
+ghost use Rattle.std.specs.Prelude.{◌≡◌, ◌≤◌, length};
+ghost use Rattle.spec_grammar.specs.Codes.{kind_number};
 ghost use Rattle.load_tokens.specs.Names.{is_name};
 
-// The codes of the kinds: spec_grammar/specs/Codes.antt, kind_number.
-pub const UAG: u8 = 0;
+use spec_grammar::Role;
+use spec_token::Kind;
 
-pub const HAG: u8 = 1;
+// A token of a file: its kind, what it says in its place in the grammar, its place, and where its text starts and ends.
+#[derive(Clone, Copy)]
+pub struct Token {
+    pub kind: Kind,
+    pub role: Role,
+    pub place: u16,
+    pub start: u16,
+    pub end: u16,
+}
 
-pub const ASG: u8 = 2;
+impl Token {
+    ghost use Rattle.load_tokens.specs.Arrays.{between};
 
-pub const RULE: u8 = 3;
+    // Its place as a count.
+    pub fn place(&self) -> usize
+        ensures { result ≡ self.now.place }
+    {
+        usize::from(self.place)
+    }
 
-pub const CALC: u8 = 4;
-
-pub const INP: u8 = 5;
-
-pub const INT: u8 = 6;
-
-pub const FLOAT: u8 = 7;
-
-pub const STRING: u8 = 8;
-
-pub const OPEN_PAREN: u8 = 9;
-
-pub const CLOSE_PAREN: u8 = 10;
-
-pub const OPEN_BRACE: u8 = 11;
-
-pub const CLOSE_BRACE: u8 = 12;
-
-pub const COMMA: u8 = 13;
-
-// No token's kind: what stands behind the last.
-pub const END: u8 = 14;
-
-// The codes of the roles: spec_grammar/specs/Codes.antt, role_number.
-pub const NO_ROLE: u8 = 0;
-
-pub const UAG_NAME: u8 = 1;
-
-pub const USER: u8 = 2;
-
-pub const HAG_NAME: u8 = 3;
-
-pub const HOST: u8 = 4;
-
-pub const ASG_NAME: u8 = 5;
-
-pub const INPUT: u8 = 6;
-
-pub const PVNAME: u8 = 7;
-
-pub const RULE_WORD: u8 = 8;
-
-pub const LEVEL: u8 = 9;
-
-pub const PERMISSION: u8 = 10;
-
-pub const LOG_OPTION: u8 = 11;
-
-pub const UAG_NAMED: u8 = 12;
-
-pub const HAG_NAMED: u8 = 13;
-
-pub const CALC_WORD: u8 = 14;
-
-pub const CALCULATION: u8 = 15;
-
-pub const UNKNOWN_ITEM: u8 = 16;
-
-pub const UNKNOWN_PREDICATE: u8 = 17;
-
-// A number of the arrays as a count.
-pub fn wide(x: u16) -> usize
-    ensures { result ≡ x }
-{
-    x as usize
+    // Its text in the file. Callers, load_spans::Tokens, know from load_scan's promise (specs/Stores: Good) that it lies there.
+    pub fn text<'a>(&self, file: &'a [u8]) -> &'a [u8]
+        requires { (self.now.start ≤ self.now.end) × (self.now.end ≤ length file.now) }
+        ensures { result.now ≡ between file.now self.now.start self.now.end }
+    {
+        &file[usize::from(self.start)..usize::from(self.end)]
+    }
 }
 
 // generic_block_elem_name
-pub fn is_name(kind: u8) -> bool
-    ensures { result ≡ is_name kind }
+pub fn is_name(kind: Kind) -> bool
+    ensures { result ≡ is_name (kind_number kind) }
 {
-    if kind <= INP {
-        return true;
-    }
-    kind == STRING
+    matches!(
+        kind,
+        Kind::Uag | Kind::Hag | Kind::Asg | Kind::Rule | Kind::Calc | Kind::Inp | Kind::String
+    )
 }

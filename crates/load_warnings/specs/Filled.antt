@@ -20,7 +20,7 @@ abbrev pub places_of : List Warned → List ℕ
 places_of ws = map (λ w. w.place) ws
 
 -- a value is the k-th: it is written if skip stand before it, and if there is room
-abbrev pub wrote : ℕ → ℕ → List ℕ → ℕ → List ℕ
+abbrev pub wrote : {A : Type 0} → ℕ → ℕ → List A → A → List A
 wrote skip k b v = cond (leb skip k) (set b (k - skip) v) b
 
 -- r warnings, of which b became c by writing the numbers and a became d by writing the places, from the skip-th warning

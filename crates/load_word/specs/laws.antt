@@ -1,4 +1,2 @@
-pub mod Leaf
 pub mod Begun
 pub mod Digits
-pub mod Words

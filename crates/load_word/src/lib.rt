@@ -2,14 +2,14 @@
 #![tactic(auto)]
 
 ghost use Rattle.std.specs.Prelude.{◌≡◌, ◌≤◌, length, drop};
-ghost use Rattle.spec_lists.specs.Text.{digit};
 ghost use Rattle.spec_token.specs.Word.{name_byte};
 ghost use Rattle.spec_token.specs.Scanner.{int, float, digits, exponent, fraction, lexeme_of, punctuation};
 ghost use Rattle.spec_token.specs.Spans.{Span};
-ghost use Rattle.spec_grammar.specs.Codes.{kind_number};
 ghost use Rattle.load_word.specs.Class.{belongs};
 ghost use Rattle.load_word.specs.Start.{start_of};
 ghost use Rattle.load_word.specs.Number.{Unsigned};
+
+use spec_token::Kind;
 
 // What a byte between tokens begins.
 #[derive(Clone, Copy)]
@@ -26,6 +26,7 @@ pub enum Start {
 fn is_name(b: u8) -> bool
     ensures { result ≡ name_byte b }
 {
+    // Stays: a rule of the project, byte classes are a match with ranges.
     match b {
         b'A'..=b'Z' | b'a'..=b'z' | b'0'..=b'9' => true,
         b'-'..=b'.' | b':'..=b'<' => true,
@@ -40,6 +41,7 @@ pub fn begun_by(b: u8) -> Start
     if is_name(b) {
         return Start::Word;
     }
+    // Stays: a rule of the project, byte classes are a match with ranges.
     match b {
         b' ' | b'\t' | b'\r' | b'\n' => Start::Blank,
         b'#' => Start::Comment,
@@ -49,29 +51,21 @@ pub fn begun_by(b: u8) -> Start
     }
 }
 
-// The number of a stop's kind.
-pub fn stop_kind(b: u8) -> u8
-    ensures { result ≡ kind_number (punctuation b) }
+// A stop's kind.
+pub fn stop_kind(b: u8) -> Kind
+    ensures { result ≡ punctuation b }
 {
     match b {
-        b'(' => 9,
-        b')' => 10,
-        b'{' => 11,
-        b'}' => 12,
-        _ => 13,
-    }
-}
-
-fn is_digit(b: u8) -> bool
-    ensures { result ≡ digit b }
-{
-    match b {
-        b'0'..=b'9' => true,
-        _ => false,
+        b'(' => Kind::OpenParen,
+        b')' => Kind::CloseParen,
+        b'{' => Kind::OpenBrace,
+        b'}' => Kind::CloseBrace,
+        _ => Kind::Comma,
     }
 }
 
 // The classes whose runs a text is cut into: the bytes of a word, the digits, and what a comment goes on over.
+// Stays: no plainer as a closure, since what is promised of a run names its class.
 #[derive(Clone, Copy)]
 pub enum Class {
     Name,
@@ -84,7 +78,7 @@ fn belongs(class: Class, b: u8) -> bool
 {
     match class {
         Class::Name => is_name(b),
-        Class::Digit => is_digit(b),
+        Class::Digit => b.is_ascii_digit(),
         Class::Comment => b != b'\n',
     }
 }
@@ -94,15 +88,12 @@ pub fn run_end(class: Class, s: &[u8], from: usize) -> usize
     requires { from ≤ length s.now }
     ensures { Span (belongs class) s.now from result }
 {
-    let mut i = from;
-    while i < s.len() {
-        if belongs(class, s[i]) {
-            i += 1;
-        } else {
+    for i in from..s.len() {
+        if !belongs(class, s[i]) {
             return i;
         }
     }
-    i
+    s.len()
 }
 
 // Past a sign, if there is one.
@@ -110,11 +101,8 @@ fn sign_end(w: &[u8], at: usize) -> usize
     requires { at ≤ length w.now }
     ensures { Unsigned w.now at result }
 {
-    if w.len() <= at {
-        return at;
-    }
-    match w[at] {
-        b'+' | b'-' => at + 1,
+    match w.get(at) {
+        Some(b'+' | b'-') => at + 1,
         _ => at,
     }
 }
@@ -125,21 +113,14 @@ fn all_digits(w: &[u8], at: usize) -> bool
     ensures { result ≡ digits (drop at w.now) }
 {
     let e = run_end(Class::Digit, w, at);
-    if e <= at {
-        return false;
-    }
-    if e < w.len() {
-        return false;
-    }
-    true
+    at < e && e == w.len()
 }
 
 // load_kind asks this, and the next.
 pub fn is_int(w: &[u8]) -> bool
     ensures { result ≡ int w.now }
 {
-    let a = sign_end(w, 0);
-    all_digits(w, a)
+    all_digits(w, sign_end(w, 0))
 }
 
 // No exponent, or one of digits behind the sign it may have.
@@ -147,14 +128,9 @@ fn is_exponent(w: &[u8], at: usize) -> bool
     requires { at ≤ length w.now }
     ensures { result ≡ exponent (drop at w.now) }
 {
-    if w.len() <= at {
-        return true;
-    }
-    match w[at] {
-        b'e' | b'E' => {
-            let a = sign_end(w, at + 1);
-            all_digits(w, a)
-        }
+    match w.get(at) {
+        None => true,
+        Some(b'e' | b'E') => all_digits(w, sign_end(w, at + 1)),
         _ => false,
     }
 }
@@ -164,18 +140,13 @@ fn is_fraction(w: &[u8], at: usize) -> bool
     requires { at ≤ length w.now }
     ensures { result ≡ fraction (drop at w.now) }
 {
-    if w.len() <= at {
-        return false;
+    match w.get(at) {
+        Some(b'.') => {
+            let e = run_end(Class::Digit, w, at + 1);
+            at + 1 < e && is_exponent(w, e)
+        }
+        _ => false,
     }
-    if w[at] != b'.' {
-        return false;
-    }
-    let from = at + 1;
-    let e = run_end(Class::Digit, w, from);
-    if e <= from {
-        return false;
-    }
-    is_exponent(w, e)
 }
 
 pub fn is_float(w: &[u8]) -> bool

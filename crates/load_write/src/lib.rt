@@ -1,24 +1,21 @@
 // The whole table of an accepted file.
 #![tactic(auto)]
 
-ghost use Rattle.std.specs.Prelude.{List, ◌≤◌, ℕ, length};
+ghost use Rattle.std.specs.Prelude.{◌≡◌, ◌≤◌, length};
 ghost use Rattle.spec_lists.specs.Words.{spelled_out};
-ghost use Rattle.load_tokens.specs.Arrays.{Arrays};
-ghost use Rattle.load_spans.specs.Roles.{tokens};
+ghost use Rattle.spec_grammar.specs.Codes.{role_number};
+ghost use Rattle.load_spans.specs.Roles.{RoleCode};
+ghost use Rattle.load_flags.specs.Tokens.{size};
 ghost use Rattle.byte_write.specs.Put.{Put};
-ghost use Rattle.load_passes.specs.Passed.{Source};
+ghost use Rattle.load_passes.specs.Source.{all_of};
+ghost use Rattle.load_sections.specs.Sections.{from};
 ghost use Rattle.load_write.specs.Header.{CountsRight, header_of};
-ghost use Rattle.load_write.specs.Table.{stored_table};
+ghost use Rattle.load_write.specs.Table.{source_table};
 
+use load_passes::Source;
 use load_sections::{AccessSections, GroupSections, RuleSections};
-use load_tokens::{ASG_NAME, HAG_NAME, HOST, INPUT, RULE_WORD, UAG_NAME, USER};
-
-// What load_room answers.
-#[derive(Clone, Copy)]
-pub enum Written {
-    Done(usize),
-    NoRoom(usize),
-}
+use load_spans::Tokens;
+use spec_grammar::Role;
 
 // How many records sections 1 to 6 have.
 #[derive(Clone, Copy)]
@@ -31,23 +28,38 @@ pub struct Counts {
     pub rules: usize,
 }
 
-// Members stand behind a group's name, inputs and rules behind an access group's.
-fn count_all(roles: &[u8], n: usize) -> Counts
-    requires { (n ≤ 16384) × (n ≤ length roles.now) }
-    ensures { (s : List ℕ) (ar : Arrays) → CountsRight (tokens s ar roles.now 0 n) result }
+// How many tokens have a role.
+fn count(tokens: &Tokens, m: Role) -> usize
+    requires { RoleCode (role_number m) }
+    ensures { result ≡ size m (all_of tokens.now) }
 {
-    let a = load_flags::next(roles, 0, n, UAG_NAME, UAG_NAME);
-    let b = load_flags::next(roles, 0, n, HAG_NAME, HAG_NAME);
-    let c = load_flags::next(roles, 0, n, ASG_NAME, ASG_NAME);
-    let users = load_flags::count(roles, a, n, USER);
-    let hosts = load_flags::count(roles, b, n, HOST);
+    load_flags::count(tokens, 0, tokens.list.len(), m)
+}
+
+// How many of those from the first of the role q on. Members stand behind a group's name, inputs and rules behind an access group's.
+fn count_from(tokens: &Tokens, q: Role, m: Role) -> usize
+    requires first { RoleCode (role_number q) }
+    requires counted { RoleCode (role_number m) }
+    ensures exact { result ≡ size m (from q (all_of tokens.now)) }
+    ensures few { result ≤ 16384 }
+{
+    let n = tokens.list.len();
+    let a = load_flags::next(tokens, 0, n, q, q);
+    load_flags::count(tokens, a, n, m)
+}
+
+fn count_all(tokens: &Tokens) -> Counts
+    ensures { CountsRight (all_of tokens.now) result }
+{
+    let users = count_from(tokens, Role::UagName, Role::User);
+    let hosts = count_from(tokens, Role::HagName, Role::Host);
     Counts {
-        uags: load_flags::count(roles, 0, n, UAG_NAME),
-        hags: load_flags::count(roles, 0, n, HAG_NAME),
+        uags: count(tokens, Role::UagName),
+        hags: count(tokens, Role::HagName),
         members: users + hosts,
-        asgs: load_flags::count(roles, 0, n, ASG_NAME),
-        inputs: load_flags::count(roles, c, n, INPUT),
-        rules: load_flags::count(roles, c, n, RULE_WORD),
+        asgs: count(tokens, Role::AsgName),
+        inputs: count_from(tokens, Role::AsgName, Role::Input),
+        rules: count_from(tokens, Role::AsgName, Role::RuleWord),
     }
 }
 
@@ -90,29 +102,15 @@ fn put_header(
 }
 
 // The table of a file at the start of the lent bytes, as far as there is room. Its length is returned. Inner: load_room calls it.
-pub fn table(
-    s: &[u8],
-    starts: &[u16],
-    ends: &[u16],
-    roles: &[u8],
-    n: usize,
-    uags: &[u16],
-    hags: &[u16],
-    lent: &mut [u8],
-) -> usize
-    requires { Source s.now starts.now ends.now roles.now n uags.now hags.now }
-    ensures { Put lent.old lent.new 0
-        (stored_table s.now starts.now ends.now roles.now n uags.now hags.now) result }
+pub fn table(source: &Source, lent: &mut [u8]) -> usize
+    ensures { Put lent.old lent.new 0 (source_table source.now) result }
 {
-    let groups = load_sections::group_sections(s, starts, ends, roles, n, lent);
-    let three = groups.cursor;
-    let access = load_sections::access_sections(s, starts, ends, roles, n, three, lent);
-    let five = access.cursor;
-    let rules = load_sections::rule_sections(s, starts, ends, roles, n, uags, hags, five, lent);
-    let seven = rules.cursor;
-    let named = load_sections::group_strings(s, starts, ends, roles, n, seven, lent);
-    let end = load_sections::access_strings(s, starts, ends, roles, n, uags, hags, named, lent);
-    let c = count_all(roles, n);
-    put_header(c, groups, access, rules, end, lent);
+    let tokens = source.tokens;
+    let groups = load_sections::group_sections(&tokens, lent);
+    let access = load_sections::access_sections(&tokens, groups.cursor, lent);
+    let rules = load_sections::rule_sections(source, access.cursor, lent);
+    let named = load_sections::group_strings(&tokens, rules.cursor, lent);
+    let end = load_sections::access_strings(&tokens, named, lent);
+    put_header(count_all(&tokens), groups, access, rules, end, lent);
     end
 }

@@ -1,10 +1,13 @@
 -- From the verdict on a text to what a load answers and leaves.
-use Rattle.std.specs.Prelude.{◌≡◌, refl, List, ℕ, ◌≤◌, ◌<◌, length}
+use Rattle.std.specs.Prelude.{◌≡◌, refl, List, ℕ, ◌≤◌, ◌<◌, length, take, Ok, Err}
 use Rattle.std.proofs.Math.Path.{sym}
 use Rattle.std.proofs.Common.{ap, subst, ◌∙◌}
-use Rattle.load_tokens.specs.Arrays.{tagged_from}
+use Rattle.load_tokens.specs.declared.Token.{Token}
+use Rattle.load_tokens.specs.Views.{kept, starts, ends, roles}
+use Rattle.load_spans.specs.Listed.{indices}
 use Rattle.spec_file.specs.Limit.{most_bytes}
 use Rattle.spec_file.specs.Contents.{file_of}
+use Rattle.spec_file.specs.Load.{accept}
 use Rattle.spec_file.specs.declared.Refusal.{Refusal}
 use Rattle.spec_file.specs.declared.Refusal.TheVariants.{FileTooLong}
 use Rattle.spec_table.specs.Layout.{greatest_table}
@@ -13,32 +16,36 @@ use Rattle.spec_table.proofs.laws.Theorem.{table_length}
 use Rattle.spec_load.specs.declared.Loaded.{Loaded}
 use Rattle.spec_load.specs.declared.Loaded.TheVariants.{Refused}
 use Rattle.spec_load.specs.Load.{by_verdict, load}
-use Rattle.load_syntax.specs.declared.Judgment.{Judgment}
-use Rattle.load_syntax.specs.declared.Judgment.TheVariants as judgment
+use Rattle.load_syntax.specs.Syntax.{tagged}
 use Rattle.load_judge.specs.Judged.{Judged}
 use Rattle.load_judge.specs.laws.Judged.{verdict_long}
-use Rattle.load_judge.specs.laws.Bounded.{judged_arrays, accepted_as, refused_as}
-use Rattle.load_store.specs.Stored.{Fits, Stored}
+use Rattle.load_judge.specs.laws.Bounded.{accepted_as, refused_as}
+use Rattle.load_write.specs.Table.{stored_table}
 use Rattle.load_store.specs.laws.Stored.{is_table_of}
 
-module _ {s places starts ends roles : List ℕ} {r : Judgment} (f : Judged s places starts ends roles r) where
+module _ {s : List ℕ} {ts : List Token} {n : ℕ} (f : Judged s ts (Ok n)) where
+  abbrev us : List Token
+  us = take n ts
+
   -- no accepted file's table is too long
-  pub table_fits : {n : ℕ} → r ≡ judgment.Tokens n → Fits s starts ends roles n
-  table_fits {n} e =
-      let xs = tagged_from s (judged_arrays f) roles 0 n in
-      subst (λ (t : List ℕ). length t ≤ greatest_table) (sym (is_table_of s (judged_arrays f) roles n refl refl))
-      (table_length (file_of xs) (fits s xs (accepted_as f e)))
+  pub table_fits :
+      length (stored_table s (starts us) (ends us) (roles us) (length us) (indices 1 (roles us) 0 (length us)) (indices 3 (roles us) 0 (length us)))
+      ≤ greatest_table
+  table_fits =
+      let xs = tagged s us in
+      subst (λ (b : List ℕ). length b ≤ greatest_table) (sym (is_table_of s (kept us) (roles us) (length us) refl refl))
+      (table_length (file_of xs) (fits s xs (accepted_as f refl)))
 
-  module _ (lent : List ℕ) where
-    pub load_refused : {k : Refusal} {p : ℕ} → r ≡ judgment.Refused k p → record { answer = Refused k p; bytes = lent } ≡ load lent s
-    unfolding load
-    load_refused e = rw (refused_as f e)
+  pub load_stored :
+      (lent : List ℕ) {c : List ℕ} {o : Loaded} → record { answer = o; bytes = c } ≡ by_verdict lent (accept (tagged s us))
+      → record { answer = o; bytes = c } ≡ load lent s
+  unfolding load
+  load_stored lent g = g ∙ sym (ap (by_verdict lent) (accepted_as f refl))
 
-    pub load_stored :
-        {n : ℕ} {c : List ℕ} {o : Loaded} → r ≡ judgment.Tokens n → Stored s (judged_arrays f) roles n lent c o
-        → record { answer = o; bytes = c } ≡ load lent s
-    unfolding load
-    load_stored e g = g ∙ sym (ap (by_verdict lent) (accepted_as f e))
+pub load_refused :
+    {s : List ℕ} {ts : List Token} {k : Refusal × ℕ} (lent : List ℕ) → Judged s ts (Err k) → record { answer = Refused k.0 k.1; bytes = lent } ≡ load lent s
+unfolding load
+load_refused lent f = rw (refused_as f refl)
 
 -- a text over 16,384 bytes
 pub load_long : (lent s : List ℕ) → most_bytes < length s → record { answer = Refused FileTooLong 0; bytes = lent } ≡ load lent s

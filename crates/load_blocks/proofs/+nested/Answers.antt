@@ -1,53 +1,45 @@
-use borrow.Author.Tests.{not-true, not-false}
-use Rattle.load_elements.specs.laws.Tokens.{Loops, loop_begins}
-use Rattle.load_elements.specs.laws.Stacks.{then, then_equal, when}
-use Rattle.load_elements.specs.laws.Kinds.{some_remain}
-use Rattle.load_blocks.specs.laws.Blocks.{is_name_low, bound_nested, closes_one, closes_done, closes_nested}
-use Rattle.load_elements.specs.Reads.{expected, remaining}
-use Rattle.load_tokens.specs.Names.{is_name}
-use Rattle.load_blocks.specs.Blocks.{nested_elements, nesting_bound}
-use Rattle.spec_grammar.specs.Reader.{inner, often, block_element, no_role}
-use Rattle.spec_token.specs.declared.Kind.TheVariants as kind
-use mathlib.Core.Bool.{not}
-use native.Mathlib.Omega.{arith}
-use mathlib.Core.List.{◌∷◌, ◌++◌}
-use mathlib.Core.Path.{refl, sym, ap, ◌∙◌}
-use borrow.Author.Rules.{rules}
-use Prim.Native.Nat.{ℕ, ◌<◌}
+use Rattle.std.specs.Prelude.{Some, is_none, is_some, [], ◌∷◌, ◌++◌}
+use Rattle.std.proofs.Common.{arith, inl, inr, refl, sym, ap}
+use Rattle.spec_token.specs.declared.Kind.TheVariants.{OpenParen, CloseBrace}
+use Rattle.spec_grammar.specs.declared.Role.TheVariants.{NoRole}
+use Rattle.spec_grammar.specs.Reader.{perhaps, often, block, block_element, inner, no_role}
+use Rattle.load_elements.specs.Reads.{kind_at, name_of, expected}
+use Rattle.load_elements.specs.laws.Cases.{chosen}
+use Rattle.load_elements.specs.laws.Stacks.{next_name, named}
+use Rattle.load_elements.specs.laws.Tokens.{unread, then, stops, when, when_as, SameStepAs, no_promise, not_begun, then_begun, goes_on, ends}
+use Rattle.load_blocks.specs.Blocks.{nested_elements}
 use Rattle.load_blocks.proofs.+nested.Goals as goal
 
-pub loop-roles-init : goal.loop-roles-init
-loop-roles-init t c = loop_begins _ _ _ _
+pub loop-p-init : goal.loop-p-init
+loop-p-init t c = not_begun _ _
 
-pub arguments-behind-requires : goal.arguments-behind-requires
-arguments-behind-requires t c = omega (arith, c.loop-roles.invariant.long, c.requires)
+pub returns-in_err-arguments-in-Nested : goal.returns-in_err-arguments-in-Nested
+returns-in_err-arguments-in-Nested t c = rw c.in-Nested.is (no_promise (ends c.loop-p.invariant (stops (perhaps (block inner) ∷ often block_element ∷ no_role CloseBrace ∷ []) c.in_err-arguments-in-Nested.ensures c.from_residual.ensures.1)))
 
-pub open_block-within-requires : goal.open_block-within-requires
-open_block-within-requires t c = omega (arith, c.loop-roles.invariant.long, c.requires)
+pub returns-in_err-within-in-Nested : goal.returns-in_err-within-in-Nested
+returns-in_err-within-in-Nested t c = rw c.in-Nested.is (no_promise (ends c.loop-p.invariant (then c.in_ok-arguments-in-Nested.ensures (stops (often block_element ∷ no_role CloseBrace ∷ []) (c.in_err-within-in-Nested.ensures.at_depth inner) c.from_residual-in_err-within-in-Nested.ensures.1))))
 
-pub nested-next-requires : goal.nested-next-requires
-nested-next-requires t c = (omega (arith, c.loop-roles.invariant.less, c.arguments-behind.ensures.less, c.open_block-within.ensures.falls, bound_nested c.args.kinds.now c.in-Nested.is, c.decreases), omega (arith, c.loop-roles.invariant.long, c.requires))
+pub nested-requires : goal.nested-requires
+nested-requires t c = (omega (arith, c.loop-p.invariant.fewer, c.in_ok-arguments-in-Nested.ensures.fewer, (c.in_ok-within-in-Nested.ensures.at_depth inner).fewer, c.decreases), tt)
 
-pub expect-requires : goal.expect-requires
-expect-requires t c = (omega (arith, c.loop-roles.invariant.long, c.requires), omega arith)
+pub returns-in_err-nested-in-Nested : goal.returns-in_err-nested-in-Nested
+returns-in_err-nested-in-Nested t c = rw c.in-Nested.is (no_promise (ends c.loop-p.invariant (then c.in_ok-arguments-in-Nested.ensures (stops (often block_element ∷ no_role CloseBrace ∷ []) (ends (c.in_ok-within-in-Nested.ensures.at_depth inner) c.in_err-nested-in-Nested.ensures) c.from_residual-in_err-nested-in-Nested.ensures.1))))
 
-pub returns-then-not-is_name : goal.returns-then-not-is_name
-returns-then-not-is_name t c = closes_nested c.in-Nested.is (λ k. then (c.loop-roles.invariant.leads k) (then (c.arguments-behind.ensures.leads _) (then (then_equal (c.open_block-within.ensures.leads inner (often block_element ∷ no_role kind.CloseBrace ∷ k)) (c.nested-next.ensures.same (often block_element ∷ no_role kind.CloseBrace ∷ k))) (when (λ n. not (is_name n)) (λ n. expected 12 0 ∷ k) c.kind_at-kind.ensures (ap not (sym c.is_name.ensures ∙ not-true _ c.if-not-is_name.true-raw)) (c.expect.ensures.leads k) (tt, tt, tt, tt, tt, tt, refl, refl, tt, refl, refl, refl, refl, refl, refl))))) (omega (arith, c.loop-roles.invariant.less, c.arguments-behind.ensures.less, c.open_block-within.ensures.less, c.nested-next.ensures.less, c.expect.ensures.less))
+pub returns-in_default : goal.returns-in_default
+returns-in_default t c = rw c.in-Nested.is (no_promise (ends c.loop-p.invariant (then c.in_ok-arguments-in-Nested.ensures (then (ends (c.in_ok-within-in-Nested.ensures.at_depth inner) c.in_ok-nested-in-Nested.ensures) (when (λ n. is_none (name_of n)) refl (ap is_none (sym c.in_default.ensures)) c.expect.ensures (λ k. (tt, tt, tt, tt, tt, tt, refl, refl, tt, refl, refl, refl, refl, refl, refl)))))))
 
-pub expect-paren-requires : goal.expect-paren-requires
-expect-paren-requires t c = (omega (arith, c.loop-roles.invariant.long, c.requires), is_name_low _ (sym c.is_name.ensures ∙ not-false _ c.if-not-is_name.false-raw))
+pub returns-in_err-expect-in-Nested : goal.returns-in_err-expect-in-Nested
+returns-in_err-expect-in-Nested t c = rw c.in-Nested.is (no_promise (ends c.loop-p.invariant (then c.in_ok-arguments-in-Nested.ensures (then (ends (c.in_ok-within-in-Nested.ensures.at_depth inner) c.in_ok-nested-in-Nested.ensures) (when_as (λ n. is_some (name_of n)) (λ x. expected x NoRole ∷ no_role OpenParen ∷ nested_elements) (next_name _ _ c.in-Some.ensures) (named c.in-Some.name (kind_at c.nested.new.p) c.in-Some.ensures) (stops (no_role OpenParen ∷ nested_elements) c.in_err-expect-in-Nested.ensures c.from_residual-in_err-expect-in-Nested.ensures.1) (λ k. (refl, refl, refl, refl, refl, refl, tt, tt, refl, tt, tt, tt, tt, tt, tt)))))))
 
-pub expect-at-requires : goal.expect-at-requires
-expect-at-requires t c = (omega (arith, c.loop-roles.invariant.long, c.requires), omega arith)
+pub loop-p-smaller : goal.loop-p-smaller
+loop-p-smaller t c = omega (arith, c.in_ok-arguments-in-Nested.ensures.fewer, (c.in_ok-within-in-Nested.ensures.at_depth inner).fewer, c.in_ok-nested-in-Nested.ensures.fewer, c.in_ok-expect-in-Nested.ensures.fewer, c.in_ok-expect-in-Nested-2.ensures.fewer)
 
-pub loop-roles-smaller : goal.loop-roles-smaller
-loop-roles-smaller t c = omega (arith, c.loop-roles.invariant.less, c.arguments-behind.ensures.less, c.open_block-within.ensures.less, c.nested-next.ensures.less, c.expect-paren.ensures.less, c.expect-at.ensures.less, some_remain c.args.kinds.now c.nested-next.result c.kind_at-kind.ensures (is_name_low _ (sym c.is_name.ensures ∙ not-false _ c.if-not-is_name.false-raw)))
+pub loop-p-preserved : goal.loop-p-preserved
+loop-p-preserved t c = goes_on (then_begun (then_begun c.loop-p.invariant c.in_ok-arguments-in-Nested.ensures) (ends (c.in_ok-within-in-Nested.ensures.at_depth inner) c.in_ok-nested-in-Nested.ensures)) _ (next_name _ _ c.in-Some.ensures) (then c.in_ok-expect-in-Nested.ensures c.in_ok-expect-in-Nested-2.ensures)
+    (λ k. chosen (λ n. is_some (name_of n)) (SameStepAs (often block_element ∷ no_role CloseBrace ∷ k) (λ x. expected x NoRole ∷ no_role OpenParen ∷ (nested_elements ++ k))) (refl, refl, refl, refl, refl, refl, tt, tt, refl, tt, tt, tt, tt, tt, tt) (Some c.in-Some.name) (named c.in-Some.name (kind_at c.nested.new.p) c.in-Some.ensures))
 
-pub loop-roles-preserved : goal.loop-roles-preserved
-loop-roles-preserved t c = record { leads = λ k. then (c.loop-roles.invariant.leads k) (then (c.arguments-behind.ensures.leads _) (then (then_equal (c.open_block-within.ensures.leads inner (often block_element ∷ no_role kind.CloseBrace ∷ k)) (c.nested-next.ensures.same (often block_element ∷ no_role kind.CloseBrace ∷ k))) (when is_name (λ n. expected n 0 ∷ no_role kind.OpenParen ∷ (nested_elements ++ k)) c.kind_at-kind.ensures (sym c.is_name.ensures ∙ not-false _ c.if-not-is_name.false-raw) (then (c.expect-paren.ensures.leads _) (c.expect-at.ensures.leads _)) (refl, refl, refl, refl, refl, refl, tt, tt, refl, tt, tt, tt, tt, tt, tt)))); long = omega (arith, c.loop-roles.invariant.long, c.requires); less = omega (arith, c.loop-roles.invariant.less, c.arguments-behind.ensures.less, c.open_block-within.ensures.less, c.nested-next.ensures.less, c.expect-paren.ensures.less, c.expect-at.ensures.less) }
+pub returns-in_err-expect-in-Nested-2 : goal.returns-in_err-expect-in-Nested-2
+returns-in_err-expect-in-Nested-2 t c = rw c.in-Nested.is (no_promise (ends c.loop-p.invariant (then c.in_ok-arguments-in-Nested.ensures (then (ends (c.in_ok-within-in-Nested.ensures.at_depth inner) c.in_ok-nested-in-Nested.ensures) (when_as (λ n. is_some (name_of n)) (λ x. expected x NoRole ∷ no_role OpenParen ∷ nested_elements) (next_name _ _ c.in-Some.ensures) (named c.in-Some.name (kind_at c.nested.new.p) c.in-Some.ensures) (then c.in_ok-expect-in-Nested.ensures (stops nested_elements c.in_err-expect-in-Nested-2.ensures c.from_residual-in_err-expect-in-Nested-2.ensures.1)) (λ k. (refl, refl, refl, refl, refl, refl, tt, tt, refl, tt, tt, tt, tt, tt, tt)))))))
 
-pub returns-in-One : goal.returns-in-One
-returns-in-One t c = closes_one c.in-One.is
-
-pub returns-in-Done : goal.returns-in-Done
-returns-in-Done t c = closes_done c.in-Done.is
+pub returns : goal.returns
+returns t c = elim c.in-One.is [ inl e ↦ rw e unread | inr e ↦ rw e unread ]

@@ -1,24 +1,19 @@
-use mathlib.Core.Path.{refl, sym, ap, ◌∙◌}
-use mathlib.Core.Bool.{not}
-use mathlib.Core.List.{◌∷◌}
-use native.Mathlib.Omega.{arith}
+use Rattle.std.specs.Prelude.{not, [], ◌∷◌}
+use Rattle.std.proofs.Common.{refl, sym, ap, ◌∙◌}
 use Rattle.spec_grammar.specs.Reader.{once, block_name, block_number}
-use Rattle.load_blocks.specs.laws.Blocks.{is_name_low, number_low}
-use Rattle.load_tokens.specs.Names.{is_name}
-use Rattle.load_blocks.specs.Blocks.{float_or_int}
-use Rattle.load_elements.specs.laws.Stacks.{then, when, when_as}
-use Rattle.load_elements.specs.Reads.{expected}
-use borrow.Author.Rules.{rules}
+use Rattle.load_elements.specs.laws.Tokens.{stops, when}
+use Rattle.load_blocks.specs.Blocks.{is_number}
+use Rattle.load_blocks.specs.laws.Blocks.{opens_stops, opens_when, opens_behind}
 use Rattle.load_blocks.proofs.inside.Goals as goal
 
-pub expect-at-requires : goal.expect-at-requires
-expect-at-requires c = (search rules, is_name_low _ (sym c.is_name.ensures ∙ c.if-is_name.true))
+pub returns-in_err-element : goal.returns-in_err-element
+returns-in_err-element c = opens_stops (λ d. when is_number c.kind.ensures (sym c.is_number.ensures ∙ c.if-is_number.true) (stops (once (block_number d) ∷ []) c.in_err-element.ensures refl) (λ k. (tt, tt, tt, tt, tt, tt, refl, refl, tt, tt, tt, tt, tt, tt, tt))) c.from_residual.ensures.1
 
-pub returns-then-is_name : goal.returns-then-is_name
-returns-then-is_name c = record { leads = λ d k. when is_name (λ n. expected n 0 ∷ once (block_name d) ∷ k) c.kind_at-kind.ensures (sym c.is_name.ensures ∙ c.if-is_name.true) (then (c.expect-at.ensures.leads _) (c.after_name.ensures.leads d k)) (refl, refl, refl, refl, refl, refl, tt, tt, refl, tt, tt, tt, tt, tt, tt); less = omega (arith, c.expect-at.ensures.less, c.after_name.ensures.less); falls = omega (arith, c.expect-at.ensures.less, c.after_name.ensures.falls) }
+pub returns-then-is_number : goal.returns-then-is_number
+returns-then-is_number c = opens_when is_number c.kind.ensures (sym c.is_number.ensures ∙ c.if-is_number.true) (opens_behind c.in_ok-element.ensures c.after_number.ensures) (λ d k. (tt, tt, tt, tt, tt, tt, refl, refl, tt, tt, tt, tt, tt, tt, tt))
 
-pub expect-at-requires-2 : goal.expect-at-requires-2
-expect-at-requires-2 c = (search rules, omega (arith, number_low c.kind_at-kind.result, c.float_or_int.ensures))
+pub returns-in_err-element-2 : goal.returns-in_err-element-2
+returns-in_err-element-2 c = opens_stops (λ d. when (λ n. not (is_number n)) c.kind.ensures (ap not (sym c.is_number.ensures ∙ c.if-is_number.false)) (stops (once (block_name d) ∷ []) c.in_err-element-2.ensures refl) (λ k. (refl, refl, refl, refl, refl, refl, tt, tt, refl, refl, refl, refl, refl, refl, refl))) c.from_residual-in_err-element-2.ensures.1
 
 pub returns : goal.returns
-returns c = record { leads = λ d k. when_as (λ n. not (is_name n)) float_or_int (λ n. expected n 0 ∷ once (block_number d) ∷ k) c.kind_at-kind.ensures (ap not (sym c.is_name.ensures ∙ c.if-is_name.false)) c.float_or_int.ensures (then (c.expect-at-2.ensures.leads _) (c.after_number.ensures.leads d k)) (tt, tt, tt, tt, tt, tt, refl, refl, tt, refl, refl, refl, refl, refl, refl); less = omega (arith, c.expect-at-2.ensures.less, c.after_number.ensures.less); falls = omega (arith, c.expect-at-2.ensures.less, c.after_number.ensures.falls) }
+returns c = opens_when (λ n. not (is_number n)) c.kind.ensures (ap not (sym c.is_number.ensures ∙ c.if-is_number.false)) (opens_behind c.in_ok-element-2.ensures c.after_name.ensures) (λ d k. (refl, refl, refl, refl, refl, refl, tt, tt, refl, refl, refl, refl, refl, refl, refl))

@@ -1,12 +1,16 @@
-use mathlib.Core.Path.{refl}
-use native.Mathlib.Omega.{arith}
-use Rattle.load_blocks.specs.Blocks.{parse_opened, remaining_opened, nesting_bound}
-use Rattle.load_elements.specs.laws.Stacks.{then, at, unless, unread}
+use Rattle.std.proofs.Common.{refl, [], ◌∷◌}
+use Rattle.spec_token.specs.declared.Kind.TheVariants.{OpenBrace}
+use Rattle.spec_grammar.specs.Reader.{once, block_inside}
+use Rattle.load_elements.specs.laws.Stacks.{next_is}
+use Rattle.load_elements.specs.laws.Tokens.{unread, no_promise, stops, at, unless, all_read}
+use Rattle.load_blocks.specs.laws.Blocks.{opens_stops, opens_next, opens_behind, opens_no_promise}
 use Rattle.load_blocks.proofs.open_block.Goals as goal
 
-pub returns-then-kind_at-ne-OPEN_BRACE : goal.returns-then-kind_at-ne-OPEN_BRACE
-unfolding parse_opened remaining_opened nesting_bound
-returns-then-kind_at-ne-OPEN_BRACE c = record { leads = λ d k. unless 11 c.kind_at.ensures c.if-kind_at-ne-OPEN_BRACE.true unread (refl, refl, refl, refl, refl, refl, refl, refl, refl, refl, refl, tt, refl, refl, refl); less = omega arith; falls = omega arith }
+pub returns-then-not-next_is : goal.returns-then-not-next_is
+returns-then-not-next_is c = record { at_depth = λ d. all_read (unless OpenBrace c.next_is.ensures c.if-not-next_is.true unread (λ k. (refl, refl, refl, refl, refl, refl, refl, refl, refl, refl, refl, tt, refl, refl, refl))) }
+
+pub returns-in_err-expect : goal.returns-in_err-expect
+returns-in_err-expect c = opens_stops (λ d. no_promise (at OpenBrace c.next_is.ensures c.if-not-next_is.false (stops (once (block_inside d) ∷ []) c.in_err-expect.ensures refl) (λ k. refl))) c.from_residual.ensures.1
 
 pub returns : goal.returns
-returns c = record { leads = λ d k. at 11 c.kind_at.ensures c.if-kind_at-ne-OPEN_BRACE.false (then (c.expect-at.ensures.leads _) (c.inside.ensures.leads d k)) refl; less = omega (arith, c.expect-at.ensures.less, c.inside.ensures.less); falls = omega (arith, c.expect-at.ensures.less, c.inside.ensures.falls) }
+returns c = opens_no_promise (opens_next _ (next_is OpenBrace _ c.next_is.ensures c.if-not-next_is.false) (opens_behind c.in_ok-expect.ensures c.inside.ensures) (λ d k. refl))

@@ -1,105 +1,83 @@
 -- Two stacks that take the same step at the kind that stands next lead to the same.
-use Rattle.std.specs.Prelude.{◌≡◌, refl, Bool, true, false, cond, List, [], ◌∷◌, ◌++◌, map, ℕ, suc, ◌≤◌, ◌<◌, length, get_or, take, drop, ltb}
-use Rattle.std.proofs.Common.{sym, ap, subst, ◌∙◌, arith, drop_of_length-le, drop-cons, ltb-true, ltb-false, lt-ltb}
+use Rattle.std.specs.Prelude.{◌≡◌, refl, Bool, true, false, cond, is_some, List, [], ◌∷◌, ℕ, zero, suc, take, drop, eqb}
+use Rattle.std.specs.Prelude.{Option, Some, None}
+use Rattle.std.specs.Prelude.{Ok}
+use Rattle.std.proofs.Common.{sym, ap, subst, ◌∙◌, eqb-true, eq-eqb, ne_eqb}
+use Rattle.std.proofs.lemmas.Bool.{false≢true}
 use Rattle.spec_token.specs.declared.Kind.{Kind}
-use Rattle.spec_grammar.specs.declared.Role.{Role}
-use Rattle.spec_grammar.specs.Reader.{Stack, Step, step, may_end}
-use Rattle.load_tokens.specs.Arrays.{kind_of_number, role_of_number}
-use Rattle.load_elements.specs.declared.Cursor.{Cursor}
-use Rattle.load_elements.specs.declared.Cursor.TheVariants as cursor
-use Rattle.load_elements.specs.Parse.{Parsed, parsed, stopped_at, parse_step, parse_from}
-use Rattle.load_elements.specs.Reads.{kind_code, kind_at, parse_at, Leads}
-use Rattle.load_elements.specs.laws.Kinds.{kind_code_same, kind_code_low, kind_here, kind_end, kind_low}
-use Rattle.load_elements.specs.laws.Cases.{Each, chosen, none_of, NotAny, none_of_true}
+use Rattle.spec_grammar.specs.Codes.{kind_number}
+use Rattle.spec_grammar.specs.Reader.{Stack, step, may_end}
+use Rattle.load_tokens.specs.declared.Token.{Token}
+use Rattle.load_tokens.specs.Names.{is_name}
+use Rattle.load_elements.specs.declared.Parser.{Parser}
+use Rattle.load_tokens.specs.Arrays.{kind_of_number}
+use Rattle.load_tokens.specs.laws.Arrays.{kind_back}
+use Rattle.load_elements.specs.Parse.{Parsed, parse_from}
+use Rattle.load_elements.specs.Reads.{kinds_of, roles_of, kind_of, kind_at, is_next, name_of, parse_on, parse_at, Leads}
+use Rattle.load_elements.specs.laws.Cases.{Each, chosen}
 
--- two stacks do the same at a token of number x, and at the end, 14
-abbrev SameStepAt : Bool → Stack → Stack → ℕ → Type 0
-SameStepAt true a b x = step a (kind_of_number x) ≡ step b (kind_of_number x)
-SameStepAt false a b x = may_end a ≡ may_end b
+-- two stacks do the same at a kind, and at the end
+abbrev pub SameStep : Stack → Stack → Option Kind → Type 0
+SameStep a b None = may_end a ≡ may_end b
+SameStep a b (Some x) = step a x ≡ step b x
 
-abbrev pub SameStep : Stack → Stack → ℕ → Type 0
-SameStep a b x = SameStepAt (ltb x 14) a b x
+-- the kinds from a token on
+pub here : (ts : List Token) (i : ℕ) {x : Kind} → kind_of ts i ≡ Some x → kinds_of (drop i ts) ≡ x ∷ kinds_of (drop (suc i) ts)
+here [] i e = absurd (cc e)
+here (t ∷ ts) zero {x} e = let g : t.kind ≡ x = cc e in ap (λ (y : Kind). y ∷ kinds_of ts) g
+here (t ∷ ts) (suc i) e = here ts i e
 
--- one token parsed, where it stands
-pub one_step :
-    (kinds : List ℕ) (roles : List Role) (p : ℕ) (a : Stack) → p < length kinds
-    → parse_from a p roles (drop p kinds)
-    ≡ parse_step (step a (kind_of_number (get_or kinds p 0))) p (λ j r. parse_from j (suc p) (roles ++ (r ∷ [])) (drop (suc p) kinds))
-unfolding parse_from
-one_step kinds roles p a h = rw (drop-cons kinds p 0 h)
+pub at_end : (ts : List Token) (i : ℕ) → kind_of ts i ≡ None → kinds_of (drop i ts) ≡ []
+at_end [] zero e = refl
+at_end [] (suc i) e = refl
+at_end (t ∷ ts) zero e = absurd (cc e)
+at_end (t ∷ ts) (suc i) e = at_end ts i e
 
-pub at_end :
-    (kinds : List ℕ) (roles : List Role) (p : ℕ) (a : Stack) → length kinds ≤ p
-    → parse_from a p roles (drop p kinds) ≡ cond (may_end a) (parsed roles) (stopped_at p)
-unfolding parse_from
-at_end kinds roles p a h = rw (drop_of_length-le kinds h)
+pub next_some : (y : Kind) (n : Option Kind) → is_next y n ≡ true → n ≡ Some y
+next_some y None e = absurd (cc e)
+next_some y (Some x) e =
+    ap (λ (k : Kind). Some k) (sym (kind_back x) ∙ ap kind_of_number (eqb-true (kind_number x) (kind_number y) e) ∙ kind_back y)
 
-same_parse : (kinds roles : List ℕ) (s : Cursor) (a b : Stack) → SameStep a b (kind_at kinds s) → parse_at kinds roles s a ≡ parse_at kinds roles s b
-unfolding parse_at
-same_parse kinds roles (cursor.Stopped i) a b h = refl
-same_parse kinds roles (cursor.At p) a b h = go (ltb p (length kinds)) refl (map role_of_number (take p roles))
+same_parse : (ts : List Token) (i : ℕ) (a b : Stack) → SameStep a b (kind_of ts i) → parse_on ts i a ≡ parse_on ts i b
+unfolding parse_on parse_from
+same_parse ts i a b h = go (kind_of ts i) refl h
   where
-    go : (t : Bool) → ltb p (length kinds) ≡ t → (done : List Role) → parse_from a p done (drop p kinds) ≡ parse_from b p done (drop p kinds)
-    go true e done =
-        let lt = ltb-true p (length kinds) e in
-        let x = get_or kinds p 0 in
-        let g : step a (kind_of_number (kind_code x)) ≡ step b (kind_of_number (kind_code x)) =
-        subst (λ (t : Bool). SameStepAt t a b (kind_code x)) (lt-ltb (kind_code x) 14 (kind_code_low x)) (subst (SameStep a b) (kind_here kinds p lt) h) in
-        let f : step a (kind_of_number x) ≡ step b (kind_of_number x) = subst (λ (y : Kind). step a y ≡ step b y) (kind_code_same x) g in
-        one_step kinds done p a lt
-        ∙ ap (λ (y : Step). parse_step y p (λ j r. parse_from j (suc p) (done ++ (r ∷ [])) (drop (suc p) kinds))) f
-        ∙ sym (one_step kinds done p b lt)
-    go false e done =
-        let ge = ltb-false p (length kinds) e in
-        let g : may_end a ≡ may_end b = subst (SameStep a b) (kind_end kinds p ge) h in
-        at_end kinds done p a ge ∙ ap (λ (y : Bool). cond y (parsed done) (stopped_at p)) g ∙ sym (at_end kinds done p b ge)
+    go : (n : Option Kind) → kind_of ts i ≡ n → SameStep a b n
+        → parse_from a i (roles_of (take i ts)) (kinds_of (drop i ts)) ≡ parse_from b i (roles_of (take i ts)) (kinds_of (drop i ts))
+    go None e g = rw (at_end ts i e, g)
+    go (Some x) e g = rw (here ts i e, g)
 
--- nothing is read, or one part and then another
-module _ {kinds roles : List ℕ} {s : Cursor} {a : Stack} where
-  pub unread : Leads kinds roles s a (parse_at kinds roles s a)
-  unread = record { same = refl }
+pub next_is : (y : Kind) (n : Option Kind) {t : Bool} → t ≡ is_next y n → t ≡ true → Some y ≡ n
+next_is y n e h = sym (next_some y n (sym e ∙ h))
 
-  pub then :
-      {roles' : List ℕ} {s' : Cursor} {b : Stack} {x : Parsed}
-      → Leads kinds roles s a (parse_at kinds roles' s' b) → Leads kinds roles' s' b x → Leads kinds roles s a x
-  then v w = record { same = v.same ∙ w.same }
+-- a name stands next
+pub next_name : (y : Kind) (n : Option Kind) → Some y ≡ name_of n → Some y ≡ n
+next_name y None e = absurd (cc e)
+next_name y (Some x) e = go (is_name (kind_number x)) e
+  where
+    go : (b : Bool) → Some y ≡ cond b (Some x) None → Some y ≡ Some x
+    go true g = g
+    go false g = absurd (cc g)
 
-  pub then_equal : {x y : Parsed} → Leads kinds roles s a x → x ≡ y → Leads kinds roles s a y
-  then_equal v e = record { same = v.same ∙ e }
+pub named : (y : Kind) (n : Option Kind) → Some y ≡ name_of n → is_some (name_of (Some y)) ≡ true
+named y n e = ap is_some (ap name_of (next_name y n e) ∙ sym e)
 
-  pub equal_then :
-      {roles' : List ℕ} {s' : Cursor} {b : Stack} {x z : Parsed}
-      → Leads kinds roles' s' b z → Leads kinds roles s a x → x ≡ parse_at kinds roles' s' b → Leads kinds roles s a z
-  equal_then w v e = record { same = v.same ∙ e ∙ w.same }
+-- the same kind, as the step tests it
+pub not_next : (y : Kind) (x : Kind) → is_next y (Some x) ≡ false → eqb (kind_number y) (kind_number x) ≡ false
+not_next y x e =
+    ne_eqb (kind_number y) (kind_number x) (λ q. let g : eqb (kind_number x) (kind_number y) ≡ true = eq-eqb _ _ (sym q) in absurd (false≢true (sym e ∙ g)))
 
--- the kind x stands next, and a takes the same step there as another stack
-module _ {kinds roles : List ℕ} {s : Cursor} {a : Stack} {z : Parsed} {x : ℕ} where
-  -- x is y
-  pub at : (y : ℕ) {b : Stack} → x ≡ kind_at kinds s → x ≡ y → Leads kinds roles s b z → SameStep a b y → Leads kinds roles s a z
-  at y {b} e h v w = record { same = same_parse kinds roles s a b (subst (SameStep a b) (sym h ∙ e) w) ∙ v.same }
+module _ {p : Parser} {a : Stack} where
+  -- one part and then another
+  pub leads_on : {p' : Parser} {b : Stack} {x : Parsed} → Leads p a (parse_at p' (Ok tt) b) → Leads p' b x → Leads p a x
+  unfolding parse_at
+  leads_on v w = record { same = v.same ∙ w.same }
 
-  -- x passes a test
-  pub when :
-      (f : ℕ → Bool) (b : ℕ → Stack) → x ≡ kind_at kinds s → f x ≡ true
-      → Leads kinds roles s (b x) z → Each f (λ n. SameStep a (b n) n) → Leads kinds roles s a z
-  when f b e h v w =
-      let low : x < 15 = omega (arith, kind_low kinds s) in
-      record { same = same_parse kinds roles s a (b x) (subst (SameStep a (b x)) e (chosen f (λ n. SameStep a (b n) n) w x low h)) ∙ v.same }
+  -- the kind that stands next is known, or passes a test
+  pub leads_next : {z : Parsed} {x : Option Kind} {b : Stack} → x ≡ kind_at p → Leads p b z → SameStep a b x → Leads p a z
+  leads_next {b = b} e v w = record { same = same_parse p.tokens.now p.at a b (subst (SameStep a b) e w) ∙ v.same }
 
-  -- x passes a test, and y is the kind that must stand there
-  pub when_as :
-      (f : ℕ → Bool) (g : ℕ → ℕ) (b : ℕ → Stack) {y : ℕ} → x ≡ kind_at kinds s → f x ≡ true
-      → y ≡ g x → Leads kinds roles s (b y) z → Each f (λ n. SameStep a (b (g n)) n) → Leads kinds roles s a z
-  when_as f g b e h q v w = when f (λ n. b (g n)) e h (subst (λ (n : ℕ). Leads kinds roles s (b n) z) q v) w
-
-  -- x is none of ys
-  pub unless_any :
-      (ys : List ℕ) {b : Stack} → x ≡ kind_at kinds s → NotAny ys x
-      → Leads kinds roles s b z → Each (none_of ys) (λ n. SameStep a b n) → Leads kinds roles s a z
-  unless_any ys {b} e h v w = when (none_of ys) (λ n. b) e (none_of_true ys x h) v w
-
-  -- x is not y
-  pub unless :
-      (y : ℕ) {b : Stack} → x ≡ kind_at kinds s → (x ≡ y → ⊥)
-      → Leads kinds roles s b z → Each (none_of (y ∷ [])) (λ n. SameStep a b n) → Leads kinds roles s a z
-  unless y e h v w = unless_any (y ∷ []) e (h, tt) v w
+  pub leads_when :
+      {z : Parsed} (f : Option Kind → Bool) {x : Option Kind} {b : Stack} → x ≡ kind_at p → f x ≡ true
+      → Leads p b z → Each f (λ n. SameStep a b n) → Leads p a z
+  leads_when f {x} {b} e h v w = leads_next e v (chosen f (λ n. SameStep a b n) w x h)

@@ -1,14 +1,20 @@
-use Prim.Native.Nat.{◌-◌}
-use native.Mathlib.Omega.{arith}
+use Rattle.std.proofs.Common.{arith}
+use Rattle.spec_grammar.specs.Codes.{role_number}
+use Rattle.load_tokens.specs.Views.{roles}
+use Rattle.load_tokens.specs.laws.Same.{says, says_other}
 use Rattle.load_spans.specs.laws.Roles.{tally_hit, tally_miss, tally_none}
 use Rattle.load_flags.proofs.count.Goals as goal
-use Rattle.load_flags.proofs.count.Goals.{then-roles-i, else-roles-i}
+use Rattle.load_flags.proofs.count.Goals.{then-eq, else-eq}
 
 pub loop-i-preserved : goal.loop-i-preserved
-loop-i-preserved c = let a = c.args in
-    let loop = c.loop-i in
-    elim c.if-roles-i.branch [ then-roles-i w ↦ omega (arith, loop.invariant.0, tally_hit a.m a.roles.now loop.i a.to c.loop-i-test.true w.if-roles-i.true) | else-roles-i w ↦ omega (arith, loop.invariant.0, tally_miss a.m a.roles.now loop.i a.to c.loop-i-test.true w.if-roles-i.false) ]
+loop-i-preserved c =
+    let ts = c.args.t.now.list.now in
+    let i = c.loop-i.i in
+    let q = role_number c.args.role in
+    elim c.if-eq.branch [
+      | then-eq w ↦ omega (arith, c.loop-i.invariant.0, tally_hit q (roles ts) i c.args.to c.loop-i-test.true (says ts i c.args.role c.eq.ensures w.if-eq.true))
+      | else-eq w ↦ omega (arith, c.loop-i.invariant.0, tally_miss q (roles ts) i c.args.to c.loop-i-test.true (says_other ts i c.args.role c.eq.ensures w.if-eq.false))
+    ]
 
 pub returns : goal.returns
-returns c = let a = c.args in
-    omega (arith, c.loop-i.invariant.0, tally_none a.m a.roles.now c.loop-i.i a.to c.loop-i-test.false)
+returns c = omega (arith, c.loop-i.invariant.0, tally_none (role_number c.args.role) (roles c.args.t.now.list.now) c.loop-i.i c.args.to c.loop-i-test.false)

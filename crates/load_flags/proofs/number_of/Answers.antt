@@ -1,20 +1,11 @@
-use mathlib.Core.Path.{sym, ◌∙◌}
-use native.Mathlib.Omega.{arith}
-use lib.ListN.{length-map}
-use Rattle.load_spans.specs.Spans.{text_at}
-use Rattle.load_flags.specs.Tokens.{texts_at}
-use Rattle.load_flags.specs.laws.Numbers.{numbered_here, numbered_out}
+use Rattle.load_spans.specs.Spans.{text_of}
+use Rattle.load_flags.specs.laws.Numbers.{numbered_or}
 use Rattle.load_flags.proofs.number_of.Goals as goal
 
-pub returns-then-k-names : goal.returns-then-k-names
-returns-then-k-names c = let a = c.args in
-    c.position-k.ensures
-    ∙ sym
-    (numbered_here (text_at a.s.now a.starts.now a.ends.now a.i) (texts_at a.s.now a.starts.now a.ends.now a.names.now)
-    (omega (arith, c.if-k-names.true, c.position-k.ensures, length-map a.names.now (text_at a.s.now a.starts.now a.ends.now))))
-
-pub returns-else-k-names : goal.returns-else-k-names
-returns-else-k-names c = let a = c.args in
-    sym
-    (numbered_out (text_at a.s.now a.starts.now a.ends.now a.i) (texts_at a.s.now a.starts.now a.ends.now a.names.now)
-    (omega (arith, c.if-k-names.false, c.position-k.ensures, length-map a.names.now (text_at a.s.now a.starts.now a.ends.now))))
+pub returns : goal.returns
+returns c =
+    let at = text_of c.args.t.now.text.now c.args.t.now.list.now in
+    let e = numbered_or at (at c.args.i) c.args.names.now in
+    let h = c.position.ensures in
+    let g = c.unwrap_or.ensures in
+    cc

@@ -1,37 +1,44 @@
-use native.Mathlib.Omega.{arith}
-use mathlib.Core.Path.{sym}
-use Prim.Native.Nat.{◌-◌}
-use lib.Seq.{length-take-le}
-use Rattle.load_spans.specs.laws.Spans.{span_fits_at}
-use Rattle.load_spans.specs.laws.Listed.{listed_few, listed_names, listed_length, listed_spans_fit}
-use Rattle.load_spans.specs.laws.Search.{search_first, search_none}
-use Rattle.load_groups.specs.laws.Undefined.{undefined_found, defined_on, other_on}
+use Rattle.std.proofs.Common.{rules, ◌≡◌, ◌&&◌, ◌∙◌, sym, length, take, get_or, position, is_none}
+use Rattle.std.proofs.Math.Seq.{length-take-le}
+use Rattle.spec_lists.specs.Text.{same}
+use Rattle.spec_grammar.specs.Codes.{same_role}
+use Rattle.spec_file.specs.Refusal.{undefined}
+use Rattle.load_tokens.specs.Views.{blank}
+use Rattle.load_spans.specs.Spans.{AmongTokens, text_of}
+use Rattle.load_spans.specs.laws.Tokens.{sought}
+use Rattle.load_groups.specs.laws.Undefined.{defined_room, defined_among, undefined_tells}
 use Rattle.load_groups.proofs.undefined.Goals as goal
-use Rattle.load_groups.proofs.undefined.Goals.{then-roles-i+else-k-position, else-roles-i}
 
-pub collect-k-requires : goal.collect-k-requires
-collect-k-requires c = omega (arith, c.requires.spans_fit.0.few, c.requires.spans_fit.0.has_roles)
+pub slice_bounds-defined-end : goal.slice_bounds-defined-end
+slice_bounds-defined-end c =
+    let r = c.requires.role_code in
+    defined_room c.args.t.now.text.now c.args.t.now.list.now c.args.named c.args.defining r.0 r.1 r.2 c.collect-k.ensures c.requires.room
 
-pub loop-i-init : goal.loop-i-init
-loop-i-init c = search_first _ _ _ _ _ _
+pub slice_bounds-defined-end-2 : goal.slice_bounds-defined-end-2
+slice_bounds-defined-end-2 c =
+    let r = c.requires.role_code in
+    sym
+    (length-take-le _ _
+    (defined_room c.args.t.now.text.now c.args.t.now.list.now c.args.named c.args.defining r.0 r.1 r.2 c.collect-k.ensures c.requires.room))
 
-pub bounds-roles-i : goal.bounds-roles-i
-bounds-roles-i c = omega (arith, c.requires.spans_fit.0.has_roles)
-
-pub slice_bounds-position-end : goal.slice_bounds-position-end
-slice_bounds-position-end c = omega (arith, listed_few c.collect-k.ensures, listed_length c.collect-k.ensures, c.requires.spans_fit.1)
-
-pub slice_bounds-position-end-then-roles-i : goal.slice_bounds-position-end-then-roles-i
-slice_bounds-position-end-then-roles-i c = sym (length-take-le _ _ (omega (arith, listed_few c.collect-k.ensures, listed_length c.collect-k.ensures, c.requires.spans_fit.1)))
-
-pub position-requires : goal.position-requires
-position-requires c = (span_fits_at c.loop-i-test.true c.requires.spans_fit.0, rw (listed_names c.collect-k.ensures (omega (arith, listed_few c.collect-k.ensures, c.requires.spans_fit.1))) (listed_spans_fit c.args.defining c.requires.spans_fit.0))
-
-pub returns-then-k-position : goal.returns-then-k-position
-returns-then-k-position c = undefined_found _ _ _ _ _ _ _ c.requires.role_code.0 c.requires.role_code.1 c.requires.role_code.2 c.collect-k.ensures c.requires.spans_fit.1 c.loop-i-test.true c.if-roles-i.true (omega (arith, c.position.ensures, c.if-k-position.true)) c.loop-i.invariant
-
-pub loop-i-preserved : goal.loop-i-preserved
-loop-i-preserved c = elim c.if-roles-i.branch [ then-roles-i+else-k-position w ↦ defined_on _ _ _ _ _ _ _ c.requires.role_code.0 c.requires.role_code.1 c.requires.role_code.2 c.collect-k.ensures c.requires.spans_fit.1 c.loop-i-test.true w.if-roles-i.true (omega (arith, w.position.ensures, w.if-k-position.false)) c.loop-i.invariant | else-roles-i w ↦ other_on _ _ _ _ _ _ c.args.defining c.requires.role_code.0 c.loop-i-test.true w.if-roles-i.false c.loop-i.invariant ]
+pub first-requires : goal.first-requires
+first-requires c =
+    let r = c.requires.role_code in
+    let p : AmongTokens (take c.collect-k.result c.collect-k.new.names) (length c.args.t.now.list.now) =
+    defined_among c.args.t.now.text.now c.args.t.now.list.now c.args.named c.args.defining r.0 r.1 r.2 c.collect-k.ensures c.requires.room
+    in
+    λ i h. search (rules, p)
 
 pub returns : goal.returns
-returns c = search_none c.loop-i.invariant c.loop-i-test.false
+returns c =
+    let r = c.requires.role_code in
+    let s = c.args.t.now.text.now in
+    let ts = c.args.t.now.list.now in
+    sought (undefined c.args.named c.args.defining) s ts c.first.ensures
+    (λ i b h e.
+    let z :
+    b
+    ≡ (same_role (get_or ts i blank).role c.args.named
+    && is_none (position (λ name. same (text_of s ts name) (text_of s ts i)) (take c.collect-k.result c.collect-k.new.names))) = search rules
+    in
+    z ∙ undefined_tells s ts c.args.named c.args.defining r.0 r.1 r.2 c.collect-k.ensures c.requires.room i h)

@@ -1,16 +1,7 @@
-use Rattle.load_spans.specs.laws.Search.{search_first, search_found, search_on, search_none}
-use Prim.Native.Nat.{◌-◌}
-use mathlib.Core.Path.{sym, ◌∙◌}
+use Rattle.std.proofs.Common.{rules}
+use Rattle.spec_file.specs.Refusal.{bad_level}
+use Rattle.load_spans.specs.laws.Tokens.{sought}
 use Rattle.load_heads.proofs.bad_level.Goals as goal
 
-pub loop-i-init : goal.loop-i-init
-loop-i-init c = search_first _ _ _ _ _ _
-
-pub returns-then-bad_level_at : goal.returns-then-bad_level_at
-returns-then-bad_level_at c = search_found c.loop-i.invariant c.loop-i-test.true (sym c.bad_level_at.ensures ∙ c.if-bad_level_at.true)
-
-pub loop-i-preserved : goal.loop-i-preserved
-loop-i-preserved c = search_on c.loop-i.invariant c.loop-i-test.true (sym c.bad_level_at.ensures ∙ c.if-bad_level_at.false)
-
 pub returns : goal.returns
-returns c = search_none c.loop-i.invariant c.loop-i-test.false
+returns c = sought bad_level c.args.t.now.text.now c.args.t.now.list.now c.first.ensures (λ i b h e. search rules)

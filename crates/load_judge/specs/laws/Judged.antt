@@ -1,20 +1,19 @@
 -- From the syntax and the causes to the verdict on a text.
-use Rattle.std.specs.Prelude.{◌≡◌, List, ℕ, ◌≤◌, ◌<◌, length}
-use Rattle.std.proofs.Common.{sym, ap, ◌∙◌, arith, le-leb}
+use Rattle.std.specs.Prelude.{◌≡◌, List, ℕ, ◌≤◌, ◌<◌, length, take, Result, Ok, Err}
+use Rattle.std.specs.Result.{IsErrAnd}
+use Rattle.std.proofs.Common.{ap, ◌∙◌, arith, le-leb}
 use Rattle.std.proofs.lemmas.Bool.{lt-leb}
 use Rattle.spec_token.specs.Scanner.{scanned}
-use Rattle.load_tokens.specs.Arrays.{Arrays}
+use Rattle.std.proofs.Math.Seq.{length-take-le}
+use Rattle.load_tokens.specs.declared.Token.{Token}
 use Rattle.spec_file.specs.declared.Refusal.{Refusal}
 use Rattle.spec_file.specs.declared.Refusal.TheVariants.{FileTooLong}
 use Rattle.spec_file.specs.Limit.{most_bytes}
 use Rattle.spec_file.specs.Load.{refuse, by_tokens, verdict}
-use Rattle.load_spans.specs.Roles.{SpansFit}
-use Rattle.load_spans.specs.laws.Roles.{spans_fit_less}
-use Rattle.load_syntax.specs.declared.Judgment.{Judgment}
-use Rattle.load_syntax.specs.declared.Judgment.TheVariants.{Tokens, Refused}
 use Rattle.load_syntax.specs.Syntax.{count, open_verdict, Read}
-use Rattle.load_causes.specs.Cause.{JudgedTokens}
+use Rattle.load_causes.specs.Cause.{JudgedTokens, said, verdict_of}
 use Rattle.load_judge.specs.Judged.{Judged}
+use Rattle.load_judge.specs.laws.Taken.{FitsAll, fits_taken}
 
 verdict_short : (s : List ℕ) → length s ≤ most_bytes → verdict s ≡ by_tokens (length s) (scanned s)
 unfolding verdict
@@ -25,45 +24,41 @@ pub verdict_long : (s : List ℕ) → most_bytes < length s → verdict s ≡ re
 unfolding verdict
 verdict_long s h = rw (lt-leb (length s) most_bytes h)
 
-module _ {s : List ℕ} {a : Arrays} {roles : List ℕ} {r : Judgment} (l : Read s a roles r) where
-  -- the texts of the tokens lie in the file
-  spans_fit_each : SpansFit s a.starts a.ends roles (count r)
-  spans_fit_each =
-      record {
-        few = omega (arith, l.few, l.capacity.short);
-        short = l.capacity.short;
-        has_starts = omega (arith, l.few, l.capacity.room.starts);
-        has_ends = omega (arith, l.few, l.capacity.room.ends);
-        has_roles = omega (arith, l.few, l.capacity.role_room);
-        in_order = λ i g. (l.good i g).start;
-        inside = λ i g. (l.good i g).end;
-      }
+module _ {s : List ℕ} {ts : List Token} {r : Result ℕ (Refusal × ℕ)} (short : length s ≤ most_bytes) (l : Read s ts r) where
+  refused : {k : Refusal × ℕ} → verdict s ≡ refuse k.0 k.1 → Judged s ts (Err k)
+  refused e = record { same = e; short = short; few = omega arith; within = omega arith; good = λ i h. absurd (omega arith) }
 
-  -- what the causes ask for
-  pub causes_ready :
-      {n : ℕ} (seen : List ℕ) → r ≡ Tokens n → length s ≤ length seen
-      → SpansFit s a.starts a.ends roles n × (n ≤ length a.places) × (n ≤ length seen)
-  causes_ready {n} seen e h =
-      let f : n ≡ count r = sym (ap count e) in
-      (spans_fit_less (omega arith) spans_fit_each, omega (arith, l.few, l.capacity.room.places), omega (arith, l.few))
+  -- by 2 to 4
+  pub refused_early : {k : Refusal × ℕ} → r ≡ Err k → Judged s ts (Err k)
+  refused_early e = refused (verdict_short s short ∙ l.same ∙ ap (open_verdict s ts) e)
 
-  -- refused by 2 to 4
-  pub refused_early : {k : Refusal} {p : ℕ} → r ≡ Refused k p → Judged s a.places a.starts a.ends roles (Refused k p)
-  refused_early e =
-      record {
-        kinds = a.kinds;
-        same = verdict_short s l.capacity.short ∙ l.same ∙ ap (open_verdict s a roles) e;
-        spans = spans_fit_less (omega arith) spans_fit_each;
-        has_places = omega arith;
-      }
+  module _ {n : ℕ} (e : r ≡ Ok n) where
+    pub found_room : n ≤ length ts
+    found_room = omega (arith, ap count e, l.within)
 
-  -- judged by the causes
-  pub judged_late : {n : ℕ} {t : Judgment} → r ≡ Tokens n → JudgedTokens s a roles n t → Judged s a.places a.starts a.ends roles t
-  judged_late {n} {t} e j =
-      let f : n ≡ count r = sym (ap count e) in
-      record {
-        kinds = a.kinds;
-        same = verdict_short s l.capacity.short ∙ l.same ∙ ap (open_verdict s a roles) e ∙ j.same;
-        spans = spans_fit_less (omega (arith, j.few)) spans_fit_each;
-        has_places = omega (arith, j.few, l.few, l.capacity.room.places);
-      }
+    -- the tokens are a list of their own, no longer than the text
+    pub found_fit : FitsAll s (take n ts)
+    found_fit =
+        let k : count r ≡ n = ap count e in
+        fits_taken s ts n short (omega (arith, l.few)) found_room (rw k at l.good)
+
+    pub found_few : length (take n ts) ≤ length s
+    found_few = omega (arith, ap count e, l.few, length-take-le n ts found_room)
+
+    -- by the causes
+    by_cause : {t : Result (Unit {0}) (Refusal × ℕ)} → JudgedTokens s (take n ts) t → verdict s ≡ verdict_of (said s (take n ts)) t
+    by_cause j = verdict_short s short ∙ l.same ∙ ap (open_verdict s ts) e ∙ j.same
+
+    pub judged_accepted : {u : Unit {0}} → JudgedTokens s (take n ts) (Ok u) → Judged s ts (Ok n)
+    judged_accepted j =
+        let k : count r ≡ n = ap count e in
+        record { same = by_cause j; short = short; few = omega (arith, l.few); within = found_room; good = rw k at l.good }
+
+    pub judged_refused : {k : Refusal × ℕ} → JudgedTokens s (take n ts) (Err k) → Judged s ts (Err k)
+    judged_refused j = refused (by_cause j)
+
+-- a refusal that is handed on
+pub handed_on :
+    {s : List ℕ} {ts : List Token} {k : Refusal × ℕ} {r : Result ℕ (Refusal × ℕ)} → Judged s ts (Err k) → IsErrAnd r (λ y. y ≡ k) → Judged s ts r
+handed_on {r = Ok n} j e = absurd e
+handed_on {r = Err y} j e = rw e j

@@ -1,31 +1,25 @@
-use Rattle.load_elements.specs.laws.Tokens.{loop_begins}
-use Rattle.load_elements.specs.laws.Stacks.{then, when}
-use Rattle.load_elements.specs.laws.Kinds.{some_remain}
-use Rattle.load_elements.specs.Reads.{expected}
-use Rattle.spec_grammar.specs.Reader.{once, often, asg_item, no_role}
-use Rattle.spec_token.specs.declared.Kind.TheVariants as kind
-use borrow.Author.Tests.{lt-ltb, le-leb}
-use lib.Dec.{ltb, leb}
-use native.Mathlib.Omega.{arith}
-use mathlib.Core.List.{◌∷◌}
-use mathlib.Core.Path.{refl}
-use borrow.Author.Rules.{rules}
+use Rattle.std.proofs.Common.{refl, [], ◌∷◌}
+use Rattle.spec_token.specs.declared.Kind.TheVariants.{CloseBrace}
+use Rattle.spec_grammar.specs.Reader.{often, asg_item, no_role}
+use Rattle.load_elements.specs.laws.Tokens.{then, stops, at, unless, not_begun, goes_on_unless, ends}
 use Rattle.load_parse.proofs.asg_block.Goals as goal
 
-pub loop-roles-init : goal.loop-roles-init
-loop-roles-init c = loop_begins _ _ _ _
+pub returns-in_err-expect : goal.returns-in_err-expect
+returns-in_err-expect c = stops _ c.in_err-expect.ensures c.from_residual.ensures.1
 
-pub asg_item-at-requires-in-loop-roles : goal.asg_item-at-requires-in-loop-roles
-asg_item-at-requires-in-loop-roles c = omega (arith, c.loop-roles.invariant.long)
+pub returns-in_err-asg_item : goal.returns-in_err-asg_item
+returns-in_err-asg_item c = then c.in_ok-expect.ensures (stops _ c.in_err-asg_item.ensures c.from_residual-in_err-asg_item.ensures.1)
 
-pub loop-roles-smaller : goal.loop-roles-smaller
-loop-roles-smaller c = omega (arith, c.asg_item-at-in-loop-roles.ensures.less, some_remain c.args.kinds.now c.loop-roles.at c.kind_at.ensures (omega (arith, c.loop-roles-test.true)))
+pub loop-p-init : goal.loop-p-init
+loop-p-init c = not_begun _ _
 
-pub loop-roles-preserved : goal.loop-roles-preserved
-loop-roles-preserved c = record { leads = λ k. then (c.loop-roles.invariant.leads k) (when (λ n. ltb n 12) (λ n. once asg_item ∷ often asg_item ∷ no_role kind.CloseBrace ∷ k) c.kind_at.ensures (lt-ltb _ _ c.loop-roles-test.true) (c.asg_item-at-in-loop-roles.ensures.leads _) (refl, refl, refl, refl, refl, refl, refl, refl, refl, refl, refl, refl, tt, tt, tt)); long = omega (arith, c.loop-roles.invariant.long); less = omega (arith, c.loop-roles.invariant.less, c.asg_item-at-in-loop-roles.ensures.less) }
+pub loop-p-preserved : goal.loop-p-preserved
+loop-p-preserved c = goes_on_unless c.loop-p.invariant CloseBrace c.next_is.ensures c.loop-p-test.true c.in_ok-asg_item-2.ensures
+    (λ k. (refl, refl, refl, refl, refl, refl, refl, refl, refl, refl, refl, refl, tt, refl, refl))
 
-pub expect-requires : goal.expect-requires
-expect-requires c = (omega (arith, c.loop-roles.invariant.long), omega arith)
+pub returns-in_err-asg_item-2 : goal.returns-in_err-asg_item-2
+returns-in_err-asg_item-2 c = then c.in_ok-expect.ensures (then c.in_ok-asg_item.ensures (ends c.loop-p.invariant (unless CloseBrace c.next_is.ensures c.loop-p-test.true (stops (often asg_item ∷ no_role CloseBrace ∷ []) c.in_err-asg_item-2.ensures c.from_residual-in_err-asg_item-2.ensures.1)
+    (λ k. (refl, refl, refl, refl, refl, refl, refl, refl, refl, refl, refl, refl, tt, refl, refl)))))
 
 pub returns : goal.returns
-returns c = record { leads = λ k. then (c.expect-inside.ensures.leads _) (then (c.asg_item-at.ensures.leads _) (then (c.loop-roles.invariant.leads k) (when (λ n. leb 12 n) (λ n. expected 12 0 ∷ k) c.kind_at.ensures (le-leb _ _ c.loop-roles-test.false) (c.expect.ensures.leads k) (tt, tt, tt, tt, tt, tt, tt, tt, tt, tt, tt, tt, refl, refl, refl)))); scratch = search rules; less = omega (arith, c.loop-roles.invariant.less, c.expect-inside.ensures.less, c.asg_item-at.ensures.less, c.expect.ensures.less) }
+returns c = then c.in_ok-expect.ensures (then c.in_ok-asg_item.ensures (ends c.loop-p.invariant (at CloseBrace c.next_is.ensures c.loop-p-test.false c.expect-2.ensures (λ k. refl))))

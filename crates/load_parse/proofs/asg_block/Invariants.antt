@@ -1,12 +1,11 @@
-use Rattle.load_elements.specs.laws.Tokens.{Loops}
-use Rattle.load_elements.specs.Reads.{remaining}
+use Rattle.std.proofs.Common.{[], ◌∷◌}
+use Rattle.spec_token.specs.declared.Kind.TheVariants.{CloseBrace}
 use Rattle.spec_grammar.specs.Reader.{often, asg_item, no_role}
-use Rattle.spec_token.specs.declared.Kind.TheVariants as kind
-use mathlib.Core.List.{[], ◌∷◌}
+use Rattle.load_elements.specs.Reads.{left, Begun}
 use Rattle.load_parse.proofs.asg_block.Given as goal
 
-abbrev pub invariant-loop-roles : goal.invariant-loop-roles
-invariant-loop-roles l = Loops (often asg_item ∷ no_role kind.CloseBrace ∷ []) l.kinds l.initial.roles l.initial.at l.roles l.at
+abbrev pub invariant-loop-p : goal.invariant-loop-p
+invariant-loop-p l = Begun 0 (often asg_item ∷ no_role CloseBrace ∷ []) (often asg_item ∷ no_role CloseBrace ∷ []) l.initial.p l.p
 
-abbrev pub decreases-loop-roles : goal.decreases-loop-roles
-decreases-loop-roles l = remaining l.kinds l.at
+abbrev pub decreases-loop-p : goal.decreases-loop-p
+decreases-loop-p l = left l.p

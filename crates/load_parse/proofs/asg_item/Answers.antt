@@ -1,10 +1,10 @@
-use mathlib.Core.Path.{refl}
-use Rattle.load_elements.specs.laws.Stacks.{at, unless}
-use borrow.Author.Rules.{rules}
+use Rattle.std.proofs.Common.{refl}
+use Rattle.spec_token.specs.declared.Kind.TheVariants.{Inp}
+use Rattle.load_elements.specs.laws.Tokens.{at, unless}
 use Rattle.load_parse.proofs.asg_item.Goals as goal
 
-pub returns-then-kind_at-eq-INP : goal.returns-then-kind_at-eq-INP
-returns-then-kind_at-eq-INP c = record { leads = λ k. at 5 c.kind_at.ensures c.if-kind_at-eq-INP.true (c.named.ensures.leads k) refl; scratch = search rules; less = c.named.ensures.less }
+pub returns-then-next_is : goal.returns-then-next_is
+returns-then-next_is c = at Inp c.next_is.ensures c.if-next_is.true c.named.ensures (λ k. refl)
 
 pub returns : goal.returns
-returns c = record { leads = λ k. unless 5 c.kind_at.ensures c.if-kind_at-eq-INP.false (c.rule.ensures.leads k) (refl, refl, refl, refl, refl, tt, refl, refl, refl, refl, refl, refl, refl, refl, refl); scratch = search rules; less = c.rule.ensures.less }
+returns c = unless Inp c.next_is.ensures c.if-next_is.false c.rule.ensures (λ k. (refl, refl, refl, refl, refl, tt, refl, refl, refl, refl, refl, refl, refl, refl, refl))

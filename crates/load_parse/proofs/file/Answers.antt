@@ -1,25 +1,19 @@
-use Rattle.load_elements.specs.laws.Stacks.{unread, then, then_equal, when}
-use Rattle.load_elements.specs.laws.Kinds.{some_remain}
-use Rattle.load_parse.specs.laws.Answers.{whole, finished}
-use Rattle.spec_grammar.specs.Reader.{once, often, item}
-use borrow.Author.Tests.{lt-ltb}
-use lib.Dec.{ltb}
-use mathlib.Core.Path.{refl}
-use native.Mathlib.Omega.{arith}
-use mathlib.Core.List.{[], ◌∷◌}
+use Rattle.std.specs.Prelude.{is_some}
+use Rattle.std.proofs.Common.{sym, ap, ◌∙◌}
+use Rattle.load_parse.specs.laws.Answers.{items_begin, items_more, first_stops, later_stops, all_end}
 use Rattle.load_parse.proofs.file.Goals as goal
 
-pub loop-roles-init : goal.loop-roles-init
-loop-roles-init c = (unread, refl, omega arith)
+pub returns-in_err-item : goal.returns-in_err-item
+returns-in_err-item c = first_stops c.in_err-item.ensures c.from_residual.ensures.1
 
-pub item-at-requires-in-loop-roles : goal.item-at-requires-in-loop-roles
-item-at-requires-in-loop-roles c = omega (arith, c.loop-roles.invariant.1)
+pub loop-p-init : goal.loop-p-init
+loop-p-init c = items_begin _
 
-pub loop-roles-smaller : goal.loop-roles-smaller
-loop-roles-smaller c = omega (arith, c.item-at-in-loop-roles.ensures.less, some_remain c.args.kinds.now c.loop-roles.at c.kind_at.ensures (omega (arith, c.loop-roles-test.true)))
+pub loop-p-preserved : goal.loop-p-preserved
+loop-p-preserved c = items_more c.loop-p.invariant (ap is_some (sym c.kind.ensures) ∙ sym c.is_some.ensures ∙ c.loop-p-test.true) c.in_ok-item-2.ensures
 
-pub loop-roles-preserved : goal.loop-roles-preserved
-loop-roles-preserved c = (then c.loop-roles.invariant.0 (when (λ n. ltb n 14) (λ n. once item ∷ often item ∷ []) c.kind_at.ensures (lt-ltb _ _ c.loop-roles-test.true) (c.item-at-in-loop-roles.ensures.leads _) (refl, refl, refl, refl, refl, refl, refl, refl, refl, refl, refl, refl, refl, refl, tt)), omega (arith, c.loop-roles.invariant.1), omega (arith, c.loop-roles.invariant.2, c.item-at-in-loop-roles.ensures.less))
+pub returns-in_err-item-2 : goal.returns-in_err-item-2
+returns-in_err-item-2 c = later_stops c.in_ok-item.ensures c.loop-p.invariant (ap is_some (sym c.kind.ensures) ∙ sym c.is_some.ensures ∙ c.loop-p-test.true) c.in_err-item-2.ensures c.from_residual-in_err-item-2.ensures.1
 
 pub returns : goal.returns
-returns c = whole (then_equal (then (c.item-at.ensures.leads _) c.loop-roles.invariant.0) (finished c.args.kinds.now c.loop-roles.roles c.loop-roles.at c.kind_at.ensures c.loop-roles-test.false (omega (arith, c.loop-roles.invariant.1))))
+returns c = all_end c.in_ok-item.ensures c.loop-p.invariant (ap is_some (sym c.kind.ensures) ∙ sym c.is_some.ensures ∙ c.loop-p-test.false)

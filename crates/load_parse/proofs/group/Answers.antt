@@ -1,13 +1,13 @@
-use native.Mathlib.Omega.{arith}
-use Rattle.load_tokens.specs.Arrays.{role_of_number}
 use Rattle.spec_grammar.specs.Reader.{string_list}
+use Rattle.load_elements.specs.laws.Tokens.{then, stops}
 use Rattle.load_strings.specs.laws.Enclosed.{braces_come, no_braces_come}
-use Rattle.load_elements.specs.laws.Stacks.{then, unread}
-use borrow.Author.Rules.{rules}
 use Rattle.load_parse.proofs.group.Goals as goal
 
-pub returns-then-kind_at-ne-OPEN_BRACE : goal.returns-then-kind_at-ne-OPEN_BRACE
-returns-then-kind_at-ne-OPEN_BRACE c = λ p e. record { leads = λ k. then (c.named-at.ensures.leads _) (no_braces_come p (string_list (role_of_number c.args.member)) e c.kind_at.ensures c.if-kind_at-ne-OPEN_BRACE.true unread); scratch = search rules; less = c.named-at.ensures.less }
+pub returns-in_err-named : goal.returns-in_err-named
+returns-in_err-named c = λ x e. stops _ c.in_err-named.ensures c.from_residual.ensures.1
+
+pub returns-then-not-next_is : goal.returns-then-not-next_is
+returns-then-not-next_is c = λ x e. then c.in_ok-named.ensures (no_braces_come x (string_list c.args.member) e c.next_is.ensures c.if-not-next_is.true)
 
 pub returns : goal.returns
-returns c = λ p e. record { leads = λ k. then (c.named-at.ensures.leads _) (braces_come p (string_list (role_of_number c.args.member)) e c.kind_at.ensures c.if-kind_at-ne-OPEN_BRACE.false (c.strings_in.ensures.leads k)); scratch = search rules; less = omega (arith, c.named-at.ensures.less, c.strings_in.ensures.less) }
+returns c = λ x e. then c.in_ok-named.ensures (braces_come x (string_list c.args.member) e c.next_is.ensures c.if-not-next_is.false c.strings_in.ensures)

@@ -1,57 +1,73 @@
--- From all items read to the answer about the first n tokens.
-use Rattle.std.specs.Prelude.{◌≡◌, refl, Bool, true, false, List, [], ◌∷◌, ◌++◌, map, ℕ, ◌≤◌, length, get_or, take, drop, ltb}
-use Rattle.std.proofs.Common.{sym, ap, ◌∙◌, arith, take_all, take_at, drop_at, length-take-le, ltb-true, ltb-false}
-use Rattle.spec_grammar.specs.Reader.{start, often, item}
-use Rattle.load_tokens.specs.Arrays.{role_of_number}
-use Rattle.load_elements.specs.declared.Cursor.{Cursor}
-use Rattle.load_elements.specs.declared.Cursor.TheVariants as cursor
-use Rattle.load_elements.specs.Parse.{Parsed, parsed, parse_from, parse}
-use Rattle.load_elements.specs.Reads.{kind_at, parse_at, Leads}
-use Rattle.load_elements.specs.laws.Kinds.{kind_here, kind_code_low}
-use Rattle.load_elements.specs.laws.Stacks.{at_end}
-use Rattle.load_parse.specs.declared.ParseEnd.{ParseEnd}
-use Rattle.load_parse.specs.declared.ParseEnd.TheVariants as outcome
-use Rattle.load_parse.specs.Reads.{ended, answered, Answers}
-
--- all was read from the start on
-pub whole : {kinds roles : List ℕ} {x : Parsed} → Leads kinds roles (cursor.At 0) start x → parse kinds ≡ x
-unfolding parse_at parse
-whole v = v.same
+-- From all items read to the answer about the tokens.
+use Rattle.std.specs.Prelude.{◌≡◌, refl, true, false, is_some, List, [], ◌∷◌, ℕ, zero, suc, ◌≤◌, length, Option, Some, None, Result, Ok, Err, IsErrAnd}
+use Rattle.std.proofs.Common.{sym, ap, ◌∙◌, arith, take_all}
+use Rattle.spec_token.specs.declared.Kind.{Kind}
+use Rattle.spec_grammar.specs.Reader.{once, often, item}
+use Rattle.load_tokens.specs.declared.Token.{Token}
+use Rattle.load_elements.specs.declared.Parser.{Parser}
+use Rattle.load_elements.specs.Parse.{parsed, stopped_at, parse_from, parse}
+use Rattle.load_elements.specs.Reads.{roles_of, kind_of, kind_at, parse_on, parse_at, Leads, Reads}
+use Rattle.load_elements.specs.laws.Stacks.{at_end, leads_when}
+use Rattle.load_parse.specs.Reads.{Items, Ends, Answers}
 
 -- no token stands there any more
-pub finished :
-    (kinds roles : List ℕ) (s : Cursor) {x : ℕ} → x ≡ kind_at kinds s → 14 ≤ x → length roles ≡ length kinds
-    → parse_at kinds roles s (often item ∷ []) ≡ ended roles s
+no_more : (ts : List Token) (i : ℕ) → kind_of ts i ≡ None → length ts ≤ i
+no_more [] i e = omega arith
+no_more (t ∷ ts) zero e = absurd (cc e)
+no_more (t ∷ ts) (suc i) e = let h = no_more ts i e in omega arith
+
+finished : (ts : List Token) (i : ℕ) → kind_of ts i ≡ None → parse_on ts i (often item ∷ []) ≡ parsed (roles_of ts)
+unfolding parse_on parse_from
+finished ts i e = rw (at_end ts i e, take_all i ts (no_more ts i e))
+
+none_of_some : (x : Option Kind) → is_some x ≡ false → x ≡ None
+none_of_some None e = refl
+none_of_some (Some k) e = absurd (cc e)
+
+pub items_begin : (p : Parser) → Items p p
+items_begin p = record { same = refl; others = refl; lent = refl }
+
+another : {p p' : Parser} {d : ℕ} → is_some (kind_at p) ≡ true → Reads d (once item ∷ []) p p' (Ok tt) → Leads p (often item ∷ []) (parse_at p' (Ok tt) (often item ∷ []))
+another h w =
+    leads_when is_some refl h (w.leads (often item ∷ [])) (refl, refl, refl, refl, refl, refl, refl, refl, refl, refl, refl, refl, refl, refl, tt)
+
+pub items_more : {p₀ p p' : Parser} {d : ℕ} → Items p₀ p → is_some (kind_at p) ≡ true → Reads d (once item ∷ []) p p' (Ok tt) → Items p₀ p'
 unfolding parse_at
-finished kinds roles (cursor.Stopped i) e h n = refl
-finished kinds roles (cursor.At p) {x} e h n = go (ltb p (length kinds)) refl
-  where
-    go :
-        (t : Bool) → ltb p (length kinds) ≡ t
-        → parse_from (often item ∷ []) p (map role_of_number (take p roles)) (drop p kinds) ≡ parsed (map role_of_number roles)
-    go true q = absurd (omega (arith, kind_here kinds p (ltb-true p (length kinds) q), kind_code_low (get_or kinds p 0)))
-    go false q =
-        let ge = ltb-false p (length kinds) q in
-        at_end kinds (map role_of_number (take p roles)) p (often item ∷ []) ge
-        ∙ ap (λ (l : List ℕ). parsed (map role_of_number l)) (take_all p roles (omega arith))
+items_more v h w = record { same = v.same ∙ (another h w).same; others = w.others ∙ v.others; lent = w.lent ∙ v.lent }
 
--- the first n kinds and roles, lent
-module _ (kinds roles part : List ℕ) (n : ℕ) (h : n ≤ length roles) (l : length part ≡ length (take n roles)) where
-  front : length part ≡ n
-  front = l ∙ length-take-le n roles h
+-- the first item stops
+pub first_stops :
+    {d i : ℕ} {p p' : Parser} {r : Result Unit ℕ} → Reads d (once item ∷ []) p p' (Err i) → IsErrAnd r (λ y. y ≡ i) → Ends p p' r
+unfolding parse_at
+first_stops {r = Ok u} v e = absurd e
+first_stops {r = Err y} v e =
+    record { answer = (v.leads (often item ∷ [])).same ∙ ap stopped_at (sym e); others = v.others; lent = v.lent }
 
-  answers_as : (r : ParseEnd) → parse (take n kinds) ≡ answered part r → Answers kinds n roles (part ++ drop n roles) r
-  answers_as r e = record {
-    answer = e ∙ ap (λ (x : List ℕ). answered x r) (sym (take_at part (drop n roles) n front));
-    scratch = ap length (take_at part (drop n roles) n front) ∙ l;
-    rest = drop_at part (drop n roles) n front;
-  }
+-- an item was read, and others behind it
+module _ {d : ℕ} {p q p' : Parser} (v : Reads d (once item ∷ []) p q (Ok tt)) (w : Items q p') where
+  pub all_end : is_some (kind_at p') ≡ false → Ends p p' (Ok tt)
+  unfolding parse_at
+  all_end h =
+      record {
+        answer = (v.leads (often item ∷ [])).same ∙ w.same ∙ finished p'.tokens.now p'.at (none_of_some (kind_at p') h);
+        others = w.others ∙ v.others;
+        lent = w.lent ∙ v.lent;
+      }
 
-  pub answers_file :
-      {s : Cursor} {p : ℕ} → parse (take n kinds) ≡ ended part s → s ≡ cursor.At p → Answers kinds n roles (part ++ drop n roles) outcome.File
-  answers_file e q = answers_as outcome.File (e ∙ ap (ended part) q)
+  pub later_stops :
+      {e i : ℕ} {p'' : Parser} {r : Result Unit ℕ} → is_some (kind_at p') ≡ true → Reads e (once item ∷ []) p' p'' (Err i)
+      → IsErrAnd r (λ y. y ≡ i) → Ends p p'' r
+  unfolding parse_at
+  later_stops {r = Ok u} h x f = absurd f
+  later_stops {r = Err y} h x f =
+      let l = leads_when is_some refl h (x.leads (often item ∷ [])) (refl, refl, refl, refl, refl, refl, refl, refl, refl, refl, refl, refl, refl, refl, tt) in
+      record {
+        answer = (v.leads (often item ∷ [])).same ∙ w.same ∙ l.same ∙ ap stopped_at (sym f);
+        others = x.others ∙ (w.others ∙ v.others);
+        lent = x.lent ∙ (w.lent ∙ v.lent);
+      }
 
-  pub answers_stopped :
-      {s : Cursor} {i : ℕ} → parse (take n kinds) ≡ ended part s → s ≡ cursor.Stopped i
-      → Answers kinds n roles (part ++ drop n roles) (outcome.Stopped i)
-  answers_stopped {i = i} e q = answers_as (outcome.Stopped i) (e ∙ ap (ended part) q)
+-- the parser stood before the first token, and its tokens are those that were lent
+pub answers : {p p' : Parser} {ts' : List Token} {r : Result Unit ℕ} → Ends p p' r → p.at ≡ 0 → ts' ≡ p'.tokens.now → Answers p.tokens.now ts' r
+unfolding parse parse_on
+answers v e f = record { answer = rw f (rw e at v.answer); others = rw f v.others }

@@ -1,33 +1,30 @@
-use Prim.Native.Nat.{◌-◌}
-use native.Mathlib.Omega.{arith}
+use Rattle.std.proofs.Common.{arith}
+use Rattle.spec_grammar.specs.declared.Role.TheVariants.{RuleWord}
+use Rattle.load_tokens.specs.laws.Same.{says, says_other}
+use Rattle.load_spans.specs.laws.Tokens.{fits}
 use Rattle.load_records.specs.laws.Bounds.{bounded_more}
 use Rattle.load_passes.specs.laws.Loops.{rules_end, rules_hit, rules_miss, rules_start}
 use Rattle.load_passes.proofs.references.Goals as goal
-use Rattle.load_passes.proofs.references.Goals.{then-roles-i-eq-RULE_WORD, else-roles-i-eq-RULE_WORD}
+use Rattle.load_passes.proofs.references.Goals.{then-eq, else-eq}
 
 pub loop-i-init : goal.loop-i-init
-loop-i-init c = rules_start _ _ _ _ _ _ _ _ _ _ _ c.requires.1
+loop-i-init g c = rules_start _ _ _ _ _ _ _ _ _ _ _ c.requires.bounded
 
-pub bounds-roles-i : goal.bounds-roles-i
-bounds-roles-i c = omega (arith, c.requires.0.spans.has_roles)
-
-pub rule_references-p-requires : goal.rule_references-p-requires
-rule_references-p-requires c = let pre = c.requires in (
-  pre.0,
-  bounded_more (omega (arith, pre.0.spans.few)) c.loop-i.invariant.bounded,
-  c.loop-i-test.true,
-)
-
-pub overflow_add-i : goal.overflow_add-i
-overflow_add-i c = omega (arith, c.requires.0.spans.few)
-
-pub loop-i-smaller : goal.loop-i-smaller
-loop-i-smaller c = omega arith
+pub rule_references-p-requires-clause-bounded : goal.rule_references-p-requires-clause-bounded
+rule_references-p-requires-clause-bounded g c = bounded_more (omega (arith, c.args.tokens.now.few)) c.loop-i.invariant.bounded
 
 pub loop-i-preserved : goal.loop-i-preserved
-loop-i-preserved c = let h = c.loop-i.invariant in
+loop-i-preserved g c =
+    let t = c.args.tokens.now in
+    let i = c.loop-i.i in
+    let h = c.loop-i.invariant in
     let go = c.loop-i-test.true in
-    elim c.if-roles-i-eq-RULE_WORD.branch [ then-roles-i-eq-RULE_WORD w ↦ rw (w.lent-is, w.p-is) (rules_hit _ _ _ _ _ _ _ _ _ _ _ c.requires.0.spans go w.if-roles-i-eq-RULE_WORD.true h w.rule_references-p.ensures) | else-roles-i-eq-RULE_WORD w ↦ rw (w.lent-is, w.p-is) (rules_miss _ _ _ _ _ _ _ _ _ _ _ go w.if-roles-i-eq-RULE_WORD.false h) ]
+    elim c.if-eq.branch [
+      | then-eq w ↦
+          rw (w.lent-is, w.p-is)
+          (rules_hit _ _ _ _ _ _ _ _ _ _ _ (fits t) go (says t.list.now i RuleWord c.eq.ensures w.if-eq.true) h w.rule_references-p.ensures)
+      | else-eq w ↦ rw (w.lent-is, w.p-is) (rules_miss _ _ _ _ _ _ _ _ _ _ _ go (says_other t.list.now i RuleWord c.eq.ensures w.if-eq.false) h)
+    ]
 
 pub returns : goal.returns
-returns c = rules_end _ _ _ _ _ _ _ _ _ _ _ c.loop-i-test.false c.loop-i.invariant
+returns g c = rules_end _ _ _ _ _ _ _ _ _ _ _ c.loop-i-test.false c.loop-i.invariant

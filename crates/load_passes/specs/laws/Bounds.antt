@@ -10,7 +10,7 @@ use Rattle.spec_file.specs.Contents.{has_role, until}
 use Rattle.load_spans.specs.Roles.{SpansFit, arrays}
 use Rattle.load_flags.specs.Tokens.{cut, tokens_in}
 use Rattle.load_records.specs.declared.Cursor.{Cursor}
-use Rattle.load_records.specs.declared.Work.{Work}
+use Rattle.load_records.specs.Work.{Work}
 use Rattle.load_records.specs.Cursor.{Bounded, Emitted}
 use Rattle.load_records.specs.Record.{move}
 use Rattle.load_records.specs.laws.Bounds.{bounded_more, bounded_move}

@@ -11,16 +11,38 @@ use Rattle.byte_write.specs.Put.{Put}
 use Rattle.byte_write.specs.laws.Puts.{put_put}
 use Rattle.load_flags.specs.Tokens.{cut, texts_at, tokens_in}
 use Rattle.load_records.specs.declared.Cursor.{Cursor}
-use Rattle.load_records.specs.declared.Work.{Work}
+use Rattle.load_records.specs.Work.{Work}
 use Rattle.load_records.specs.Cursor.{Bounded, Emitted}
 use Rattle.load_records.specs.Record.{emit, move}
-use Rattle.load_records.specs.Step.{Step}
 use Rattle.load_records.specs.laws.Bounds.{bounded_more, bounded_move}
+use Rattle.load_records.specs.laws.Steps.{StepAt}
 use Rattle.load_records.specs.laws.Tokens.{between_limit}
 use Rattle.load_passes.specs.Pass.{each_emits, each_moves, emits, moves, refer_emits, refer_moves, rule_emits, rule_moves}
-use Rattle.load_passes.specs.Passed.{Passed, ReferencesPassed, RulePassed, pass_limit, references_limit}
+use Rattle.load_passes.specs.Passed.{pass_limit, references_limit}
 use Rattle.load_passes.specs.laws.Bounds.{bounded_on, bounded_rule, tokens_all_short, tokens_few}
 use Rattle.load_passes.specs.laws.Each.{Head, each_moves_at, each_put, head_end, head_hit, head_miss, head_start}
+
+-- ---- what a pass leaves, where roles stand as numbers
+
+abbrev pub PassedAt : Work → ℕ → ℕ → List ℕ → List ℕ → List ℕ → List ℕ → List ℕ → ℕ → ℕ → List ℕ → List ℕ → Cursor → Cursor → Type 0
+PassedAt w q m names s starts ends roles from to b c p r =
+    let xs = tokens_in s starts ends roles from to in
+    let ns = texts_at s starts ends names in
+    Emitted b c p (emits (role_of_number q) (role_of_number m) ns w xs p) (moves (role_of_number q) (role_of_number m) ns w xs p) r
+
+abbrev pub RulePassedAt : Work → List ℕ → List ℕ → List ℕ → List ℕ → List ℕ → List ℕ → ℕ → ℕ → List ℕ → List ℕ → Cursor → Cursor → Type 0
+RulePassedAt w s starts ends roles uags hags i n b c p r =
+    let ys = cut RuleWord (tokens_in s starts ends roles (i + 1) n) in
+    let us = texts_at s starts ends uags in
+    let hs = texts_at s starts ends hags in
+    Emitted b c p (rule_emits w us hs ys p) (rule_moves w us hs ys p) r
+
+abbrev pub ReferencesPassedAt : Work → List ℕ → List ℕ → List ℕ → List ℕ → List ℕ → List ℕ → ℕ → ℕ → List ℕ → List ℕ → Cursor → Cursor → Type 0
+ReferencesPassedAt w s starts ends roles uags hags from n b c p r =
+    let xs = tokens_in s starts ends roles from n in
+    let us = texts_at s starts ends uags in
+    let hs = texts_at s starts ends hags in
+    Emitted b c p (refer_emits w us hs xs p) (refer_moves w us hs xs p) r
 
 -- ---- a pass, the references of one rule, and those of all rules: where the cursor stands behind them
 
@@ -133,7 +155,7 @@ module _ (w : Work) (q m : ℕ) (names s starts ends roles : List ℕ) (from to 
 
   pub pass_hit :
       {b c : List ℕ} {p r : Cursor} {i : ℕ} → RoleCode q → SpansFit s starts ends roles to → i < to → get_or roles i 0 ≡ q → PassHead b p i
-      → Step w q m names s starts ends roles i to b c p r → PassHead c r (i + 1)
+      → StepAt w q m names s starts ends roles i to b c p r → PassHead c r (i + 1)
   pass_hit {p = p} {i = i} tq spans h g l d =
       let short = between_limit s (get_or starts i 0) (get_or ends i 0) spans.short in
       let one = bounded_move (role_of_number q) (role_of_number m) (texts_at s starts ends names) w {p = p} (tagged_at s (arrays starts ends) roles i) short in
@@ -146,7 +168,7 @@ module _ (w : Work) (q m : ℕ) (names s starts ends roles : List ℕ) (from to 
   pass_miss tq h g l =
       record { bounded = bounded_more (omega arith) l.bounded; head = turn_miss q pass_e pass_m s starts ends roles tq h g l.head }
 
-  pub pass_end : {b : List ℕ} {p : Cursor} {i : ℕ} → RoleCode q → to ≤ i → PassHead b p i → Passed w q m names s starts ends roles from to b₀ b p₀ p
+  pub pass_end : {b : List ℕ} {p : Cursor} {i : ℕ} → RoleCode q → to ≤ i → PassHead b p i → PassedAt w q m names s starts ends roles from to b₀ b p₀ p
   pass_end tq h l = turn_end q pass_e pass_m s starts ends roles tq h l.head
 
 -- ---- the loop over rules
@@ -174,7 +196,7 @@ module _ (w : Work) (s starts ends roles uags hags : List ℕ) (from to : ℕ) (
 
   pub rules_hit :
       {b c : List ℕ} {p r : Cursor} {i : ℕ} → SpansFit s starts ends roles to → i < to → get_or roles i 0 ≡ 8 → RulesHead b p i
-      → RulePassed w s starts ends roles uags hags i to b c p r → RulesHead c r (i + 1)
+      → RulePassedAt w s starts ends roles uags hags i to b c p r → RulesHead c r (i + 1)
   rules_hit {i = i} spans h g l d =
       record {
         bounded = bounded_on d (bounded_more (omega arith) (bounded_rule w us hs (tokens_all_short spans (i + 1)) (tokens_few spans (i + 1)) l.bounded));
@@ -190,5 +212,5 @@ module _ (w : Work) (s starts ends roles uags hags : List ℕ) (from to : ℕ) (
         head = turn_miss 8 (rule_e w us hs) (rule_m w us hs) s starts ends roles rule_word_known h g l.head;
       }
 
-  pub rules_end : {b : List ℕ} {p : Cursor} {i : ℕ} → to ≤ i → RulesHead b p i → ReferencesPassed w s starts ends roles uags hags from to b₀ b p₀ p
+  pub rules_end : {b : List ℕ} {p : Cursor} {i : ℕ} → to ≤ i → RulesHead b p i → ReferencesPassedAt w s starts ends roles uags hags from to b₀ b p₀ p
   rules_end h l = turn_end 8 (rule_e w us hs) (rule_m w us hs) s starts ends roles rule_word_known h l.head

@@ -1,5 +1,5 @@
 -- Reading a quoted text byte by byte.
-use Rattle.std.specs.Prelude.{◌≡◌, refl, Bool, true, false, cond, List, [], ◌∷◌, ℕ, ◌+◌, ◌≤◌, ◌<◌, length, get_or, drop}
+use Rattle.std.specs.Prelude.{◌≡◌, refl, Bool, true, false, cond, List, [], ◌∷◌, ℕ, ◌+◌, ◌≤◌, ◌<◌, length, get_or, drop, Err}
 use Rattle.std.proofs.Common.{ap, ◌∙◌}
 use Rattle.spec_lists.specs.Text.{among}
 use Rattle.spec_token.specs.Word.{newline}
@@ -7,8 +7,7 @@ use Rattle.spec_token.specs.Scanner.{Quoted, closed, broken, also, quoted}
 use Rattle.spec_token.proofs.laws.Quotes.{Inside, further, closes, breaks, never_closes}
 use Rattle.load_quote.specs.declared.Act.{Act}
 use Rattle.load_quote.specs.declared.Act.TheVariants.{On, Close, Break}
-use Rattle.load_quote.specs.declared.Quote.TheVariants as quote
-use Rattle.load_quote.specs.Quote.{act, QuoteRead}
+use Rattle.load_quote.specs.Quote.{act, ClosedAt, QuoteRead}
 
 -- what an act makes of a text
 abbrev acted : Act → ℕ → ℕ → List ℕ → Quoted
@@ -35,11 +34,14 @@ module _ {s : List ℕ} {from i : ℕ} {e : Bool} (g : Inside s from i e) (h : i
   pub goes_on : {n : Bool} → act e (get_or s i 0) ≡ On n → Inside s from (i + 1) n
   goes_on q = further s from h g (by_act q)
 
-  pub closes_at : act e (get_or s i 0) ≡ Close → QuoteRead s from (quote.Closed i)
+  pub closes_at : act e (get_or s i 0) ≡ Close → ClosedAt s from i
   closes_at q = record { low = g.low; high = h; text = closes s from h g (by_act q) }
 
-  pub breaks_at : act e (get_or s i 0) ≡ Break → QuoteRead s from (quote.Broken i)
+  breaks_at : act e (get_or s i 0) ≡ Break → quoted false from (drop from s) ≡ broken i
   breaks_at q = breaks s from h g (by_act q)
 
-pub never_at : {s : List ℕ} {from i : ℕ} {e : Bool} → Inside s from i e → length s ≤ i → QuoteRead s from quote.Unclosed
-never_at {s} {from} g h = never_closes s from g h
+pub broken_at : {s : List ℕ} (q : ℕ) {i : ℕ} {e : Bool} → Inside s (q + 1) i e → i < length s → act e (get_or s i 0) ≡ Break → QuoteRead s q (Err i)
+broken_at q g h b = rw (breaks_at g h b) refl
+
+pub never_at : {s : List ℕ} (q : ℕ) {i : ℕ} {e : Bool} → Inside s (q + 1) i e → length s ≤ i → QuoteRead s q (Err q)
+never_at {s} q g h = rw (never_closes s (q + 1) g h) refl

@@ -12,8 +12,8 @@ use Rattle.spec_file.specs.Contents.{text, texts, head_of, rule_text}
 use Rattle.spec_table.specs.Written.{flags}
 use Rattle.load_flags.specs.Tokens.{cut, first_text, size}
 use Rattle.load_records.specs.declared.Cursor.{Cursor}
-use Rattle.load_records.specs.declared.Work.{Work}
-use Rattle.load_records.specs.declared.Work.TheVariants.{Groups, Names, Access, Inputs, Rules, References, Texts, Lowered, Firsts}
+use Rattle.load_records.specs.Work.{Work}
+use Rattle.load_records.specs.Work.{Groups, Names, Access, Inputs, Rules, References, Texts, Lowered, Firsts}
 use Rattle.load_records.specs.Cursor.{Bounded}
 use Rattle.load_records.specs.Record.{emit, firsts, move, named, seconds}
 use Rattle.load_records.specs.laws.Rules.{rule_length}

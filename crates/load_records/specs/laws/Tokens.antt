@@ -70,9 +70,6 @@ first_short m {xs} e = first_of (select (has_role m) xs) (every_select (has_role
 pub cut_short_texts : (m q : Role) {xs : List Tagged} → Every Short xs → length (first_text m (cut q xs)) ≤ 16384
 cut_short_texts m q e = first_short m (every_run (λ x. not (has_role q x)) (every_run (λ x. not (has_role AsgName x)) e))
 
-pub between_short : (s : List ℕ) (a e : ℕ) → length (between s a e) ≤ length s
-between_short s a e = omega (arith, length-take (e - a) (drop a s), length-drop a s)
-
 -- ---- the tokens that belong to one
 module _ (s : List ℕ) (ar : Arrays) (roles : List ℕ) (q m i to e : ℕ) (tq : RoleCode q) (tm : RoleCode m) where
   -- up to the next of its own role

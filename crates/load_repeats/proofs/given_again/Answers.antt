@@ -1,7 +1,12 @@
 use Rattle.load_repeats.specs.laws.Repeated.{first_again}
-use mathlib.Core.Path.{sym, ◌∙◌}
-use borrow.Author.Rules.{rules}
 use Rattle.load_repeats.proofs.given_again.Goals as goal
 
-pub returns : goal.returns
-returns c = record { value = c.least-2.ensures ∙ rw (c.least.ensures, c.name_repeated-name.ensures, c.repeated-letter.ensures, c.repeated-calc.ensures) (sym (first_again c.args.s.now c.args.starts.now c.args.ends.now c.args.roles.now c.args.n)); scratch = search rules }
+pub returns-clause-value : goal.returns-clause-value
+returns-clause-value c =
+    let e = first_again c.args.t.now.text.now c.args.t.now.list.now in
+    let u = c.name_repeated-name.ensures in
+    let h = c.repeated-letter.ensures in
+    let a = c.repeated-calc.ensures in
+    let l = c.earlier.ensures in
+    let m = c.earlier-2.ensures in
+    cc

@@ -1,6 +1,12 @@
 use Rattle.load_repeats.specs.laws.Repeated.{first_name}
-use mathlib.Core.Path.{sym, ◌∙◌}
 use Rattle.load_repeats.proofs.name_repeated.Goals as goal
 
 pub returns : goal.returns
-returns c = c.least-2.ensures ∙ rw (c.least.ensures, c.repeated-uag.ensures, c.repeated-hag.ensures, c.repeated-asg.ensures) (sym (first_name c.args.s.now c.args.starts.now c.args.ends.now c.args.roles.now c.args.n))
+returns c =
+    let e = first_name c.args.t.now.text.now c.args.t.now.list.now in
+    let u = c.repeated-uag.ensures in
+    let h = c.repeated-hag.ensures in
+    let a = c.repeated-asg.ensures in
+    let l = c.earlier.ensures in
+    let m = c.earlier-2.ensures in
+    cc

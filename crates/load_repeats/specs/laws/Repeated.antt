@@ -1,6 +1,6 @@
 -- A token is given again if it is so in one of the five roles.
-use Rattle.std.specs.Prelude.{◌≡◌, refl, Bool, true, false, not, ◌&&◌, ◌||◌, List, [], ◌∷◌, ℕ, min}
-use Rattle.std.proofs.Common.{ap, ◌∙◌}
+use Rattle.std.specs.Prelude.{Option, length, ◌≡◌, refl, Bool, true, false, not, ◌&&◌, ◌||◌, List, [], ◌∷◌, ℕ}
+use Rattle.std.proofs.Common.{sym, ap, ◌∙◌}
 use Rattle.spec_lists.specs.Select.{run}
 use Rattle.spec_grammar.specs.declared.Role.{Role}
 use Rattle.spec_grammar.specs.declared.Role.TheVariants.{UagName, HagName, AsgName, Input, RuleWord, CalcWord}
@@ -11,7 +11,10 @@ use Rattle.spec_file.specs.Refusal.{Context, given_again}
 use Rattle.spec_file.proofs.laws.Counted.{role_is}
 use Rattle.load_spans.specs.Roles.{arrays, tokens}
 use Rattle.load_spans.specs.laws.Seek.{seek_same, seek_either}
-use Rattle.load_spans.specs.Search.{first_of}
+use Rattle.load_tokens.specs.declared.Token.{Token}
+use Rattle.load_tokens.specs.Views.{starts, ends, roles}
+use Rattle.load_spans.specs.Search.{first_in, below, earlier_of}
+use Rattle.load_spans.specs.laws.Tokens.{below_min}
 use Rattle.load_repeats.specs.Repeated.{since, repeated, name_repeated}
 
 module _ {A : Type 0} (p q : A → Bool) (e : (x : A) → p x ≡ q x) where
@@ -58,24 +61,28 @@ again_repeated c =
       since_until CalcWord RuleWord refl c.backwards,
     )
 
-module _ (s starts ends roles : List ℕ) (n : ℕ) where
+module _ (s : List ℕ) (ts : List Token) where
   -- the first of a file's tokens to which p applies
-  abbrev first : (Context → Bool) → ℕ
-  first p = first_of p s starts ends roles n
+  abbrev first : (Context → Bool) → Option ℕ
+  first p = first_in p s ts
+
+  -- the first to which one of two tests applies
+  first_either : (p q : Context → Bool) → first (λ c. p c || q c) ≡ earlier_of (first p) (first q)
+  first_either p q =
+      ap (below (length ts)) (seek_either p q [] (tokens s (arrays (starts ts) (ends ts)) (roles ts) 0 (length ts))) ∙ sym (below_min (length ts) _ _)
 
   -- the first name given again is the first of the three firsts
-  pub first_name : first name_repeated ≡ min (first (repeated UagName UagName)) (min (first (repeated HagName HagName)) (first (repeated AsgName AsgName)))
+  pub first_name :
+      first name_repeated ≡ earlier_of (first (repeated UagName UagName)) (earlier_of (first (repeated HagName HagName)) (first (repeated AsgName AsgName)))
   first_name =
-      rw (
-        seek_either (repeated UagName UagName) (λ c. repeated HagName HagName c || repeated AsgName AsgName c) [] (tokens s (arrays starts ends) roles 0 n),
-        seek_either (repeated HagName HagName) (repeated AsgName AsgName) [] (tokens s (arrays starts ends) roles 0 n),
-      )
+      first_either (repeated UagName UagName) (λ c. repeated HagName HagName c || repeated AsgName AsgName c)
+      ∙ ap (earlier_of (first (repeated UagName UagName))) (first_either (repeated HagName HagName) (repeated AsgName AsgName))
 
   -- the first token given again is the first of the names, the letters and the CALCs
-  pub first_again : first given_again ≡ min (first name_repeated) (min (first (repeated Input AsgName)) (first (repeated CalcWord RuleWord)))
+  pub first_again :
+      first given_again ≡ earlier_of (first name_repeated) (earlier_of (first (repeated Input AsgName)) (first (repeated CalcWord RuleWord)))
   first_again =
-      seek_same given_again repeated_any again_repeated [] (tokens s (arrays starts ends) roles 0 n)
-      ∙ rw (
-        seek_either name_repeated (λ c. repeated Input AsgName c || repeated CalcWord RuleWord c) [] (tokens s (arrays starts ends) roles 0 n),
-        seek_either (repeated Input AsgName) (repeated CalcWord RuleWord) [] (tokens s (arrays starts ends) roles 0 n),
-      )
+      ap (below (length ts))
+      (seek_same given_again repeated_any again_repeated [] (tokens s (arrays (starts ts) (ends ts)) (roles ts) 0 (length ts)))
+      ∙ first_either name_repeated (λ c. repeated Input AsgName c || repeated CalcWord RuleWord c)
+      ∙ ap (earlier_of (first name_repeated)) (first_either (repeated Input AsgName) (repeated CalcWord RuleWord))

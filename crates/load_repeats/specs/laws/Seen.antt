@@ -1,6 +1,6 @@
 -- The search for a token given again: the tokens seen so far.
-use Rattle.std.specs.Prelude.{◌≡◌, refl, Bool, true, false, not, ◌&&◌, ◌||◌, List, [], ◌∷◌, map, ℕ, ◌+◌, ◌≤◌, ◌<◌, eqb, ltb, length, get_or, set, take}
-use Rattle.std.proofs.Common.{sym, ap, ◌∙◌, add-one, arith, length-set, take-suc-set, get_or-take, get_or-set_same, get_or-set_other, length-take-le, eq-eqb, ne_eqb, eqb-true, lt-ltb, le-ltb}
+use Rattle.std.specs.Prelude.{Some, None, ◌≡◌, refl, Bool, true, false, not, ◌&&◌, ◌||◌, List, [], ◌∷◌, map, ℕ, ◌+◌, ◌≤◌, ◌<◌, eqb, ltb, length, get_or, set, take}
+use Rattle.std.proofs.Common.{sym, ap, ap₂, ◌∙◌, add-one, arith, length-set, take-suc-set, get_or-set_same, get_or-set_other, length-take-le, eq-eqb, ne_eqb, eqb-true, lt-ltb, le-ltb}
 use Rattle.std.proofs.lemmas.List.{length-map}
 use Rattle.std.proofs.lemmas.Bool.{eqb-false}
 use Rattle.spec_lists.specs.Text.{same}
@@ -10,17 +10,19 @@ use Rattle.spec_lists.proofs.laws.Joined.{map_append}
 use Rattle.spec_grammar.specs.declared.Role.{Role}
 use Rattle.spec_grammar.specs.Codes.{role_number}
 use Rattle.spec_grammar.specs.Sentence.{Tagged}
+use Rattle.load_tokens.specs.declared.Token.{Token}
 use Rattle.load_tokens.specs.Arrays.{role_of_number, tagged_at}
+use Rattle.load_tokens.specs.laws.Arrays.{role_back}
+use Rattle.load_tokens.specs.Views.{starts, ends, roles}
 use Rattle.spec_file.specs.Contents.{has_role, text}
 use Rattle.spec_file.specs.Refusal.{Context}
-use Rattle.load_spans.specs.Roles.{RoleCode, SpansFit, arrays}
-use Rattle.load_spans.specs.laws.Spans.{span_fits_at}
-use Rattle.load_spans.specs.Spans.{text_at, ListedSpansFit}
+use Rattle.load_spans.specs.Roles.{RoleCode, arrays}
+use Rattle.load_spans.specs.Spans.{text_at}
 use Rattle.load_spans.specs.Position.{position}
 use Rattle.load_spans.specs.laws.Position.{spot_any}
 use Rattle.load_spans.specs.Seek.{earlier}
 use Rattle.load_spans.specs.laws.Seek.{earlier_none, earlier_step}
-use Rattle.load_spans.specs.Search.{first_of, applies_at}
+use Rattle.load_spans.specs.Search.{first_of, first_in, applies_at}
 use Rattle.load_spans.specs.laws.Codes.{role_same, role_other}
 use Rattle.load_spans.specs.laws.Search.{Searched, search_first, search_found, search_on, search_none}
 use Rattle.load_repeats.specs.Repeated.{since, alike, repeated}
@@ -86,11 +88,6 @@ module _ (s starts ends roles : List ℕ) (q stop n long : ℕ) where
         texts = λ t. rw (earlier_none s (arrays starts ends) roles);
         searched = search_first (wanted q stop) s starts ends roles n;
       }
-
-  pub seen_spans_fit : {seen : List ℕ} {k i : ℕ} → k ≤ length seen → SpansFit s starts ends roles n → Seen seen k i → ListedSpansFit s starts ends (take k seen)
-  seen_spans_fit {seen} {k} h l v j m =
-      let b : j < k = omega (arith, length-take-le k seen h) in
-      rw (get_or-take k seen j 0 b) (span_fits_at (v.below j b) l)
 
   -- the tokens before the i-th
   abbrev before : ℕ → List Tagged
@@ -192,3 +189,19 @@ module _ (s starts ends roles : List ℕ) (q stop n long : ℕ) where
 
   pub seen_end : {seen : List ℕ} {k i : ℕ} → n ≤ i → Seen seen k i → i ≡ first_of (wanted q stop) s starts ends roles n
   seen_end {seen} {k} {i} h v = search_none v.searched h
+
+-- ---- the same by the roles themselves
+
+module _ (s : List ℕ) (ts : List Token) (q stop : Role) where
+  wanted_is : wanted (role_number q) (role_number stop) ≡ repeated q stop
+  wanted_is = ap₂ repeated (role_back q) (role_back stop)
+
+  pub again_here : {i : ℕ} → i < length ts → i ≡ first_of (wanted (role_number q) (role_number stop)) s (starts ts) (ends ts) (roles ts) (length ts) → Some i ≡ first_in (repeated q stop) s ts
+  again_here {i} h e =
+      let g = e ∙ ap (λ (p : Context → Bool). first_of p s (starts ts) (ends ts) (roles ts) (length ts)) wanted_is in
+      rw (← g, lt-ltb i (length ts) h)
+
+  pub again_none : {i : ℕ} → length ts ≤ i → i ≡ first_of (wanted (role_number q) (role_number stop)) s (starts ts) (ends ts) (roles ts) (length ts) → None ≡ first_in (repeated q stop) s ts
+  again_none {i} h e =
+      let g = e ∙ ap (λ (p : Context → Bool). first_of p s (starts ts) (ends ts) (roles ts) (length ts)) wanted_is in
+      rw (← g, le-ltb i (length ts) h)

@@ -1,7 +1,8 @@
-use native.Mathlib.Omega.{arith}
-use Rattle.load_elements.specs.laws.Stacks.{then}
-use borrow.Author.Rules.{rules}
+use Rattle.load_elements.specs.laws.Tokens.{then, stops}
 use Rattle.load_rules.proofs.groups.Goals as goal
 
+pub returns-in_err-expect : goal.returns-in_err-expect
+returns-in_err-expect c = stops _ c.in_err-expect.ensures c.from_residual.ensures.1
+
 pub returns : goal.returns
-returns c = record { leads = λ k. then (c.expect-at.ensures.leads _) (c.strings_in.ensures.leads k); scratch = search rules; less = omega (arith, c.expect-at.ensures.less, c.strings_in.ensures.less) }
+returns c = then c.in_ok-expect.ensures c.strings_in.ensures

@@ -1,7 +1,11 @@
-use native.Mathlib.Omega.{arith}
-use Rattle.load_elements.specs.laws.Stacks.{then}
-use borrow.Author.Rules.{rules}
+use Rattle.load_elements.specs.laws.Tokens.{then, stops}
 use Rattle.load_rules.proofs.permission.Goals as goal
 
+pub returns-in_err-expect : goal.returns-in_err-expect
+returns-in_err-expect c = stops _ c.in_err-expect.ensures c.from_residual.ensures.1
+
+pub returns-in_err-expect-2 : goal.returns-in_err-expect-2
+returns-in_err-expect-2 c = then c.in_ok-expect.ensures (stops _ c.in_err-expect-2.ensures c.from_residual-in_err-expect-2.ensures.1)
+
 pub returns : goal.returns
-returns c = record { leads = λ k. then (c.expect-comma.ensures.leads _) (then (c.expect-at.ensures.leads _) (c.log_option.ensures.leads k)); scratch = search rules; less = omega (arith, c.expect-comma.ensures.less, c.expect-at.ensures.less, c.log_option.ensures.less) }
+returns c = then c.in_ok-expect.ensures (then c.in_ok-expect-2.ensures c.log_option.ensures)

@@ -1,26 +1,29 @@
-use mathlib.Core.Path.{refl}
-use mathlib.Core.List.{[], ◌∷◌}
-use native.Mathlib.Omega.{arith}
+use Rattle.std.specs.Prelude.{Some, is_none, is_some, ◌&&◌, [], ◌∷◌}
+use Rattle.std.proofs.Common.{refl, sym, ap}
+use Rattle.spec_token.specs.declared.Kind.TheVariants.{Uag, Hag, Calc}
+use Rattle.spec_grammar.specs.declared.Role.TheVariants.{UnknownPredicate}
 use Rattle.spec_grammar.specs.Reader.{headed, perhaps, block, inner}
-use Rattle.load_rules.specs.laws.Rules.{name_or_low}
-use Rattle.load_rules.specs.Rules.{name_or_string}
-use Rattle.load_elements.specs.laws.Stacks.{at, when_as}
+use Rattle.load_elements.specs.Reads.{kind_at, name_of, expected}
 use Rattle.load_elements.specs.laws.Cases.{none_of, none_of_true}
-use Rattle.load_elements.specs.Reads.{expected}
-use borrow.Author.Rules.{rules}
+use Rattle.load_elements.specs.laws.Stacks.{next_name, named}
+use Rattle.load_elements.specs.laws.Tokens.{when_next, when_as}
+use Rattle.load_elements.proofs.Refused.{refused_when}
 use Rattle.load_rules.proofs.rule_item.Goals as goal
 
-pub returns-then-kind-eq-UAG : goal.returns-then-kind-eq-UAG
-returns-then-kind-eq-UAG c = record { leads = λ k. at 0 c.kind_at-kind.ensures c.if-kind-eq-UAG.true (c.groups.ensures.leads k) refl; scratch = search rules; less = c.groups.ensures.less }
+pub returns-in_default : goal.returns-in_default
+returns-in_default c = refused_when (λ n. is_none (name_of n)) refl (ap is_none (sym c.in_default.ensures)) (λ k. (tt, tt, tt, tt, tt, tt, refl, refl, tt, refl, refl, refl, refl, refl, refl))
 
-pub returns-then-kind-eq-HAG : goal.returns-then-kind-eq-HAG
-returns-then-kind-eq-HAG c = record { leads = λ k. at 1 c.kind_at-kind.ensures c.if-kind-eq-HAG.true (c.groups-then-kind-eq-HAG.ensures.leads k) refl; scratch = search rules; less = c.groups-then-kind-eq-HAG.ensures.less }
+pub returns-in-Uag : goal.returns-in-Uag
+returns-in-Uag c = when_next (Some Uag) (next_name Uag (kind_at c.args.p.now) (rw c.in-Uag.is at c.in-Some.ensures)) c.groups.ensures (λ k. refl)
 
-pub returns-then-kind-eq-CALC : goal.returns-then-kind-eq-CALC
-returns-then-kind-eq-CALC c = record { leads = λ k. at 4 c.kind_at-kind.ensures c.if-kind-eq-CALC.true (c.named.ensures.leads k) refl; scratch = search rules; less = c.named.ensures.less }
+pub returns-in-Hag : goal.returns-in-Hag
+returns-in-Hag c = when_next (Some Hag) (next_name Hag (kind_at c.args.p.now) (rw c.in-Hag.is at c.in-Some.ensures)) c.groups-in-Hag.ensures (λ k. refl)
 
-pub predicate-requires : goal.predicate-requires
-predicate-requires c = (search rules, omega (arith, name_or_low c.kind_at-kind.result, c.name_or_string.ensures))
+pub returns-in-Calc : goal.returns-in-Calc
+returns-in-Calc c = when_next (Some Calc) (next_name Calc (kind_at c.args.p.now) (rw c.in-Calc.is at c.in-Some.ensures)) c.named.ensures (λ k. refl)
 
-pub returns : goal.returns
-returns c = record { leads = λ k. when_as (none_of (0 ∷ 1 ∷ 4 ∷ [])) name_or_string (λ n. expected n 17 ∷ headed (perhaps (block inner) ∷ k)) c.kind_at-kind.ensures (none_of_true (0 ∷ 1 ∷ 4 ∷ []) c.kind_at-kind.result (c.if-kind-eq-UAG.false, (c.if-kind-eq-HAG.false, (c.if-kind-eq-CALC.false, tt)))) c.name_or_string.ensures (c.predicate.ensures.leads k) (tt, tt, refl, refl, tt, refl, refl, refl, refl, refl, refl, refl, refl, refl, refl); scratch = search rules; less = c.predicate.ensures.less }
+pub returns-in_default-name : goal.returns-in_default-name
+returns-in_default-name c = when_as (λ n. is_some (name_of n) && none_of (Uag ∷ Hag ∷ Calc ∷ []) n) (λ x. expected x UnknownPredicate ∷ headed (perhaps (block inner) ∷ []))
+    (next_name c.in-Some.name (kind_at c.args.p.now) c.in-Some.ensures)
+    (rw (named c.in-Some.name (kind_at c.args.p.now) c.in-Some.ensures) (none_of_true (Uag ∷ Hag ∷ Calc ∷ []) c.in-Some.name (c.in_default-name.not-Uag, (c.in_default-name.not-Hag, (c.in_default-name.not-Calc, tt)))))
+    c.predicate.ensures (λ k. (tt, tt, refl, refl, tt, refl, tt, tt, refl, tt, tt, tt, tt, tt, tt))

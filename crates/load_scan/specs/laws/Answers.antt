@@ -1,15 +1,11 @@
--- What an answer of the scanner says, by its case.
-use Rattle.std.specs.Prelude.{◌≡◌, List, ℕ}
+-- What the scan returns at a bad byte.
+use Rattle.std.specs.Prelude.{◌≡◌, List, ℕ, Result, Ok, Err, IsErrAnd}
+use Rattle.std.proofs.Common.{sym, ap, ◌∙◌}
 use Rattle.spec_token.specs.Token.{bad}
 use Rattle.spec_token.specs.Scanner.{scanned}
-use Rattle.load_tokens.specs.Arrays.{Arrays}
-use Rattle.load_scan.specs.declared.Scanned.{Scanned}
-use Rattle.load_scan.specs.declared.Scanned.TheVariants as scan
-use Rattle.load_scan.specs.Answer.{Whole, Answer}
+use Rattle.load_tokens.specs.declared.Token.{Token}
+use Rattle.load_scan.specs.Answer.{Answer}
 
-module _ {s : List ℕ} {a b : Arrays} {r : Scanned} (t : Answer s a b r) where
-  pub whole : {n : ℕ} → r ≡ scan.Tokens n → Whole s b n
-  whole e = rw e at t.result
-
-  pub bad_byte : {p : ℕ} → r ≡ scan.Bad p → scanned s ≡ bad p
-  bad_byte e = rw e at t.result
+pub bad_answer : (s : List ℕ) (ts : List Token) {i : ℕ} (r : Result ℕ ℕ) → scanned s ≡ bad i → IsErrAnd r (λ y. y ≡ i) → Answer s ts r
+bad_answer s ts (Ok n) v e = absurd e
+bad_answer s ts (Err y) v e = v ∙ ap bad (sym e)

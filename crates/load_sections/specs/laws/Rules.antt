@@ -12,7 +12,7 @@ use Rattle.spec_file.specs.Contents.{texts, head_of, rule_text}
 use Rattle.spec_table.specs.Written.{flags}
 use Rattle.load_flags.specs.Tokens.{cut, first_text, size}
 use Rattle.load_records.specs.declared.Cursor.{Cursor}
-use Rattle.load_records.specs.declared.Work.TheVariants.{Rules}
+use Rattle.load_records.specs.Work.{Rules}
 use Rattle.load_records.specs.Record.{emit, move}
 use Rattle.load_records.specs.laws.Rules.{rule_length}
 use Rattle.load_passes.specs.Pass.{each_emits, emits}

@@ -1,17 +1,23 @@
 -- The sections from the passes that write them.
-use Rattle.std.specs.Prelude.{List, [], ◌≡◌, refl, ℕ, ◌+◌, ◌-◌, ◌*◌, ◌≤◌}
+use Rattle.std.specs.Prelude.{List, [], ◌≡◌, refl, ℕ, ◌+◌, ◌-◌, ◌*◌, ◌≤◌, length}
 use Rattle.std.proofs.Common.{sym, ap, arith}
 use Rattle.spec_grammar.specs.declared.Role.TheVariants.{UagName, User, HagName, Host, AsgName, Input, Pvname, RuleWord, Calculation}
 use Rattle.spec_grammar.specs.Sentence.{Tagged}
+use Rattle.spec_grammar.specs.declared.Role.{Role}
+use Rattle.spec_grammar.specs.Codes.{role_number}
 use Rattle.load_tokens.specs.Arrays.{Arrays, role_of_number}
-use Rattle.load_spans.specs.Roles.{SpansFit, tally, RoleCode, tokens, gap}
+use Rattle.load_tokens.specs.laws.Arrays.{role_back}
+use Rattle.load_tokens.specs.Views.{starts, ends, roles}
+use Rattle.load_spans.specs.declared.Tokens.{Tokens}
+use Rattle.load_spans.specs.Roles.{SpansFit, tally, RoleCode, arrays, tokens, gap}
 use Rattle.load_spans.specs.laws.Roles.{tally_bound, after_one}
 use Rattle.byte_write.specs.laws.Puts.{put_before, put_put}
 use Rattle.load_flags.specs.Tokens.{size}
 use Rattle.load_records.specs.declared.Cursor.{Cursor}
-use Rattle.load_records.specs.declared.Work.TheVariants.{Groups, Names, Access, Inputs, Rules, References}
+use Rattle.load_records.specs.Work.{Groups, Names, Access, Inputs, Rules, References}
 use Rattle.load_records.specs.Cursor.{Bounded, Emitted, cursor}
 use Rattle.load_passes.specs.Pass.{emits, moves, refer_emits, refer_moves}
+use Rattle.load_passes.specs.Source.{all_of, part_of}
 use Rattle.load_passes.specs.laws.Loops.{pass_put, references_put}
 use Rattle.load_sections.specs.Sections.{AccessWritten, GroupsWritten, RulesWritten, at_rules, bytes_6, from, limit_3, limit_5, limit_7, new_runs}
 use Rattle.load_sections.specs.laws.Rules.{rules_bytes}
@@ -23,6 +29,14 @@ pub from_is :
 from_is s ar roles q n j t e =
     let k : n - j ≡ n - 0 - gap q q roles 0 (n - 0) = omega arith in
     rw (k, e) (sym (after_one s ar roles q 0 (n - 0) t))
+
+pub from_role :
+    (t : Tokens) (q : Role) (j : ℕ) → RoleCode (role_number q)
+    → j ≡ 0 + gap (role_number q) (role_number q) (roles t.list.now) 0 (length t.list.now - 0)
+    → part_of t j (length t.list.now) ≡ from q (all_of t)
+from_role t q j k e =
+    let ts = t.list.now in
+    rw (role_back q) at (from_is t.text.now (arrays (starts ts) (ends ts)) (roles ts) (role_number q) (length ts) j k e)
 
 -- a count of tokens is no greater than that of a file's tokens
 pub tally_few : {s starts ends roles : List ℕ} {n k : ℕ} (m j : ℕ) → SpansFit s starts ends roles n → k ≡ tally m roles j (n - j) → k ≤ 16384

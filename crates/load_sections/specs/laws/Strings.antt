@@ -8,8 +8,8 @@ use Rattle.byte_write.specs.Put.{Put}
 use Rattle.byte_write.specs.laws.Puts.{put_as, put_put}
 use Rattle.load_flags.specs.Tokens.{cut}
 use Rattle.load_records.specs.declared.Cursor.{Cursor}
-use Rattle.load_records.specs.declared.Work.{Work}
-use Rattle.load_records.specs.declared.Work.TheVariants.{Texts, Lowered, Firsts}
+use Rattle.load_records.specs.Work.{Work}
+use Rattle.load_records.specs.Work.{Texts, Lowered, Firsts}
 use Rattle.load_records.specs.Cursor.{Emitted}
 use Rattle.load_records.specs.Record.{emit, move}
 use Rattle.load_passes.specs.Pass.{emits, moves, refer_emits, refer_moves, rule_emits, rule_moves}

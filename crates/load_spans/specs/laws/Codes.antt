@@ -16,6 +16,3 @@ role_other {q} m t h = same_number q m t ∙ ne_eqb q m h
 module _ {q : ℕ} (m : ℕ) (t : RoleCode m) (b : Bool) where
   pub asked : q ≡ m → b ≡ same_role (role_of_number q) (role_of_number m) && b
   asked h = rw (role_same m t h)
-
-  pub not_asked : (q ≡ m → ⊥) → false ≡ same_role (role_of_number q) (role_of_number m) && b
-  not_asked h = rw (role_other m t h)

@@ -8,10 +8,9 @@ use Rattle.spec_lists.proofs.laws.Every.{every_implies}
 use Rattle.spec_lists.specs.Select.{select, prepend_if}
 use Rattle.load_tokens.specs.Arrays.{role_of_number, tagged_at, tagged_from}
 use Rattle.spec_file.specs.Contents.{has_role, text, texts}
-use Rattle.load_spans.specs.Roles.{RoleCode, SpansFit, arrays, tally}
+use Rattle.load_spans.specs.Roles.{RoleCode, arrays, tally}
 use Rattle.load_spans.specs.laws.Roles.{same_number, tally_bound}
-use Rattle.load_spans.specs.laws.Spans.{span_fits_at}
-use Rattle.load_spans.specs.Spans.{text_at, ListedSpansFit}
+use Rattle.load_spans.specs.Spans.{text_at, AmongTokens}
 use Rattle.load_spans.specs.Listed.{indices, Listed, ToList}
 
 pub indices_none : (q : ℕ) (roles : List ℕ) (i to : ℕ) → to ≤ i → indices q roles i (to - i) ≡ []
@@ -115,8 +114,9 @@ listed_names {names} {list} {q} {roles} {n} {r} l h =
 pub listed_few : {names list : List ℕ} {q : ℕ} {roles : List ℕ} {n r : ℕ} → Listed names list q roles n r → r ≤ n
 listed_few {q = q} {roles = roles} {n = n} l = omega (arith, l.count, indices_length q roles 0 n, tally_bound q roles 0 n)
 
-pub listed_spans_fit : {s starts ends roles : List ℕ} {n : ℕ} (q : ℕ) → SpansFit s starts ends roles n → ListedSpansFit s starts ends (indices q roles 0 n)
-listed_spans_fit {roles = roles} {n = n} q l k h = span_fits_at (go (indices q roles 0 n) k h (indices_below q roles 0 n)) l
+-- each is one of the tokens
+pub listed_among : (q : ℕ) (roles : List ℕ) (n : ℕ) → AmongTokens (indices q roles 0 n) n
+listed_among q roles n k h = go (indices q roles 0 n) k h (indices_below q roles 0 n)
   where
     go : (xs : List ℕ) (k : ℕ) → k < length xs → Every (λ j. j < 0 + n) xs → get_or xs k 0 < n
     go [] k h e = absurd (omega arith)

@@ -1,7 +1,11 @@
-use Rattle.load_elements.specs.laws.Stacks.{then}
-use native.Mathlib.Omega.{arith}
-use borrow.Author.Rules.{rules}
+use Rattle.load_elements.specs.laws.Tokens.{then, stops}
 use Rattle.load_strings.proofs.strings_in.Goals as goal
 
+pub returns-in_err-expect : goal.returns-in_err-expect
+returns-in_err-expect c = stops _ c.in_err-expect.ensures c.from_residual.ensures.1
+
+pub returns-in_err-strings : goal.returns-in_err-strings
+returns-in_err-strings c = then c.in_ok-expect.ensures (stops _ c.in_err-strings.ensures c.from_residual-in_err-strings.ensures.1)
+
 pub returns : goal.returns
-returns c = record { leads = λ k. then (c.expect-inside.ensures.leads _) (then (c.strings-at.ensures.leads _) (c.expect.ensures.leads k)); scratch = search rules; less = omega (arith, c.expect-inside.ensures.less, c.strings-at.ensures.less, c.expect.ensures.less) }
+returns c = then c.in_ok-expect.ensures (then c.in_ok-strings.ensures c.expect-2.ensures)

@@ -1,5 +1,5 @@
 -- Laws of kept tokens.
-use Rattle.std.specs.Prelude.{◌≡◌, refl, List, [], ◌∷◌, ◌++◌, map, ℕ, zero, suc, ◌+◌, ◌-◌, ◌<◌}
+use Rattle.std.specs.Prelude.{◌≡◌, refl, List, [], ◌∷◌, ◌++◌, ℕ, zero, suc, ◌+◌, ◌-◌, ◌<◌}
 use Rattle.std.proofs.Common.{ap, ◌∙◌, arith}
 use Rattle.spec_token.specs.declared.Kind.{Kind}
 use Rattle.spec_token.specs.declared.Kind.TheVariants as kind
@@ -7,7 +7,7 @@ use Rattle.spec_token.specs.Token.{Token}
 use Rattle.spec_grammar.specs.declared.Role.{Role}
 use Rattle.spec_grammar.specs.declared.Role.TheVariants as role
 use Rattle.spec_grammar.specs.Codes.{role_number, kind_number}
-use Rattle.load_tokens.specs.Arrays.{kind_of_number, role_of_number, Arrays, token_at, tokens_from, tagged_at, tagged_from}
+use Rattle.load_tokens.specs.Arrays.{kind_of_number, role_of_number, Arrays, token_at, tokens_from}
 
 pub kind_back : (k : Kind) → kind_of_number (kind_number k) ≡ k
 kind_back kind.Uag = refl
@@ -55,11 +55,6 @@ tokens_more s a i (suc n) =
     ap (tokens_from s a i) e
     ∙ ap (λ (l : List Token). token_at s a i ∷ l) (tokens_more s a (suc i) n ∙ ap (λ (k : ℕ). tokens_from s a (suc i) n ++ (token_at s a k ∷ [])) g)
 
-pub tagged_tokens : (s : List ℕ) (a : Arrays) (roles : List ℕ) (i n : ℕ) → map (λ x. x.token) (tagged_from s a roles i n) ≡ tokens_from s a i n
-unfolding tokens_from tagged_from
-tagged_tokens s a roles i zero = refl
-tagged_tokens s a roles i (suc n) = ap (λ (l : List Token). token_at s a i ∷ l) (tagged_tokens s a roles (suc i) n)
-
 -- the first of the tokens that are left
 pub tokens_step : (s : List ℕ) (a : Arrays) (i n : ℕ) → i < n → tokens_from s a i (n - i) ≡ token_at s a i ∷ tokens_from s a (i + 1) (n - (i + 1))
 unfolding tokens_from
@@ -67,12 +62,3 @@ tokens_step s a i n h =
     let e : n - i ≡ suc (n - (i + 1)) = omega arith in
     let f : suc i ≡ i + 1 = omega arith in
     ap (tokens_from s a i) e ∙ ap (λ (k : ℕ). token_at s a i ∷ tokens_from s a k (n - (i + 1))) f
-
-pub said_step :
-    (s : List ℕ) (a : Arrays) (roles : List ℕ) (i n : ℕ) → i < n
-    → tagged_from s a roles i (n - i) ≡ tagged_at s a roles i ∷ tagged_from s a roles (i + 1) (n - (i + 1))
-unfolding tagged_from
-said_step s a roles i n h =
-    let e : n - i ≡ suc (n - (i + 1)) = omega arith in
-    let f : suc i ≡ i + 1 = omega arith in
-    ap (tagged_from s a roles i) e ∙ ap (λ (k : ℕ). tagged_at s a roles i ∷ tagged_from s a roles k (n - (i + 1))) f

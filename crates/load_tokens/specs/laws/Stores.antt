@@ -1,35 +1,9 @@
 -- Storing a token behind others.
-use Rattle.std.specs.Prelude.{◌≡◌, refl, List, [], ◌∷◌, ◌++◌, ℕ, zero, suc, ◌+◌, ◌<◌, ◌≤◌, length, get_or, set}
-use Rattle.std.proofs.Common.{ap, ◌∙◌, arith, length-set, get_or-set_same, get_or-set_other}
+use Rattle.std.specs.Prelude.{◌≡◌, refl, List, [], ◌∷◌, ◌++◌, ℕ, zero, suc, ◌+◌, ◌<◌, ◌≤◌, get_or, set}
+use Rattle.std.proofs.Common.{◌∙◌, arith, get_or-set_same, get_or-set_other}
 use Rattle.load_tokens.specs.Arrays.{kind_of_number, between, Arrays, token_at, tokens_from}
 use Rattle.load_tokens.specs.laws.Arrays.{tokens_more}
 use Rattle.load_tokens.specs.Stores.{Numbers, stored, Room, Good}
-use Rattle.load_tokens.specs.Scratch.{ScratchArrays}
-
-pub scratch_same : (a : Arrays) → ScratchArrays a a
-scratch_same a = record { kinds = refl; places = refl; starts = refl; ends = refl }
-
-pub scratch_on : {a b c : Arrays} → ScratchArrays a b → ScratchArrays b c → ScratchArrays a c
-scratch_on f g =
-    record { kinds = g.kinds ∙ f.kinds; places = g.places ∙ f.places; starts = g.starts ∙ f.starts; ends = g.ends ∙ f.ends }
-
-pub scratch_room : {n : ℕ} {a b : Arrays} → ScratchArrays a b → Room n a → Room n b
-scratch_room f r =
-    record {
-      kinds = omega (arith, f.kinds, r.kinds);
-      places = omega (arith, f.places, r.places);
-      starts = omega (arith, f.starts, r.starts);
-      ends = omega (arith, f.ends, r.ends);
-    }
-
-pub stored_scratch : (a : Arrays) (i : ℕ) (t : Numbers) → ScratchArrays a (stored a i t)
-stored_scratch a i t =
-    record {
-      kinds = length-set a.kinds i t.kind;
-      places = length-set a.places i t.place;
-      starts = length-set a.starts i t.start;
-      ends = length-set a.ends i t.end;
-    }
 
 module _ {m : ℕ} (a : Arrays) (n : ℕ) (t : Numbers) (r : Room m a) (h : n < m) where
   same_kind : get_or (set a.kinds n t.kind) n 0 ≡ t.kind

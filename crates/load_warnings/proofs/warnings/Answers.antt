@@ -1,23 +1,38 @@
-use native.Mathlib.Omega.{arith}
-use Prim.Native.Nat.{◌-◌}
-use Rattle.load_warnings.specs.laws.Filled.{code_here_is, fill_first, fill_warning, fill_none, fill_end}
+use Rattle.std.proofs.Common.{ℕ, ◌∙◌, ap, refl, sym, length}
+use Rattle.spec_file.specs.Warning.{number}
+use Rattle.load_tokens.specs.Views.{places, roles}
+use Rattle.load_tokens.specs.laws.Views.{place_at, role_at}
+use Rattle.load_warnings.specs.Code.{code}
+use Rattle.load_warnings.specs.laws.Code.{number_some}
+use Rattle.load_warnings.specs.laws.Filled.{code_here_is, fill_end, fill_none, fill_warning}
 use Rattle.load_warnings.proofs.warnings.Goals as goal
-use Rattle.load_warnings.proofs.warnings.Goals.{then-w-ne-NONE, else-w-ne-NONE}
+use Rattle.load_warnings.proofs.warnings.Goals.{in-Some, in_default}
 
-pub loop-i-init : goal.loop-i-init
-loop-i-init c = fill_first c.args.places.now c.args.roles.now c.args.n c.args.skip c.args.numbers.now c.args.at.now
-
-pub bounds-roles-i : goal.bounds-roles-i
-bounds-roles-i c = omega (arith, c.requires.1)
-
-pub bounds-places-i : goal.bounds-places-i
-bounds-places-i c = omega (arith, c.requires.0)
-
-pub overflow_add-k : goal.overflow_add-k
-overflow_add-k c = omega (arith, c.loop-i.invariant.few, c.loop-i-test.true)
-
-pub loop-i-preserved : goal.loop-i-preserved
-loop-i-preserved c = elim c.if-w-ne-NONE.branch [ then-w-ne-NONE w ↦ rw (w.numbers-is, w.at-is, w.k-is) (fill_warning c.args.places.now c.args.roles.now c.args.n c.args.skip c.args.numbers.now c.args.at.now c.loop-i-test.true (code_here_is c.args.places.now c.args.roles.now c.args.n c.warning_of-w.result c.loop-i.i c.warning_of-w.ensures) w.if-w-ne-NONE.true w.put_number.ensures w.put_place.ensures c.loop-i.invariant) | else-w-ne-NONE w ↦ rw (w.numbers-is, w.at-is, w.k-is) (fill_none c.args.places.now c.args.roles.now c.args.n c.args.skip c.args.numbers.now c.args.at.now c.loop-i-test.true (code_here_is c.args.places.now c.args.roles.now c.args.n c.warning_of-w.result c.loop-i.i c.warning_of-w.ensures) w.if-w-ne-NONE.false c.loop-i.invariant) ]
+pub loop-token-preserved : goal.loop-token-preserved
+loop-token-preserved c =
+    let a = c.args in
+    let ts = a.list.now in
+    let i = c.loop-token.token-index in
+    let is = λ (k : ℕ). code_here_is (places ts) (roles ts) (length ts) k i in
+    elim c.match-warning_of.branch [
+      | in-Some w ↦
+          let v = w.in-Some.warning in
+          rw (w.numbers-is, w.at-is, w.k-is)
+          (fill_warning (places ts) (roles ts) (length ts) a.skip a.numbers.now a.at.now c.loop-token-test.true
+          (is (number v) (w.in-Some.ensures ∙ ap code (sym (role_at ts i))))
+          (number_some v)
+          (rw w.number.ensures at w.put.ensures)
+          (rw (← place_at ts i) at w.put-in-Some.ensures)
+          c.loop-token.invariant)
+      | in_default w ↦
+          rw (w.numbers-is, w.at-is, w.k-is)
+          (fill_none (places ts) (roles ts) (length ts) a.skip a.numbers.now a.at.now c.loop-token-test.true
+          (is 0 (w.in_default.ensures ∙ ap code (sym (role_at ts i))))
+          refl
+          c.loop-token.invariant)
+    ]
 
 pub returns : goal.returns
-returns c = fill_end c.args.places.now c.args.roles.now c.args.n c.args.skip c.args.numbers.now c.args.at.now c.loop-i-test.false c.loop-i.invariant
+returns c =
+    let ts = c.args.list.now in
+    fill_end (places ts) (roles ts) (length ts) c.args.skip c.args.numbers.now c.args.at.now c.loop-token-test.false c.loop-token.invariant

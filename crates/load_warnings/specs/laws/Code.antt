@@ -1,23 +1,18 @@
 -- The number of a token's warning, from its role.
 use Rattle.std.specs.Prelude.{◌≡◌, refl, Bool, true, false, cond, List, ℕ, eqb, get_or}
 use Rattle.std.proofs.Math.Option.{none, some}
-use Rattle.std.proofs.Common.{arith, eq-eqb, ne_eqb}
+use Rattle.std.proofs.Common.{arith}
 use Rattle.load_tokens.specs.Arrays.{Arrays, tagged_at}
+use Rattle.spec_file.specs.declared.Warning.{Warning}
 use Rattle.spec_file.specs.declared.Warning.TheVariants.{UnknownItem, UnknownPredicate}
-use Rattle.spec_file.specs.Warning.{warning_of}
+use Rattle.spec_file.specs.Warning.{number, warning_of}
 use Rattle.load_spans.specs.laws.Roles.{same_number}
 use Rattle.load_warnings.specs.Code.{code_of, code}
 
--- ---- by the role's number
-
-pub code_item : (role : ℕ) → role ≡ 16 → code role ≡ 1
-code_item role e = rw (eq-eqb role 16 e)
-
-pub code_predicate : (role : ℕ) → role ≡ 17 → code role ≡ 2
-code_predicate role e = rw e
-
-pub code_none : (role : ℕ) → (role ≡ 16 → ⊥) → (role ≡ 17 → ⊥) → code role ≡ 0
-code_none role a b = rw (ne_eqb role 16 a, ne_eqb role 17 b)
+-- a warning has a number
+pub number_some : (w : Warning) → number w ≡ 0 → ⊥
+number_some UnknownItem h = absurd (omega (arith, h))
+number_some UnknownPredicate h = absurd (omega (arith, h))
 
 -- ---- it is the warning's
 

@@ -19,7 +19,7 @@ use Rattle.load_warnings.specs.Filled.{plain, warnings_of, numbers_of, places_of
 
 -- ---- values written from the skip-th on
 
-pub length_wrote : (skip k : ℕ) (b : List ℕ) (v : ℕ) → length (wrote skip k b v) ≡ length b
+pub length_wrote : {A : Type 0} (skip k : ℕ) (b : List A) (v : A) → length (wrote skip k b v) ≡ length b
 length_wrote skip k b v = go (leb skip k)
   where
     go : (t : Bool) → length (cond t (set b (k - skip) v) b) ≡ length b
@@ -27,7 +27,7 @@ length_wrote skip k b v = go (leb skip k)
     go false = refl
 
 -- it is written; there is no room; it is skipped
-module _ (skip k : ℕ) (b : List ℕ) (v : ℕ) where
+module _ {A : Type 0} (skip k : ℕ) (b : List A) (v : A) where
   pub wrote_in : skip ≤ k → wrote skip k b v ≡ set b (k - skip) v
   wrote_in h = rw (le-leb skip k h)
 

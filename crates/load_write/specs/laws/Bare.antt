@@ -15,8 +15,8 @@ use Rattle.spec_table.specs.Written.{flags}
 use Rattle.load_spans.specs.laws.Bare.{bare, until_bare, after_bare, texts_bare, select_bare}
 use Rattle.load_flags.specs.Tokens.{cut, size}
 use Rattle.load_records.specs.declared.Cursor.{Cursor}
-use Rattle.load_records.specs.declared.Work.{Work}
-use Rattle.load_records.specs.declared.Work.TheVariants.{Groups, Names, Access, Inputs, Rules, References, Texts, Lowered, Firsts}
+use Rattle.load_records.specs.Work.{Work}
+use Rattle.load_records.specs.Work.{Groups, Names, Access, Inputs, Rules, References, Texts, Lowered, Firsts}
 use Rattle.load_records.specs.Cursor.{cursor}
 use Rattle.load_records.specs.Record.{emit, firsts, move, named, seconds}
 use Rattle.load_passes.specs.Pass.{each_emits, each_moves, emits, moves, refer_emits, refer_moves, rule_emits, rule_moves}

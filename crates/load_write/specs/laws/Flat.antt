@@ -13,7 +13,6 @@ use Rattle.spec_file.specs.Contents.{has_role, Clause, text, texts, clauses, unt
 use Rattle.spec_table.specs.Written.{all_links, all_rules}
 use Rattle.load_flags.specs.Tokens.{cut, first_text, size}
 use Rattle.load_sections.specs.Sections.{from}
-use Rattle.load_write.specs.Passes.{body}
 
 -- each token that says q, with what follows it up to the next one or the next access group
 abbrev pub cuts : Role → List Tagged → List Clause

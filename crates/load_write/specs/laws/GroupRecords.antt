@@ -17,8 +17,8 @@ use Rattle.spec_file.specs.Contents.{has_role, text, texts, groups, until, claus
 use Rattle.spec_table.specs.Written.{run_words}
 use Rattle.load_flags.specs.Tokens.{size}
 use Rattle.load_records.specs.declared.Cursor.{Cursor}
-use Rattle.load_records.specs.declared.Work.{Work}
-use Rattle.load_records.specs.declared.Work.TheVariants.{Groups, Names, Access, Texts, Lowered}
+use Rattle.load_records.specs.Work.{Work}
+use Rattle.load_records.specs.Work.{Groups, Names, Access, Texts, Lowered}
 use Rattle.load_records.specs.Record.{emit, move, named}
 use Rattle.load_passes.specs.Pass.{each_emits, each_moves, emits, moves}
 use Rattle.load_passes.specs.laws.Each.{by_says}

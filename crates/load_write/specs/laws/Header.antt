@@ -1,13 +1,18 @@
 -- The words of the header.
-use Rattle.std.specs.Prelude.{List, [], ◌∷◌, ◌≡◌, ℕ, ◌-◌, ◌+◌}
+use Rattle.std.specs.Prelude.{List, [], ◌∷◌, ◌≡◌, ℕ, ◌-◌, ◌+◌, length}
 use Rattle.std.proofs.Common.{sym, ◌∙◌, ap}
 use Rattle.spec_grammar.specs.Sentence.{Tagged}
-use Rattle.load_tokens.specs.Arrays.{Arrays, role_of_number}
-use Rattle.load_spans.specs.Roles.{RoleCode, tokens, tally, gap}
+use Rattle.spec_grammar.specs.declared.Role.{Role}
+use Rattle.spec_grammar.specs.Codes.{role_number}
+use Rattle.load_tokens.specs.laws.Arrays.{role_back}
+use Rattle.load_tokens.specs.Views.{starts, ends, roles}
+use Rattle.load_spans.specs.declared.Tokens.{Tokens}
+use Rattle.load_spans.specs.Roles.{RoleCode, arrays, tally, gap}
 use Rattle.load_spans.specs.laws.Roles.{tally_is}
 use Rattle.load_flags.specs.Tokens.{size}
+use Rattle.load_passes.specs.Source.{all_of}
 use Rattle.load_sections.specs.Sections.{from}
-use Rattle.load_sections.specs.laws.Sections.{from_is}
+use Rattle.load_sections.specs.laws.Sections.{from_role}
 
 -- one by one
 pub same_words :
@@ -20,13 +25,16 @@ pub same_words :
 same_words a b c d e f g h i j k l m n o p = cc
 
 -- how many tokens have a role, among all and among those from the first of another role on
-pub counted_all :
-    (s : List ℕ) (ar : Arrays) (roles : List ℕ) (m n k : ℕ) → RoleCode m → k ≡ tally m roles 0 (n - 0)
-    → k ≡ size (role_of_number m) (tokens s ar roles 0 n)
-counted_all s ar roles m n k t e = e ∙ sym (tally_is s ar roles m 0 (n - 0) t)
+pub counted_all : (t : Tokens) (m : Role) (k : ℕ) → RoleCode (role_number m) → k ≡ tally (role_number m) (roles t.list.now) 0 (length t.list.now - 0) → k ≡ size m (all_of t)
+counted_all t m k c e =
+    let ts = t.list.now in
+    rw (role_back m) at (e ∙ sym (tally_is t.text.now (arrays (starts ts) (ends ts)) (roles ts) (role_number m) 0 (length ts - 0) c))
 
 pub counted_from :
-    (s : List ℕ) (ar : Arrays) (roles : List ℕ) (q m n j k : ℕ) → RoleCode q → RoleCode m → j ≡ 0 + gap q q roles 0 (n - 0) → k ≡ tally m roles j (n - j)
-    → k ≡ size (role_of_number m) (from (role_of_number q) (tokens s ar roles 0 n))
-counted_from s ar roles q m n j k t u e h =
-    h ∙ sym (tally_is s ar roles m j (n - j) u) ∙ ap (λ (xs : List Tagged). size (role_of_number m) xs) (from_is s ar roles q n j t e)
+    (t : Tokens) (q m : Role) (j k : ℕ) → RoleCode (role_number q) → RoleCode (role_number m)
+    → j ≡ 0 + gap (role_number q) (role_number q) (roles t.list.now) 0 (length t.list.now - 0)
+    → k ≡ tally (role_number m) (roles t.list.now) j (length t.list.now - j) → k ≡ size m (from q (all_of t))
+counted_from t q m j k c d e h =
+    let ts = t.list.now in
+    (rw (role_back m) at (h ∙ sym (tally_is t.text.now (arrays (starts ts) (ends ts)) (roles ts) (role_number m) j (length ts - j) d)))
+    ∙ ap (λ (xs : List Tagged). size m xs) (from_role t q j c e)

@@ -20,7 +20,7 @@ use Rattle.spec_table.specs.Written.{run_words, flags, calculation_words, refere
 use Rattle.byte_write.specs.laws.Puts.{spelled_append}
 use Rattle.load_flags.specs.Tokens.{cut, first_text, numbered}
 use Rattle.load_records.specs.declared.Cursor.{Cursor}
-use Rattle.load_records.specs.declared.Work.TheVariants.{Firsts, Inputs, Rules, References, Texts}
+use Rattle.load_records.specs.Work.{Firsts, Inputs, Rules, References, Texts}
 use Rattle.load_records.specs.Cursor.{cursor}
 use Rattle.load_records.specs.Record.{emit, move}
 use Rattle.load_records.specs.laws.Cursors.{same_cursor}

@@ -18,7 +18,7 @@ use Rattle.spec_file.specs.Limit.{user_groups, host_groups, members, access_grou
 use Rattle.spec_table.specs.Written.{member_lists, Reference, records, run_words, names}
 use Rattle.byte_write.specs.laws.Puts.{spelled_append}
 use Rattle.load_records.specs.declared.Cursor.{Cursor}
-use Rattle.load_records.specs.declared.Work.TheVariants.{Groups, Names, Access, Inputs, Rules, References}
+use Rattle.load_records.specs.Work.{Groups, Names, Access, Inputs, Rules, References}
 use Rattle.load_passes.specs.Pass.{emits, refer_emits}
 use Rattle.load_passes.specs.laws.Each.{by_says}
 use Rattle.load_sections.specs.Sections.{from}

@@ -1,5 +1,5 @@
 -- The whole table from its parts, and what a write answers and leaves.
-use Rattle.std.specs.Prelude.{List, ◌++◌, [], ◌≡◌, refl, ℕ, ◌-◌, ◌<◌, ◌+◌, length}
+use Rattle.std.specs.Prelude.{List, ◌++◌, [], ◌≡◌, refl, ℕ, ◌-◌, ◌<◌, length, Ok, Err}
 use Rattle.std.proofs.Common.{ap, subst, arith, le-leb}
 use Rattle.std.proofs.lemmas.Bool.{lt-leb}
 use Rattle.spec_lists.specs.Words.{spelled_out}
@@ -15,7 +15,6 @@ use Rattle.load_sections.specs.declared.RuleSections.{RuleSections}
 use Rattle.load_sections.specs.Sections.{AccessWritten, GroupsWritten, RulesWritten}
 use Rattle.load_sections.specs.Strings.{NamesWritten, access_strings}
 use Rattle.load_write.specs.declared.Counts.{Counts}
-use Rattle.load_write.specs.declared.Written.TheVariants.{NoRoom, Done}
 use Rattle.load_write.specs.Header.{CountsRight, header_of}
 use Rattle.load_write.specs.Passes.{body, cursor_3, cursor_5, cursor_7, header_words, strings, whole_table}
 use Rattle.load_write.specs.Table.{Wrote}
@@ -56,14 +55,14 @@ table_put us hs xs {b₀} {b₁} {b₂} {b₃} {b₄} {b₅} {b₆} {f} {m} {k} 
     let first : Put b₅ b₆ 0 (spelled_out (header_words us hs xs)) 36 = record { bytes = (put_as header (ap spelled_out words_are) refl).bytes; end = refl } in
     put_before {ws = spelled_out (header_words us hs xs)} laid first
 
-pub no_room : {t b x : List ℕ} {k : ℕ} → Put [] x 0 t k → length (x ++ b) < k → Wrote t b (x ++ b) (NoRoom k)
+pub no_room : {t b x : List ℕ} {k : ℕ} → Put [] x 0 t k → length (x ++ b) < k → Wrote t b (x ++ b) (Err k)
 no_room {t} {b} {x} {k} p h =
     let m = measured b p in
     let no = lt-leb (length t) (length b) (too_long b p h) in
-    record { answered = rw no (ap NoRoom m.1); leaves = rw no m.0 }
+    record { answered = rw no (ap Err m.1); leaves = rw no m.0 }
 
-pub room : {t b c l : List ℕ} {r : ℕ} → HasRoom t b l → Put l c 0 t r → Wrote t b c (Done r)
+pub room : {t b c l : List ℕ} {r : ℕ} → HasRoom t b l → Put l c 0 t r → Wrote t b c (Ok r)
 room {t} {b} w p =
     let yes = le-leb (length t) (length b) w.fits in
     let k = room_written w p in
-    record { answered = rw yes (ap Done k.1); leaves = rw yes k.0 }
+    record { answered = rw yes (ap Ok k.1); leaves = rw yes k.0 }

@@ -20,7 +20,7 @@ use Rattle.load_spans.specs.laws.Listed.{indices_texts}
 use Rattle.load_spans.specs.Roles.{arrays, tokens}
 use Rattle.load_flags.specs.Tokens.{size}
 use Rattle.load_records.specs.declared.Cursor.{Cursor}
-use Rattle.load_records.specs.declared.Work.TheVariants.{Groups, Names, Access, References, Inputs, Rules}
+use Rattle.load_records.specs.Work.{Groups, Names, Access, References, Inputs, Rules}
 use Rattle.load_passes.specs.Pass.{emits, refer_moves}
 use Rattle.load_passes.specs.laws.Loops.{moves_at, refer_moves_at}
 use Rattle.load_sections.specs.Sections.{at_references, at_rules, behind_1, behind_2, behind_4, behind_6, behind_users, bytes_6, bytes_7, from, new_runs}

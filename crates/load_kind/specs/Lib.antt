@@ -1,0 +1,2 @@
+pub mod Keyword
+pub mod laws
