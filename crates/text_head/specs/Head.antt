@@ -5,16 +5,12 @@ use Rattle.spec_table.specs.Check.{level_bit, permission_bits, trap_bit, bits_fr
 use Rattle.spec_table.specs.Policy.{permission, set_bit}
 use Rattle.spec_text.specs.Lines.{called, level_word, permission_word, log_word, unknown_line, ended}
 
-abbrev pub permission_text : ℕ → List ℕ
-permission_text n = bytes "," ++ permission_word (permission n)
-
-abbrev pub log_text : ℕ → List ℕ
-log_text n = bytes "," ++ log_word (set_bit n)
-
 -- the head of a rule of these flags
 abbrev pub head_text : ℕ → List ℕ
 head_text f =
-    called (bytes "RULE") (level_word (level_bit f) ++ (permission_text (permission_bits f) ++ log_text (trap_bit f)))
+    called
+    (bytes "RULE")
+    (level_word (level_bit f) ++ ((bytes "," ++ permission_word (permission (permission_bits f))) ++ (bytes "," ++ log_word (set_bit (trap_bit f)))))
 
 -- its last line, if it is switched off
 abbrev pub unknown_text : ℕ → List ℕ

@@ -1,2 +1,1 @@
 pub mod Head
-pub mod laws

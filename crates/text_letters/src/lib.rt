@@ -22,17 +22,13 @@ pub fn letter_repeated(table: &[u8], group: usize) -> bool
     requires { Stored table.now access_groups group }
     ensures { result ≡ repeated eqb (letters_in table.now group) }
 {
-    let start = table_read::field(table, Section::AccessGroups, group, 2);
-    let n = table_read::field(table, Section::AccessGroups, group, 3);
     let mut seen = [false; 21];
-    let mut i = 0;
-    while i < n {
-        let l = letter_at(table, start + i);
+    for i in table_read::run(table, Section::AccessGroups, group, 2) {
+        let l = letter_at(table, i);
         if seen[l] {
             return true;
         }
         seen[l] = true;
-        i += 1;
     }
     false
 }
@@ -42,14 +38,9 @@ pub fn letters_of(table: &[u8], group: usize) -> [bool; 21]
     requires { Stored table.now access_groups group }
     ensures { LettersAre result (letters_in table.now group) }
 {
-    let start = table_read::field(table, Section::AccessGroups, group, 2);
-    let n = table_read::field(table, Section::AccessGroups, group, 3);
     let mut given = [false; 21];
-    let mut i = 0;
-    while i < n {
-        let l = letter_at(table, start + i);
-        given[l] = true;
-        i += 1;
+    for i in table_read::run(table, Section::AccessGroups, group, 2) {
+        given[letter_at(table, i)] = true;
     }
     given
 }

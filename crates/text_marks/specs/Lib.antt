@@ -1,3 +1,4 @@
 pub mod Room
+pub mod Writes
 pub mod Names
 pub mod laws

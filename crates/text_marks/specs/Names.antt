@@ -1,5 +1,6 @@
 -- The names of a run of records, as a text lists them.
-use Rattle.std.specs.Prelude.{◌≡◌, true, List, [], ◌∷◌, ◌++◌, map, ℕ, ◌+◌, ◌≤◌, length}
+use Rattle.std.specs.Prelude.{◌≡◌, true, List, [], ◌∷◌, ◌++◌, map, ℕ, ◌-◌, ◌≤◌, length}
+use Rattle.std.specs.declared.ops.Range.{Range}
 use Rattle.spec_lists.specs.Text.{bytes}
 use Rattle.spec_lists.specs.Select.{joined}
 use Rattle.spec_lists.specs.Runs.{Run, part}
@@ -10,14 +11,14 @@ use Rattle.spec_table.specs.Check.{is_table}
 use Rattle.spec_table.specs.Policy.{name}
 use Rattle.spec_text.specs.Lines.{quoted, quoted_list}
 
--- n records from the number start on
-abbrev pub run : ℕ → ℕ → Run
-run start n = record { first = start; count = n }
+-- the records whose numbers are in a range
+abbrev pub run : Range ℕ → Run
+run r = record { first = r.start; count = r.end - r.start }
 
 -- the bytes are a table, and the records lie in their section
-pub record RunStored (b : List ℕ) (s : Section) (start n : ℕ) : Type 0 where
+pub record RunStored (b : List ℕ) (s : Section) (r : Range ℕ) : Type 0 where
   pub table : is_table b ≡ true
-  pub inside : start + n ≤ length ((view b).records s)
+  pub inside : r.end ≤ length ((view b).records s)
 
 -- the names of a run of records
 abbrev pub names : Content → Section → Run → List (List ℕ)

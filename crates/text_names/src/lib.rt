@@ -19,14 +19,7 @@ fn names_quotable(table: &[u8], s: Section) -> bool
     ensures { result ≡ all quotable (names table.now (section s)) }
 {
     let n = table_read::count(table, s);
-    let mut i = 0;
-    while i < n {
-        if !text_quote::quotable(table_read::name_of(table, s, i)) {
-            return false;
-        }
-        i += 1;
-    }
-    true
+    (0..n).all(|i| text_quote::quotable(table_read::name_of(table, s, i)))
 }
 
 // Whether every string of a table can be quoted. Inner: text_judge calls it, of a checked table.
@@ -34,42 +27,22 @@ pub fn strings_quotable(table: &[u8]) -> bool
     requires { is_table table.now ≡ true }
     ensures { result ≡ all quotable (strings_in (view table.now)) }
 {
-    if !names_quotable(table, Section::UserGroups) {
-        return false;
-    }
-    if !names_quotable(table, Section::HostGroups) {
-        return false;
-    }
-    if !names_quotable(table, Section::Members) {
-        return false;
-    }
-    if !names_quotable(table, Section::AccessGroups) {
-        return false;
-    }
-    if !names_quotable(table, Section::Inputs) {
-        return false;
-    }
-    if !names_quotable(table, Section::Rules) {
-        return false;
-    }
-    names_quotable(table, Section::References)
+    names_quotable(table, Section::UserGroups)
+        && names_quotable(table, Section::HostGroups)
+        && names_quotable(table, Section::Members)
+        && names_quotable(table, Section::AccessGroups)
+        && names_quotable(table, Section::Inputs)
+        && names_quotable(table, Section::Rules)
+        && names_quotable(table, Section::References)
 }
 
-// Whether a record's name stands again behind it in its section.
-fn stands_again(table: &[u8], s: Section, i: usize) -> bool
-    requires { Stored table.now (section s) i }
-    ensures { result ≡ any (same (name_at table.now (section s) i)) (drop (i + 1) (names table.now (section s))) }
+// Whether a record of a section, from the k-th on, has a name.
+fn name_from(table: &[u8], s: Section, k: usize, name: &[u8]) -> bool
+    requires { is_table table.now ≡ true }
+    ensures { result ≡ any (λ x. same x name.now) (drop k (names table.now (section s))) }
 {
     let n = table_read::count(table, s);
-    let name = table_read::name_of(table, s, i);
-    let mut j = i + 1;
-    while j < n {
-        if byte_compare::equal(name, table_read::name_of(table, s, j)) {
-            return true; // one name twice
-        }
-        j += 1;
-    }
-    false
+    (k..n).any(|i| byte_compare::equal(table_read::name_of(table, s, i), name))
 }
 
 // Whether two records of a section have one name. Inner: text_judge calls it, of a checked table.
@@ -78,14 +51,7 @@ pub fn name_repeated(table: &[u8], s: Section) -> bool
     ensures { result ≡ repeated same (names table.now (section s)) }
 {
     let n = table_read::count(table, s);
-    let mut i = 0;
-    while i < n {
-        if stands_again(table, s, i) {
-            return true;
-        }
-        i += 1;
-    }
-    false
+    (0..n).any(|i| name_from(table, s, i + 1, table_read::name_of(table, s, i)))
 }
 
 // Whether a record of a section has a name. Inner: text_judge calls it, of a checked table.
@@ -93,13 +59,5 @@ pub fn has_name(table: &[u8], s: Section, name: &[u8]) -> bool
     requires { is_table table.now ≡ true }
     ensures { result ≡ any (λ x. same x name.now) (names table.now (section s)) }
 {
-    let n = table_read::count(table, s);
-    let mut i = 0;
-    while i < n {
-        if byte_compare::equal(table_read::name_of(table, s, i), name) {
-            return true;
-        }
-        i += 1;
-    }
-    false
+    name_from(table, s, 0, name)
 }

@@ -1,7 +1,8 @@
 -- Whether a rule has a body, and its parts.
-use Rattle.std.specs.Prelude.{◌≡◌, refl, Bool, true, false, cond, not, ◌||◌, List, [], ◌∷◌, ◌++◌, ℕ, ◌+◌, length}
+use Rattle.std.specs.Prelude.{◌≡◌, refl, Bool, true, false, cond, not, ◌||◌, List, [], ◌∷◌, ◌++◌, ℕ, ◌+◌, eqb, length}
 use Rattle.std.proofs.Common.{sym, ap, ap₂, ◌∙◌, arith}
 use Rattle.std.proofs.Math.Option.{none, some}
+use Rattle.std.specs.declared.ops.Range.{Range}
 use Rattle.spec_lists.specs.Text.{bytes}
 use Rattle.spec_lists.specs.Select.{nonempty}
 use Rattle.spec_lists.specs.Runs.{Run, part}
@@ -16,8 +17,8 @@ use Rattle.spec_text.specs.Lines.{reference_line, calculation_line, unknown_line
 use Rattle.table_read.specs.Stored.{Stored}
 use Rattle.text_marks.specs.Names.{run, RunStored, names}
 use Rattle.text_marks.specs.laws.Ended.{ended_append}
-use Rattle.text_marks.specs.laws.Names.{names_are}
-use Rattle.text_marks.specs.laws.Filled.{set_bit_sum, nonempty_append, nonempty_map, nonempty_run, calculation_bit}
+use Rattle.text_marks.specs.laws.Names.{run_is}
+use Rattle.text_marks.specs.laws.Filled.{set_bit_sum, nonempty_append, nonempty_map, nonempty_run, zero_bit, calculation_bit}
 use Rattle.text_head.specs.Head.{unknown_text}
 use Rattle.text_body.specs.Body.{references_text, calculation_text, body_lines}
 
@@ -94,6 +95,10 @@ module _ (c : Content) (w : List ℕ) where
       ∙ sym (set_bit_sum (hosts_run w).count ((k.first + k.count) + o)))
       ∙ sym (set_bit_sum (users_run w).count ((hosts_run w).count + ((k.first + k.count) + o)))
 
+not_twice : (b : Bool) → not (not b) ≡ b
+not_twice true = refl
+not_twice false = refl
+
 -- ---- as the code finds them
 
 module _ (b : List ℕ) (i : ℕ) where
@@ -101,36 +106,36 @@ module _ (b : List ℕ) (i : ℕ) where
   here = row (view b) rules i
 
   module _
-      {users n hosts m : ℕ} (e : users ≡ (users_run here).first) (f : n ≡ (users_run here).count) (g : hosts ≡ (hosts_run here).first)
-      (h : m ≡ (hosts_run here).count)
+      {users hosts : Range ℕ} (e : users.start ≡ (users_run here).first) (f : users.end ≡ (users_run here).first + (users_run here).count)
+      (g : hosts.start ≡ (hosts_run here).first) (h : hosts.end ≡ (hosts_run here).first + (hosts_run here).count)
     where
       pub body_parts :
           ended (body_lines (view b) here)
-          ≡ references_text (bytes "UAG") (names (view b) references (run users n))
-          ++ (references_text (bytes "HAG") (names (view b) references (run hosts m))
+          ≡ references_text (bytes "UAG") (names (view b) references (run users))
+          ++ (references_text (bytes "HAG") (names (view b) references (run hosts))
           ++ (calculation_text (view b) here ++ unknown_text (flags_field here)))
       body_parts =
           body_is (view b) here
           ∙ sym
           (ap₂
-          (λ (us hs : List (List ℕ)).
-          references_text (bytes "UAG") us
-          ++ (references_text (bytes "HAG") hs ++ (calculation_text (view b) here ++ unknown_text (flags_field here))))
-          (names_are (view b) references (users_run here) e f)
-          (names_are (view b) references (hosts_run here) g h))
+          (λ (us hs : Run).
+          references_text (bytes "UAG") (names (view b) references us)
+          ++ (references_text (bytes "HAG") (names (view b) references hs) ++ (calculation_text (view b) here ++ unknown_text (flags_field here))))
+          (run_is e f)
+          (run_is g h))
 
-      pub references_stored : Stored b rules i → RunStored b references users n × RunStored b references hosts m
+      pub references_stored : Stored b rules i → RunStored b references users × RunStored b references hosts
       references_stored s =
           let w = references_within (view b) (stands b s.table).1 i s.inside in
-          (record { table = s.table; inside = omega (arith, w.0) }, record { table = s.table; inside = omega (arith, w.1) })
+          (record { table = s.table; inside = omega (arith, w.0, f) }, record { table = s.table; inside = omega (arith, w.1, h) })
 
   pub has_body :
       {off n m a k : ℕ} → Stored b rules i → off ≡ bits_from_4 (flags_field here) → n ≡ (users_run here).count → m ≡ (hosts_run here).count
-      → a ≡ (calculation_run here).first → k ≡ (calculation_run here).count → set_bit (off + n + m + a + k) ≡ nonempty (body_lines (view b) here)
+      → a ≡ (calculation_run here).first → k ≡ (calculation_run here).count → not (eqb (off + n + m + a + k) 0) ≡ nonempty (body_lines (view b) here)
   has_body {off} {n} {m} {a} {k} s o e f g h =
       let w = references_within (view b) (stands b s.table).1 i s.inside in
       let z :
       off + n + m + a + k
       ≡ (users_run here).count
       + ((hosts_run here).count + (((calculation_run here).first + (calculation_run here).count) + bits_from_4 (flags_field here))) = omega arith in
-      ap set_bit z ∙ sym (body_there (view b) here w.0 w.1)
+      ap not (zero_bit (off + n + m + a + k)) ∙ not_twice (set_bit (off + n + m + a + k)) ∙ ap set_bit z ∙ sym (body_there (view b) here w.0 w.1)

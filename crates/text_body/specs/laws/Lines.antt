@@ -1,8 +1,9 @@
 -- The lines of a rule's body, part by part.
-use Rattle.std.specs.Prelude.{◌≡◌, refl, Bool, true, false, cond, not, List, [], ◌∷◌, ◌++◌, ℕ, ◌+◌, ◌≤◌, length}
-use Rattle.std.proofs.Common.{sym, ap, ap₂, ◌∙◌, append_assoc}
+use Rattle.std.specs.Prelude.{◌≡◌, refl, Bool, true, false, cond, not, List, [], ◌∷◌, ◌++◌, ℕ, ◌+◌, ◌≤◌, ◌<◌, length}
+use Rattle.std.proofs.Common.{sym, ap, ap₂, ◌∙◌, append_assoc, arith}
 use Rattle.std.proofs.lemmas.Bool.{false≢true}
 use Rattle.std.proofs.Math.Option.{none, some}
+use Rattle.std.specs.declared.ops.Range.{Range}
 use Rattle.spec_lists.specs.Text.{bytes}
 use Rattle.spec_file.specs.Limit.{rules, references}
 use Rattle.spec_table.specs.Layout.{Content}
@@ -11,8 +12,8 @@ use Rattle.spec_table.specs.Policy.{name, set_bit}
 use Rattle.spec_text.specs.Lines.{quoted, called, calculation_line, ended}
 use Rattle.text_marks.specs.Names.{run, names, listed}
 use Rattle.text_marks.specs.laws.Ended.{ended_one}
-use Rattle.text_marks.specs.laws.Names.{names_none, names_some}
-use Rattle.text_marks.specs.laws.Filled.{calculation_bit}
+use Rattle.text_marks.specs.laws.Names.{names_some}
+use Rattle.text_marks.specs.laws.Filled.{bit_there, calculation_bit}
 use Rattle.text_body.specs.Body.{references_text, calculation_text}
 
 called_list : (word inside : List ℕ) → called word inside ++ bytes "\n" ≡ word ++ (bytes "(" ++ (inside ++ bytes ")\n"))
@@ -25,29 +26,21 @@ list_line word [] h = absurd (h refl)
 list_line word (s ∷ ss) h = ended_one (called word (listed (s ∷ ss))) ∙ called_list word (listed (s ∷ ss))
 
 -- the groups of a kind that a rule names, as a run of references
-module _ (c : Content) (word : List ℕ) (start n : ℕ) where
-  pub references_empty : n ≡ 0 → references_text word (names c references (run start n)) ≡ []
-  references_empty z = ap (references_text word) (names_none c references (run start n) refl refl z)
-
+module _ (c : Content) (word : List ℕ) (r : Range ℕ) where
   pub references_full :
-      start + n ≤ length (c.records references) → (n ≡ 0 → ⊥)
-      → references_text word (names c references (run start n)) ≡ word ++ (bytes "(" ++ (listed (names c references (run start n)) ++ bytes ")\n"))
-  references_full h l = list_line word (names c references (run start n)) (names_some c references (run start n) refl refl h l)
+      r.end ≤ length (c.records references) → r.start < r.end
+      → references_text word (names c references (run r)) ≡ word ++ (bytes "(" ++ (listed (names c references (run r)) ++ bytes ")\n"))
+  references_full h l =
+      list_line word (names c references (run r)) (names_some c references (run r) (omega arith) (λ z. absurd (omega (arith, l, z))))
 
 -- a calculation, as the code finds where it stands
 module _ (c : Content) (row : List ℕ) {first n : ℕ} (e : first ≡ (calculation_run row).first) (f : n ≡ (calculation_run row).count) where
-  there : {b : Bool} → set_bit (first + n) ≡ b → not (no_calculation (calculation_run row)) ≡ b
-  there h = calculation_bit (calculation_run row) ∙ sym (ap₂ (λ (x y : ℕ). set_bit (x + y)) e f) ∙ h
-
-  pub calculation_empty : set_bit (first + n) ≡ false → calculation_text c row ≡ []
-  calculation_empty h = by (no_calculation (calculation_run row)) (there h)
-    where
-      by : (b : Bool) → not b ≡ false → ended (calculation_line (cond b none (some (name c rules row)))) ≡ []
-      by true z = refl
-      by false z = absurd (false≢true (sym z))
-
-  pub calculation_full : set_bit (first + n) ≡ true → calculation_text c row ≡ called (bytes "CALC") (quoted (name c rules row)) ++ bytes "\n"
-  calculation_full h = by (no_calculation (calculation_run row)) (there h)
+  pub calculation_full :
+      (first + n ≡ 0 → ⊥) → calculation_text c row ≡ called (bytes "CALC") (quoted (name c rules row)) ++ bytes "\n"
+  calculation_full h =
+      by
+      (no_calculation (calculation_run row))
+      (calculation_bit (calculation_run row) ∙ sym (ap₂ (λ (x y : ℕ). set_bit (x + y)) e f) ∙ bit_there (first + n) h)
     where
       by :
           (b : Bool) → not b ≡ true

@@ -1,24 +1,14 @@
 use mathlib.Core.List.{[]}
-use Prim.Native.Nat.{◌-◌}
 use native.Mathlib.Omega.{arith}
-use Rattle.spec_rule.proofs.laws.Walk.{list_on, list_end}
+use Rattle.spec_rule.proofs.laws.Walk.{list_on}
 use Rattle.spec_table.specs.View.{view}
 use Rattle.table_read.specs.Stored.{section}
-use Rattle.text_marks.specs.laws.Left.{left_all, left_on, left_room, left_none, room_first, texts_on, texts_end}
+use Rattle.text_marks.specs.laws.Left.{left_on, left_room, room_first, texts_on}
 use Rattle.text_groups.specs.Groups.{group_text}
 use Rattle.text_groups.proofs.put_groups.Goals as goal
 
-pub count-n-requires : goal.count-n-requires
-count-n-requires c = c.requires.0
-
-pub loop-i-init : goal.loop-i-init
-loop-i-init c = left_all _ _ _
-
-pub put_group-next-requires : goal.put_group-next-requires
-put_group-next-requires c = let a = c.args in (record { table = c.requires.0; inside = omega (arith, c.count-n.ensures, c.loop-i-test.true) }, c.requires.1, room_first _ _ (texts_on (group_text (view a.table.now) (section a.s) a.word.now) (list_on ((view a.table.now).records (section a.s)) [] c.loop-i.i (omega (arith, c.count-n.ensures, c.loop-i-test.true)))) (left_room c.loop-i.invariant c.requires.2))
+pub put_group-requires : goal.put_group-requires
+put_group-requires c = let a = c.args in (record { table = c.requires.0; inside = omega (arith, c.count-i-end.ensures, c.loop-i-test.true) }, c.requires.1, room_first _ _ (texts_on (group_text (view a.table.now) (section a.s) a.word.now) (list_on ((view a.table.now).records (section a.s)) [] c.loop-i.i (omega (arith, c.count-i-end.ensures, c.loop-i-test.true)))) (left_room c.loop-i.invariant c.requires.2))
 
 pub loop-i-preserved : goal.loop-i-preserved
-loop-i-preserved c = let a = c.args in left_on c.loop-i.invariant (texts_on (group_text (view a.table.now) (section a.s) a.word.now) (list_on ((view a.table.now).records (section a.s)) [] c.loop-i.i (omega (arith, c.count-n.ensures, c.loop-i-test.true)))) c.put_group-next.ensures
-
-pub returns : goal.returns
-returns c = let a = c.args in left_none c.loop-i.invariant (texts_end (group_text (view a.table.now) (section a.s) a.word.now) (list_end ((view a.table.now).records (section a.s)) c.loop-i.i (omega (arith, c.count-n.ensures, c.loop-i-test.false))))
+loop-i-preserved c = let a = c.args in left_on c.loop-i.invariant (texts_on (group_text (view a.table.now) (section a.s) a.word.now) (list_on ((view a.table.now).records (section a.s)) [] c.loop-i.i (omega (arith, c.count-i-end.ensures, c.loop-i-test.true)))) c.put_group.ensures

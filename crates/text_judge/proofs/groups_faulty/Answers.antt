@@ -1,23 +1,16 @@
-use Rattle.text_judge.specs.laws.Judged.{asgs_turn, asgs_hit, asgs_done}
-use Rattle.spec_export.specs.Says.{file_in}
-use Rattle.spec_text.specs.Faults.{asg_faulty}
+use Rattle.std.proofs.Common.{[], refl, ◌∙◌, arith, rules, tests}
+use Rattle.std.proofs.lemmas.Iterator.{YieldsList-from_range}
+use Rattle.std.proofs.lemmas.Iterator.Search.{any_from_yields_List}
+use Rattle.spec_file.specs.Limit.{access_groups}
 use Rattle.spec_table.specs.View.{view}
-use native.Mathlib.Omega.{arith}
-use Prim.Native.Nat.{◌-◌}
-use mathlib.Core.Path.{refl, sym, ◌∙◌}
+use Rattle.spec_text.specs.Faults.{asg_faulty}
+use Rattle.spec_export.specs.Says.{asg_in, file_in}
+use Rattle.text_names.specs.laws.Numbered.{any_numbered}
+use Rattle.text_judge.specs.Judged.{asg_at}
 use Rattle.text_judge.proofs.groups_faulty.Goals as goal
 
-pub loop-i-init : goal.loop-i-init
-loop-i-init c = refl
-
-pub group_faulty-requires : goal.group_faulty-requires
-group_faulty-requires c = record { table = c.requires; inside = omega (arith, c.count-n.ensures) }
-
-pub returns-then-group_faulty : goal.returns-then-group_faulty
-returns-then-group_faulty c = let t = c.args.table.now in asgs_hit t (asg_faulty (file_in (view t))) c.loop-i.i c.loop-i.invariant (omega (arith, c.count-n.ensures)) (sym c.group_faulty.ensures ∙ c.if-group_faulty.true)
-
-pub loop-i-preserved : goal.loop-i-preserved
-loop-i-preserved c = let t = c.args.table.now in asgs_turn t (asg_faulty (file_in (view t))) c.loop-i.i c.loop-i.invariant (omega (arith, c.count-n.ensures)) (sym c.group_faulty.ensures ∙ c.if-group_faulty.false)
-
 pub returns : goal.returns
-returns c = let t = c.args.table.now in asgs_done t (asg_faulty (file_in (view t))) c.loop-i.i c.loop-i.invariant (omega (arith, c.count-n.ensures))
+returns c =
+    let t = view c.args.table.now in
+    any_from_yields_List (λ i. asg_faulty (file_in t) (asg_at c.args.table.now i)) _ _ _ c.any.ensures.ran (YieldsList-from_range 0 c.count-n.result _ refl refl) (λ x b q k. search (rules, tests))
+    ∙ any_numbered (asg_in t) (t.records access_groups) [] (asg_faulty (file_in t)) 0 _ (omega (arith, c.count-n.ensures))

@@ -1,9 +1,5 @@
 use Rattle.text_letters.specs.laws.Letters.{Single}
-use Prim.Native.Nat.{◌-◌}
 use Rattle.text_letters.proofs.letter_repeated.Given as goal
 
 abbrev pub invariant-loop-i : goal.invariant-loop-i
-invariant-loop-i l = Single l.table l.group l.seen l.i
-
-abbrev pub decreases-loop-i : goal.decreases-loop-i
-decreases-loop-i l = l.n - l.i
+invariant-loop-i l = Single l.table l.group l.seen l.i-iterator

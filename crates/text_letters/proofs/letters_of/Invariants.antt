@@ -1,9 +1,5 @@
 use Rattle.text_letters.specs.laws.Letters.{Gathers}
-use Prim.Native.Nat.{◌-◌}
 use Rattle.text_letters.proofs.letters_of.Given as goal
 
 abbrev pub invariant-loop-i : goal.invariant-loop-i
-invariant-loop-i l = Gathers l.table l.group l.given l.i
-
-abbrev pub decreases-loop-i : goal.decreases-loop-i
-decreases-loop-i l = l.n - l.i
+invariant-loop-i l = Gathers l.table l.group l.given l.i-iterator

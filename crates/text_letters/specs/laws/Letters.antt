@@ -1,14 +1,13 @@
 -- The letters of an access group, one by one.
-use Rattle.std.specs.Prelude.{◌≡◌, refl, Bool, true, false, ◌||◌, List, [], ◌∷◌, map, ℕ, zero, suc, ◌+◌, ◌≤◌, ◌<◌, eqb, leb, length, drop, get_or, set, replicate}
+use Rattle.std.specs.Prelude.{◌≡◌, refl, Bool, true, false, ◌||◌, List, [], ◌∷◌, map, ℕ, zero, suc, ◌+◌, ◌≤◌, ◌<◌, eqb, leb, length, get_or, set, replicate}
 use Rattle.std.proofs.Common.{sym, ap, ◌∙◌, arith, length-set, get_or-set_same, get_or-set_other, eqb-true, leb-true}
 use Rattle.std.proofs.lemmas.Bool.{eqb-false}
+use Rattle.std.specs.declared.ops.Range.{Range}
 use Rattle.spec_lists.specs.Select.{any}
-use Rattle.spec_lists.specs.Runs.{part}
+use Rattle.spec_lists.specs.Runs.{Run, part}
 use Rattle.spec_lists.proofs.laws.Any.{any_same, or_between}
-use Rattle.spec_lists.proofs.laws.Both.{or_false}
 use Rattle.spec_lists.proofs.laws.Every.{all_every, every_at}
 use Rattle.spec_lists.proofs.laws.Joined.{map_map}
-use Rattle.spec_rule.proofs.laws.Walk.{read_on, read_end}
 use Rattle.spec_token.specs.Word.{greatest_letter}
 use Rattle.spec_file.specs.Limit.{access_groups, inputs}
 use Rattle.spec_table.specs.View.{view}
@@ -18,9 +17,10 @@ use Rattle.spec_table.proofs.laws.Standing.{stands, inputs_within}
 use Rattle.spec_table.proofs.laws.Table.{table_is}
 use Rattle.spec_text.specs.Faults.{repeated}
 use Rattle.spec_export.specs.Says.{link_in}
-use Rattle.table_fields.specs.Field.{Word}
 use Rattle.table_read.specs.Stored.{Stored, word_of}
-use Rattle.text_letters.specs.Letters.{letters_in, LettersAre}
+use Rattle.text_marks.specs.Names.{run}
+use Rattle.text_marks.specs.laws.Names.{Turn, run_is, part_turn}
+use Rattle.text_letters.specs.Letters.{letters_in}
 
 -- a table's letters are those of the array
 pub letter_low : (b : List ℕ) (i : ℕ) → Stored b inputs i → word_of b inputs i 0 < 21
@@ -68,88 +68,79 @@ any_either p q (x ∷ xs) = ap (λ (t : Bool). (p x || q x) || t) (any_either p 
 
 -- ---- what a loop over the inputs knows
 
+-- the letters of the inputs whose numbers are in a range
+abbrev pub left : List ℕ → Range ℕ → List ℕ
+left b r = map letter_field (part (run r) ((view b).records inputs))
+
 module _ (b : List ℕ) (g : ℕ) where
-  -- some of the letters are in given, the others stand from the i-th input on
-  pub record Gathers (given : List Bool) (i : ℕ) : Type 0 where
-    pub each : (l : ℕ) → get_or given l false || any (eqb l) (drop i (letters_in b g)) ≡ any (eqb l) (letters_in b g)
+  -- some of the letters are in given, the others are those of the inputs in a range
+  pub record Gathers (given : List Bool) (r : Range ℕ) : Type 0 where
+    pub each : (l : ℕ) → get_or given l false || any (eqb l) (left b r) ≡ any (eqb l) (letters_in b g)
     pub long : length given ≡ 21
+    pub inside : r.end ≤ length ((view b).records inputs)
 
   -- no letter stood twice so far, and those that stood are in given
-  pub record Single (given : List Bool) (i : ℕ) : Type 0 where
-    pub rest :
-        repeated eqb (letters_in b g)
-        ≡ any (λ l. get_or given l false) (drop i (letters_in b g)) || repeated eqb (drop i (letters_in b g))
+  pub record Single (given : List Bool) (r : Range ℕ) : Type 0 where
+    pub rest : repeated eqb (letters_in b g) ≡ any (λ l. get_or given l false) (left b r) || repeated eqb (left b r)
     pub long : length given ≡ 21
+    pub inside : r.end ≤ length ((view b).records inputs)
 
-  pub gathers_first : Gathers (replicate 21 false) 0
-  gathers_first = record { each = λ l. rw (none_given 21 l); long = refl }
+  -- at first the range is the run of the group
+  module _
+      (h : Stored b access_groups g) {r : Range ℕ} (e : r.start ≡ word_of b access_groups g 2)
+      (f : r.end ≡ word_of b access_groups g 2 + word_of b access_groups g 3)
+    where
+      all_inside : r.end ≤ length ((view b).records inputs)
+      all_inside = omega (arith, inputs_within (view b) (stands b h.table).1 g h.inside, f)
 
-  pub single_first : Single (replicate 21 false) 0
-  single_first = record { rest = rw (any_none (letters_in b g)); long = refl }
+      all_left : left b r ≡ letters_in b g
+      all_left =
+          let run_of : Run = inputs_run (row (view b) access_groups g) in
+          ap (λ (v : Run). map letter_field (part v ((view b).records inputs))) (run_is {v = run_of} e f)
+          ∙ sym (map_map (λ i. i.letter) (link_in (view b)) (part run_of ((view b).records inputs)))
 
-  module _ (h : Stored b access_groups g) {s n : ℕ} (f : Word (word_of b access_groups g 2) s) (c : Word (word_of b access_groups g 3) n) where
-    within : (inputs_run (row (view b) access_groups g)).first + (inputs_run (row (view b) access_groups g)).count ≤ length ((view b).records inputs)
-    within = inputs_within (view b) (stands b h.table).1 g h.inside
+      pub gathers_first : Gathers (replicate 21 false) r
+      gathers_first = record { each = λ l. rw (none_given 21 l, all_left); long = refl; inside = all_inside }
 
-    letters_are : letters_in b g ≡ map letter_field (part (inputs_run (row (view b) access_groups g)) ((view b).records inputs))
-    letters_are = map_map (λ i. i.letter) (link_in (view b)) (part (inputs_run (row (view b) access_groups g)) ((view b).records inputs))
+      pub single_first : Single (replicate 21 false) r
+      single_first = record { rest = rw (all_left, any_none (letters_in b g)); long = refl; inside = all_inside }
 
-    module _ (i : ℕ) where
-      pub input_stored : i < n → Stored b inputs (s + i)
-      input_stored l = record { table = h.table; inside = omega (arith, within, f.is, c.is) }
+  module _ {r t : Range ℕ} {i : ℕ} (u : Turn r i t) where
+    left_on : r.end ≤ length ((view b).records inputs) → left b r ≡ word_of b inputs i 0 ∷ left b t
+    left_on h = ap (map letter_field) (part_turn ((view b).records inputs) [] r u h)
 
-      letters_on : i < n → drop i (letters_in b g) ≡ word_of b inputs (s + i) 0 ∷ drop (i + 1) (letters_in b g)
-      letters_on l =
-          let run = inputs_run (row (view b) access_groups g) in
-          let x : run.first ≡ s = sym f.is in
-          rw letters_are
-          (read_on letter_field run ((view b).records inputs) [] i within (omega (arith, c.is))
-          ∙ ap (λ (m : ℕ). word_of b inputs (m + i) 0 ∷ drop (i + 1) (map letter_field (part run ((view b).records inputs)))) x)
+    pub gathers_turn : {given : List Bool} {k : ℕ} → k ≡ word_of b inputs i 0 → k < 21 → Gathers given r → Gathers (set given k true) t
+    gathers_turn {given} {k} e w v =
+        record {
+          each = λ x.
+              ap (λ (s : Bool). s || any (eqb x) (left b t)) (set_letter given k (omega (arith, v.long)) x)
+              ∙ or_between (get_or given x false) (eqb x k) (any (eqb x) (left b t))
+              ∙ ap (λ (s : ℕ). get_or given x false || (eqb x s || any (eqb x) (left b t))) e
+              ∙ ap (λ (ls : List ℕ). get_or given x false || any (eqb x) ls) (sym (left_on v.inside))
+              ∙ v.each x;
+          long = length-set given k true ∙ v.long;
+          inside = omega (arith, v.inside, u.0);
+        }
 
-      letters_end : n ≤ i → drop i (letters_in b g) ≡ []
-      letters_end l =
-          rw letters_are (read_end letter_field (inputs_run (row (view b) access_groups g)) ((view b).records inputs) i (omega (arith, c.is)))
+    module _ {given : List Bool} {k : ℕ} (e : k ≡ word_of b inputs i 0) (v : Single given r) where
+      single_on : repeated eqb (letters_in b g) ≡ (seen given k || any (seen given) (left b t)) || (any (eqb k) (left b t) || repeated eqb (left b t))
+      single_on =
+          v.rest
+          ∙ ap (λ (ls : List ℕ). any (seen given) ls || repeated eqb ls) (left_on v.inside ∙ ap (λ (s : ℕ). s ∷ left b t) (sym e))
 
-      pub gathers_turn : {given : List Bool} {k : ℕ} → i < n → k ≡ word_of b inputs (s + i) 0 → k < 21 → Gathers given i → Gathers (set given k true) (i + 1)
-      gathers_turn {given} {k} l e u v =
+      pub single_hit : seen given k ≡ true → true ≡ repeated eqb (letters_in b g)
+      single_hit s = sym (single_on ∙ rw s)
+
+      pub single_turn : k < 21 → seen given k ≡ false → Single (set given k true) t
+      single_turn w s =
           record {
-            each = λ x.
-                ap (λ (t : Bool). t || any (eqb x) (drop (i + 1) (letters_in b g))) (set_letter given k (omega (arith, v.long)) x)
-                ∙ or_between (get_or given x false) (eqb x k) (any (eqb x) (drop (i + 1) (letters_in b g)))
-                ∙ ap (λ (t : ℕ). get_or given x false || (eqb x t || any (eqb x) (drop (i + 1) (letters_in b g)))) e
-                ∙ ap (λ (ls : List ℕ). get_or given x false || any (eqb x) ls) (sym (letters_on l))
-                ∙ v.each x;
+            rest =
+                single_on
+                ∙ rw s
+                (sym (or_between (any (seen given) (left b t)) (any (eqb k) (left b t)) (repeated eqb (left b t)))
+                ∙ ap (λ (x : Bool). x || repeated eqb (left b t))
+                (sym (any_either (eqb k) (seen given) (left b t))
+                ∙ sym (any_same (seen (set given k true)) (λ x. eqb k x || seen given x) (set_seen given k (omega (arith, v.long))) (left b t))));
             long = length-set given k true ∙ v.long;
+            inside = omega (arith, v.inside, u.0);
           }
-
-      pub gathers_all : {given : List Bool} → n ≤ i → Gathers given i → LettersAre given (letters_in b g)
-      gathers_all {given} l v =
-          record { each = λ x. sym (or_false (get_or given x false)) ∙ rw (letters_end l) at (v.each x) }
-
-      module _ {given : List Bool} {k : ℕ} (e : k ≡ word_of b inputs (s + i) 0) (v : Single given i) where
-        abbrev later : List ℕ
-        later = drop (i + 1) (letters_in b g)
-
-        single_on : i < n → repeated eqb (letters_in b g) ≡ (seen given k || any (seen given) later) || (any (eqb k) later || repeated eqb later)
-        single_on l =
-            v.rest
-            ∙ ap (λ (ls : List ℕ). any (seen given) ls || repeated eqb ls) (letters_on l ∙ ap (λ (t : ℕ). t ∷ drop (i + 1) (letters_in b g)) (sym e))
-
-        pub single_hit : i < n → seen given k ≡ true → true ≡ repeated eqb (letters_in b g)
-        single_hit l t = sym (single_on l ∙ rw t)
-
-        pub single_turn : i < n → k < 21 → seen given k ≡ false → Single (set given k true) (i + 1)
-        single_turn l u t =
-            record {
-              rest =
-                  single_on l
-                  ∙ rw t
-                  (sym (or_between (any (seen given) later) (any (eqb k) later) (repeated eqb later))
-                  ∙ ap (λ (x : Bool). x || repeated eqb later)
-                  (sym (any_either (eqb k) (seen given) later)
-                  ∙ sym (any_same (seen (set given k true)) (λ x. eqb k x || seen given x) (set_seen given k (omega (arith, v.long))) later)));
-              long = length-set given k true ∙ v.long;
-            }
-
-      pub single_done : {given : List Bool} → n ≤ i → Single given i → false ≡ repeated eqb (letters_in b g)
-      single_done l v = sym (v.rest ∙ rw (letters_end l))

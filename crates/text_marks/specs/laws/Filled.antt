@@ -13,6 +13,11 @@ pub set_bit_sum : (a b : ℕ) → set_bit (a + b) ≡ set_bit a || set_bit b
 set_bit_sum zero b = rw (zero-add b)
 set_bit_sum (suc a) b = rw (suc-add a b)
 
+-- a number that is not 0 is a bit that is set
+pub bit_there : (k : ℕ) → (k ≡ 0 → ⊥) → set_bit k ≡ true
+bit_there zero h = absurd (h refl)
+bit_there (suc k) h = refl
+
 module _ {A : Type 0} where
   pub nonempty_append : (xs ys : List A) → nonempty (xs ++ ys) ≡ nonempty xs || nonempty ys
   nonempty_append [] ys = refl
@@ -40,7 +45,7 @@ pub nonempty_headed : (head : List ℕ) (ls : List (List ℕ)) → nonempty (hea
 nonempty_headed head [] = refl
 nonempty_headed head (l ∷ ls) = refl
 
-zero_bit : (n : ℕ) → eqb n 0 ≡ not (set_bit n)
+pub zero_bit : (n : ℕ) → eqb n 0 ≡ not (set_bit n)
 zero_bit zero = refl
 zero_bit (suc n) = ne_eqb (suc n) 0 (λ e. omega arith)
 

@@ -5,16 +5,12 @@ use Rattle.spec_lists.specs.Select.{nonempty}
 use Rattle.spec_table.specs.Layout.{Content}
 use Rattle.spec_table.specs.Check.{flags_field}
 use Rattle.spec_text.specs.Lines.{ended}
-use Rattle.text_marks.specs.Room.{Room}
-use Rattle.text_marks.specs.laws.Ended.{ended_bare, ended_body, ended_head}
+use Rattle.text_marks.specs.laws.Ended.{ended_bare, ended_body}
 use Rattle.text_head.specs.Head.{head_text}
 use Rattle.text_body.specs.Body.{body_lines}
 use Rattle.text_rules.specs.Rules.{rule_text}
 
 module _ (c : Content) (w : List ℕ) where
-  pub rule_head : {at : ℕ} → Room at (rule_text c w) → Room at (head_text (flags_field w))
-  rule_head h = ended_head (head_text (flags_field w)) (body_lines c w) h
-
   pub rule_bare : nonempty (body_lines c w) ≡ false → rule_text c w ≡ head_text (flags_field w) ++ bytes "\n"
   rule_bare h = ended_bare (head_text (flags_field w)) (body_lines c w) h
 

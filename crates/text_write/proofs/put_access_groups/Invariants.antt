@@ -1,5 +1,4 @@
 use mathlib.Core.List.{map}
-use Prim.Native.Nat.{◌-◌}
 use lib.ListN.{drop}
 use Rattle.spec_lists.specs.Select.{joined}
 use Rattle.spec_file.specs.Limit.{access_groups}
@@ -9,7 +8,4 @@ use Rattle.text_write.specs.Access.{access_text, accesses_text}
 use Rattle.text_write.proofs.put_access_groups.Given as goal
 
 abbrev pub invariant-loop-i : goal.invariant-loop-i
-invariant-loop-i l = Left l.initial.lent l.lent l.at l.next (accesses_text (view l.table)) (joined (map (access_text (view l.table)) (drop l.i ((view l.table).records access_groups))))
-
-abbrev pub decreases-loop-i : goal.decreases-loop-i
-decreases-loop-i l = l.n - l.i
+invariant-loop-i l = Left l.initial.out l.out (accesses_text (view l.table)) (joined (map (access_text (view l.table)) (drop l.i ((view l.table).records access_groups))))

@@ -1,9 +1,10 @@
 -- An access group, part by part.
-use Rattle.std.specs.Prelude.{◌≡◌, Bool, true, false, ◌||◌, List, ◌++◌, map, ℕ, ◌+◌, length}
+use Rattle.std.specs.Prelude.{◌≡◌, Bool, ◌||◌, List, ◌++◌, map, ℕ, ◌+◌, ◌≤◌, length}
 use Rattle.std.proofs.Common.{sym, ap, ap₂, ◌∙◌, append_assoc, arith}
+use Rattle.std.specs.declared.ops.Range.{Range}
 use Rattle.spec_lists.specs.Text.{bytes}
 use Rattle.spec_lists.specs.Select.{nonempty, joined}
-use Rattle.spec_lists.specs.Runs.{part}
+use Rattle.spec_lists.specs.Runs.{Run, part}
 use Rattle.spec_lists.proofs.laws.Joined.{map_map}
 use Rattle.spec_lists.proofs.laws.Runs.{Within}
 use Rattle.spec_file.specs.Limit.{access_groups, inputs, rules}
@@ -18,7 +19,8 @@ use Rattle.table_read.specs.Stored.{Stored}
 use Rattle.text_marks.specs.Room.{Room}
 use Rattle.text_marks.specs.Names.{run, RunStored}
 use Rattle.text_marks.specs.laws.Ended.{ended_append, ended_bare, ended_body, ended_head, ended_map, ended_joined}
-use Rattle.text_marks.specs.laws.Filled.{set_bit_sum, nonempty_append, nonempty_map, nonempty_run, nonempty_joined, nonempty_headed}
+use Rattle.text_marks.specs.laws.Filled.{set_bit_sum, bit_there, nonempty_append, nonempty_map, nonempty_run, nonempty_joined, nonempty_headed}
+use Rattle.text_marks.specs.laws.Names.{run_is}
 use Rattle.text_inputs.specs.Inputs.{inputs_text}
 use Rattle.text_rules.specs.Rules.{rules_text}
 use Rattle.text_write.specs.Access.{access_text}
@@ -64,43 +66,51 @@ module _ (c : Content) (w : List ℕ) where
 -- ---- as the code finds them
 
 module _
-    (b : List ℕ) (i : ℕ) (s : Stored b access_groups i) {links n its_rules m : ℕ} (e : links ≡ (inputs_run (row (view b) access_groups i)).first)
-    (f : n ≡ (inputs_run (row (view b) access_groups i)).count) (g : its_rules ≡ (rules_run (row (view b) access_groups i)).first)
-    (h : m ≡ (rules_run (row (view b) access_groups i)).count)
+    (b : List ℕ) (i : ℕ) (s : Stored b access_groups i) {links its_rules : Range ℕ}
+    (e : links.start ≡ (inputs_run (row (view b) access_groups i)).first)
+    (f : links.end ≡ (inputs_run (row (view b) access_groups i)).first + (inputs_run (row (view b) access_groups i)).count)
+    (g : its_rules.start ≡ (rules_run (row (view b) access_groups i)).first)
+    (h : its_rules.end ≡ (rules_run (row (view b) access_groups i)).first + (rules_run (row (view b) access_groups i)).count)
   where
     abbrev here : List ℕ
     here = row (view b) access_groups i
 
-    pub links_stored : RunStored b inputs links n
+    pub links_stored : RunStored b inputs links
     links_stored =
         record { table = s.table; inside = omega (arith, inputs_within (view b) (stands b s.table).1 i s.inside, e, f) }
 
-    pub rules_stored : RunStored b rules its_rules m
+    pub rules_stored : RunStored b rules its_rules
     rules_stored =
         record { table = s.table; inside = omega (arith, rules_within (view b) (stands b s.table).1 i s.inside, g, h) }
 
-    there : {t : Bool} → set_bit (n + m) ≡ t → nonempty (body (view b) here) ≡ t
+    there : {t : Bool} → set_bit ((inputs_run here).count + (rules_run here).count) ≡ t → nonempty (body (view b) here) ≡ t
     there z =
         let k = (stands b s.table).1 in
-        body_there (view b) here (inputs_within (view b) k i s.inside) (rules_within (view b) k i s.inside)
-        ∙ sym (ap₂ (λ (x y : ℕ). set_bit (x + y)) f h)
-        ∙ z
+        body_there (view b) here (inputs_within (view b) k i s.inside) (rules_within (view b) k i s.inside) ∙ z
 
-    pub access_bare : set_bit (n + m) ≡ false → access_text (view b) here ≡ head (view b) here ++ bytes "\n"
-    access_bare z = ended_bare (head (view b) here) (body (view b) here) (there z)
+    pub access_bare : links.end ≤ links.start → its_rules.end ≤ its_rules.start → access_text (view b) here ≡ head (view b) here ++ bytes "\n"
+    access_bare y z =
+        let n : (inputs_run here).count + (rules_run here).count ≡ 0 = omega (arith, e, f, g, h, y, z) in
+        ended_bare (head (view b) here) (body (view b) here) (there (ap set_bit n))
 
     pub access_full :
-        set_bit (n + m) ≡ true
+        (links.end ≤ links.start → its_rules.end ≤ its_rules.start → ⊥)
         → access_text (view b) here
-        ≡ head (view b) here ++ (bytes "{\n" ++ (inputs_text (view b) (run links n) ++ (rules_text (view b) (run its_rules m) ++ bytes "}\n")))
+        ≡ head (view b) here ++ (bytes "{\n" ++ (inputs_text (view b) (run links) ++ (rules_text (view b) (run its_rules) ++ bytes "}\n")))
     access_full z =
-        ended_body (head (view b) here) (body (view b) here) (there z)
+        ended_body
+        (head (view b) here)
+        (body (view b) here)
+        (there
+        (bit_there
+        ((inputs_run here).count + (rules_run here).count)
+        (λ n. z (omega (arith, e, f, n)) (omega (arith, g, h, n)))))
         ∙ ap (λ (t : List ℕ). head (view b) here ++ (bytes "{\n" ++ t)) parts
       where
         parts :
             ended (body (view b) here) ++ bytes "}\n"
-            ≡ inputs_text (view b) (run links n) ++ (rules_text (view b) (run its_rules m) ++ bytes "}\n")
+            ≡ inputs_text (view b) (run links) ++ (rules_text (view b) (run its_rules) ++ bytes "}\n")
         parts =
-            rw (e, f, g, h)
-            (ap (λ (t : List ℕ). t ++ bytes "}\n") (body_is (view b) here)
-            ∙ append_assoc (inputs_text (view b) (inputs_run here)) (rules_text (view b) (rules_run here)) (bytes "}\n"))
+            ap (λ (t : List ℕ). t ++ bytes "}\n") (body_is (view b) here)
+            ∙ append_assoc (inputs_text (view b) (inputs_run here)) (rules_text (view b) (rules_run here)) (bytes "}\n")
+            ∙ sym (ap₂ (λ (u v : Run). inputs_text (view b) u ++ (rules_text (view b) v ++ bytes "}\n")) (run_is e f) (run_is g h))
