@@ -5,7 +5,7 @@ ghost use Rattle.std.specs.Prelude.{◌≡◌};
 ghost use Rattle.spec_places.specs.Storage.{right_in};
 ghost use Rattle.spec_places.specs.Calls.{told_removed, places_removed};
 
-use reg_refuse::Room;
+use reg_bytes::PLACES;
 use spec_register::Changed;
 use spec_rule::Decision;
 
@@ -15,8 +15,8 @@ pub fn remove(places: &mut [u8], place: usize) -> Changed
     ensures places_after { places.new ≡ places_removed places.old place }
 {
     match reg_refuse::room_to_remove(places, place) {
-        Room::At(p) => Changed::Places(reg_enter::free(places, p)),
-        Room::Refused(x) => Changed::Refused(x),
+        Ok(p) => Changed::Places(reg_enter::free(places, p)),
+        Err(x) => Changed::Refused(x),
     }
 }
 
@@ -24,11 +24,8 @@ pub fn remove(places: &mut [u8], place: usize) -> Changed
 pub fn right(places: &[u8], place: usize) -> Decision
     ensures { result ≡ right_in places.now place }
 {
-    if !reg_bytes::has_places(places) {
-        return ask_number::from_number(0); // no register
+    if !reg_bytes::has_places(places) || PLACES <= place {
+        return ask_number::from_number(0);
     }
-    if place < 64 {
-        return ask_number::from_number(reg_bytes::right(places, place));
-    }
-    ask_number::from_number(0)
+    ask_number::from_number(reg_bytes::right(places, place))
 }

@@ -3,11 +3,11 @@
 
 ghost use Rattle.std.specs.Prelude.{◌≡◌, true};
 ghost use Rattle.spec_table.specs.Check.{is_table};
-ghost use Rattle.spec_register.specs.Register.{client_of};
 ghost use Rattle.spec_places.specs.Storage.{lent};
+ghost use Rattle.reg_bytes.specs.Placed.{client_lent};
 ghost use Rattle.spec_places.specs.Calls.{told_added, places_added, told_changed, places_changed};
 
-use reg_refuse::Room;
+use reg_bytes::Client;
 use spec_register::{Added, Changed};
 
 // Adds a client. Inner: callers have asked is_table, or have the bytes of an accepted load.
@@ -16,29 +16,24 @@ pub fn add_checked(
     states: &[u8],
     values: &[f64],
     table: &[u8],
-    group: &[u8],
-    user: &[u8],
-    host: &[u8],
-    level: u32,
+    c: Client,
 ) -> Added
     requires { is_table table.now ≡ true }
     ensures value { result
         ≡ told_added
         (lent table.now places.old states.now values.now)
-        (client_of group.now level user.now host.now) }
+        (client_lent c.entry) }
     ensures places_after { places.new
         ≡ places_added
         (lent table.now places.old states.now values.now)
-        (client_of group.now level user.now host.now) }
+        (client_lent c.entry) }
 {
-    match reg_refuse::room_to_add(places, states, values, group, user, host, level) {
-        Room::At(p) => Added::At {
+    match reg_refuse::room_to_add(places, states, values, c) {
+        Ok(p) => Added::At {
             place: p,
-            changed: reg_client::enter_checked(
-                places, states, values, table, p, group, user, host, level,
-            ),
+            changed: reg_client::enter_checked(places, states, values, table, p, c),
         },
-        Room::Refused(x) => Added::Refused(x),
+        Err(x) => Added::Refused(x),
     }
 }
 
@@ -49,27 +44,22 @@ pub fn change_checked(
     values: &[f64],
     table: &[u8],
     place: usize,
-    group: &[u8],
-    user: &[u8],
-    host: &[u8],
-    level: u32,
+    c: Client,
 ) -> Changed
     requires { is_table table.now ≡ true }
     ensures value { result
         ≡ told_changed
         (lent table.now places.old states.now values.now)
         place
-        (client_of group.now level user.now host.now) }
+        (client_lent c.entry) }
     ensures places_after { places.new
         ≡ places_changed
         (lent table.now places.old states.now values.now)
         place
-        (client_of group.now level user.now host.now) }
+        (client_lent c.entry) }
 {
-    match reg_refuse::room_to_change(places, states, values, place, group, user, host, level) {
-        Room::At(p) => Changed::Places(reg_client::enter_checked(
-            places, states, values, table, p, group, user, host, level,
-        )),
-        Room::Refused(x) => Changed::Refused(x),
+    match reg_refuse::room_to_change(places, states, values, place, c) {
+        Ok(p) => Changed::Places(reg_client::enter_checked(places, states, values, table, p, c)),
+        Err(x) => Changed::Refused(x),
     }
 }

@@ -3,12 +3,13 @@
 
 ghost use Rattle.std.specs.Prelude.{◌≡◌, true};
 ghost use Rattle.spec_table.specs.Check.{is_table};
-ghost use Rattle.spec_register.specs.Register.{client_of};
 ghost use Rattle.spec_places.specs.Storage.{readings_in};
 ghost use Rattle.spec_places.specs.Writing.{entered};
 ghost use Rattle.spec_places.proofs.laws.Fits.{Fits};
-ghost use Rattle.reg_bytes.specs.Placed.{Placed};
+ghost use Rattle.reg_bytes.specs.Placed.{Placed, client_lent};
 ghost use Rattle.reg_enter.specs.Entered.{Left};
+
+use reg_bytes::Client;
 
 // A client over a table that was checked. Inner: reg_checked calls it, with a place that reg_refuse has given.
 pub fn enter_checked(
@@ -17,27 +18,19 @@ pub fn enter_checked(
     values: &[f64],
     table: &[u8],
     p: usize,
-    group: &[u8],
-    user: &[u8],
-    host: &[u8],
-    level: u32,
+    c: Client,
 ) -> u64
     requires table_value { is_table table.now ≡ true }
     requires placed { Placed places.old p }
-    requires fits { Fits (client_of group.now level user.now host.now) }
+    requires fits { Fits (client_lent c) }
     ensures { Left
         places.old
-        (entered
-        table.now
-        (readings_in states.now values.now)
-        places.old
-        p
-        (client_of group.now level user.now host.now))
+        (entered table.now (readings_in states.now values.now) places.old p (client_lent c.entry))
         places.new
         result }
 {
-    let k = reg_kept::kept_checked(table, group, user, host, level, states, values);
-    reg_enter::enter_kept(places, p, group, user, host, level, k)
+    let k = reg_kept::kept_checked(table, c, states, values);
+    reg_enter::enter_kept(places, p, c, k)
 }
 
 // A client over any bytes. Inner: register calls it, with a place that reg_refuse has given.
@@ -47,34 +40,18 @@ pub fn enter(
     values: &[f64],
     table: &[u8],
     p: usize,
-    group: &[u8],
-    user: &[u8],
-    host: &[u8],
-    level: u32,
+    c: Client,
 ) -> u64
     requires placed { Placed places.old p }
-    requires fits { Fits (client_of group.now level user.now host.now) }
+    requires fits { Fits (client_lent c) }
     ensures { Left
         places.old
-        (entered
-        table.now
-        (readings_in states.now values.now)
-        places.old
-        p
-        (client_of group.now level user.now host.now))
+        (entered table.now (readings_in states.now values.now) places.old p (client_lent c.entry))
         places.new
         result }
 {
     if table::is_table(table) {
-        return enter_checked(places, states, values, table, p, group, user, host, level);
+        return enter_checked(places, states, values, table, p, c);
     }
-    reg_enter::enter_kept(
-        places,
-        p,
-        group,
-        user,
-        host,
-        level,
-        reg_kept::nothing_kept(),
-    )
+    reg_enter::enter_kept(places, p, c, reg_kept::nothing_kept())
 }

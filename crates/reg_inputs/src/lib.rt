@@ -1,45 +1,22 @@
 // The inputs of a group's calculations, straight from the states and values of a register: no reading is made and taken apart again.
 #![tactic(auto)]
 
-ghost use Rattle.std.specs.Prelude.{◌≡◌, map, ◌<◌, get_or};
-ghost use Rattle.std.specs.Float.{nan};
+ghost use Rattle.std.specs.Prelude.{◌≡◌, map, ◌<◌};
 ghost use Rattle.spec_calc.specs.Value.{heard, good};
 ghost use Rattle.spec_calc.specs.States.{reading_at, readings};
 
 use calc_inputs::Inputs;
 
-fn state_at(states: &[u8], k: usize) -> u8
-    ensures { result ≡ get_or states.now k 0 }
+// The value of the k-th reading, and whether it is good.
+fn input_at(states: &[u8], values: &[f64], k: usize) -> (f64, bool)
+    ensures { (result.0 ≡ heard (reading_at states.now values.now k)) × (result.1 ≡ good (reading_at states.now values.now k)) }
 {
-    if k < states.len() { states[k] } else { 0 }
-}
-
-fn value_at(values: &[f64], k: usize) -> f64
-    ensures { result ≡ get_or values.now k nan }
-{
-    if k < values.len() {
-        values[k]
-    } else {
-        0.0 / 0.0
+    let state = states.get(k).copied().unwrap_or(0);
+    if state != 2 {
+        return (0.0, false);
     }
-}
-
-fn heard_at(states: &[u8], values: &[f64], k: usize) -> f64
-    ensures { result ≡ heard (reading_at states.now values.now k) }
-{
-    if state_at(states, k) == 2 {
-        return value_at(values, k);
-    }
-    0.0
-}
-
-fn good_at(states: &[u8], values: &[f64], k: usize) -> bool
-    ensures { result ≡ good (reading_at states.now values.now k) }
-{
-    if state_at(states, k) == 2 {
-        return calc_arith::is_finite(value_at(values, k));
-    }
-    false
+    let value = values.get(k).copied().unwrap_or(f64::NAN);
+    (value, calc_arith::is_finite(value))
 }
 
 // The inputs of the 21 readings that begin at an index. Inner: reg_kept calls it, with 21 times a group's number, of which there are 64.
@@ -50,11 +27,10 @@ pub fn inputs_at(states: &[u8], values: &[f64], from: usize) -> Inputs
 {
     let mut heard = [0.0; 21];
     let mut good = [false; 21];
-    let mut i: usize = 0;
-    while i < 21 {
-        heard[i] = heard_at(states, values, from + i);
-        good[i] = good_at(states, values, from + i);
-        i += 1;
+    for i in 0..21 {
+        let (value, is_good) = input_at(states, values, from + i);
+        heard[i] = value;
+        good[i] = is_good;
     }
     Inputs {
         values: heard,

@@ -1,14 +1,19 @@
 // What a place keeps of its client: which access group answers, the right, and which rules of that group stand.
 #![tactic(auto)]
 
-ghost use Rattle.std.specs.Prelude.{◌≡◌, true, ◌<◌};
+ghost use Rattle.std.specs.Prelude.{◌≡◌, true};
 ghost use Rattle.spec_file.specs.Limit.{access_groups};
 ghost use Rattle.spec_table.specs.Check.{is_table};
 ghost use Rattle.spec_places.specs.Storage.{nothing_kept};
 ghost use Rattle.table_read.specs.Stored.{Stored};
+ghost use Rattle.reg_bytes.specs.Placed.{client_lent};
 ghost use Rattle.reg_kept.specs.Kept.{Keeps, kept_by_number, kept_of, outcomes_now};
 
-use table_read::{Index, Section};
+use reg_bytes::Client;
+use table_read::Section;
+
+// The readings of an access group.
+pub const LETTERS: usize = 21;
 
 // The number of the answering group and 1, or 0; the right's code; and of each of the group's rules, count of them, 1 if it stands.
 #[derive(Clone, Copy)]
@@ -31,52 +36,29 @@ pub fn nothing_kept() -> Kept
     }
 }
 
-fn small(n: usize) -> u8
-    requires { n < 256 }
-    ensures { result ≡ n }
-{
-    n as u8
-}
-
-fn wide(n: u32) -> usize
-    ensures { result ≡ n }
-{
-    n as usize
-}
-
 // Whose calculations are true now, of an access group's rules. Inner: callers know the group from a search in a checked table.
 pub fn outcomes_of(table: &[u8], group: usize, states: &[u8], values: &[f64]) -> [u8; 256]
     requires { Stored table.now access_groups group }
     ensures { result ≡ outcomes_now table.now group states.now values.now }
 {
-    let inputs = reg_inputs::inputs_at(states, values, group * 21);
-    let heard = inputs.values;
-    let goods = inputs.good;
+    let inputs = reg_inputs::inputs_at(states, values, group * LETTERS);
     let mut outcomes: [u8; 256] = [0; 256];
-    ask_keep::calculate(table, group, &heard, &goods, &mut outcomes);
+    ask_keep::calculate(table, group, &inputs, &mut outcomes);
     outcomes
 }
 
 // What is kept of a client that an access group answers for: each rule is tried at most once, each calculation run once.
-fn kept_by_group(
-    table: &[u8],
-    i: usize,
-    user: &[u8],
-    host: &[u8],
-    level: u32,
-    states: &[u8],
-    values: &[f64],
-) -> Kept
+fn kept_by_group(table: &[u8], i: usize, c: Client, states: &[u8], values: &[f64]) -> Kept
     requires { Stored table.now access_groups i }
-    ensures { Keeps (kept_by_number table.now states.now values.now i user.now host.now level) result }
+    ensures { Keeps (kept_by_number table.now states.now values.now i (client_lent c.entry)) result }
 {
     let mut flags: [u8; 256] = [0; 256];
-    ask_keep::keep(table, i, user, host, wide(level), &mut flags, 0);
+    ask_keep::keep(table, i, c.user, c.host, c.level as usize, &mut flags, 0);
     let outcomes = outcomes_of(table, i, states, values);
     let right = ask_number::number(ask_kept::kept_decision(table, i, &flags, 0, &outcomes));
     let count = table_read::field(table, Section::AccessGroups, i, 5);
     Kept {
-        number: small(i + 1),
+        number: (i + 1) as u8,
         right,
         count,
         flags,
@@ -84,20 +66,12 @@ fn kept_by_group(
 }
 
 // What is kept of a client. Inner: callers have asked is_table, or have the bytes of an accepted load; of other bytes nothing is kept.
-pub fn kept_checked(
-    table: &[u8],
-    group: &[u8],
-    user: &[u8],
-    host: &[u8],
-    level: u32,
-    states: &[u8],
-    values: &[f64],
-) -> Kept
+pub fn kept_checked(table: &[u8], c: Client, states: &[u8], values: &[f64]) -> Kept
     requires { is_table table.now ≡ true }
-    ensures { Keeps (kept_of table.now states.now values.now group.now level user.now host.now) result }
+    ensures { Keeps (kept_of table.now states.now values.now (client_lent c.entry)) result }
 {
-    match table_find::answering_group(table, group) {
-        Index::Missing => nothing_kept(),
-        Index::At(i) => kept_by_group(table, i, user, host, level, states, values),
+    match table_find::answering_group(table, c.group) {
+        None => nothing_kept(),
+        Some(i) => kept_by_group(table, i, c, states, values),
     }
 }

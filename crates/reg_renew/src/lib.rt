@@ -7,11 +7,7 @@ ghost use Rattle.table_read.specs.Stored.{Stored};
 ghost use Rattle.reg_bytes.specs.Placed.{Placed};
 ghost use Rattle.reg_renew.specs.Renew.{RenewsPlace, RenewsAll};
 
-fn wide(n: u8) -> usize
-    ensures { result ≡ n }
-{
-    n as usize
-}
+use reg_bytes::{FLAGS, PLACE_BYTES, PLACES, RIGHT};
 
 // Renews the right of one place, and says by a bit whether it has changed. A place that another group answers for costs one look at a byte.
 fn renew_place(places: &mut [u8], p: usize, table: &[u8], group: usize, outcomes: &[u8; 256]) -> u64
@@ -19,13 +15,13 @@ fn renew_place(places: &mut [u8], p: usize, table: &[u8], group: usize, outcomes
     requires stored { Stored table.now access_groups group × (most rules ≤ length outcomes.now) }
     ensures { RenewsPlace table.now group outcomes.now p places.old places.new result }
 {
-    if wide(reg_bytes::number(places, p)) != group + 1 {
+    if usize::from(reg_bytes::number(places, p)) != group + 1 {
         return 0;
     }
     let before = reg_bytes::right(places, p);
-    let at = p * 448 + 187;
+    let at = p * PLACE_BYTES + FLAGS;
     let after = ask_number::number(ask_kept::kept_decision(table, group, places, at, outcomes));
-    places[p * 448 + 186] = after;
+    places[p * PLACE_BYTES + RIGHT] = after;
     reg_right::changed(before, after)
 }
 
@@ -36,9 +32,7 @@ pub fn renew_by(places: &mut [u8], table: &[u8], group: usize, outcomes: &[u8; 2
     ensures { RenewsAll table.now group outcomes.now places.old places.new result }
 {
     let mut m: u64 = 0;
-    let mut p: usize = 64;
-    while 0 < p {
-        p -= 1;
+    for p in (0..PLACES).rev() {
         m = renew_place(places, p, table, group, outcomes) + 2 * m;
     }
     m

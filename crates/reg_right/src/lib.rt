@@ -19,5 +19,5 @@ pub fn differ(before: u8, after: u8) -> bool
 pub fn changed(before: u8, after: u8) -> u64
     ensures { result ≡ bit (differ (decision_from before) (decision_from after)) }
 {
-    if differ(before, after) { 1 } else { 0 }
+    u64::from(differ(before, after))
 }

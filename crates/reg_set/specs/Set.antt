@@ -12,8 +12,8 @@ use Rattle.spec_register.specs.Refusal.{no_input}
 use Rattle.spec_register.specs.declared.Changed.{Changed}
 use Rattle.spec_places.specs.Storage.{Lent, readings_in}
 use Rattle.spec_places.specs.Writing.{state_of}
-use Rattle.table_read.specs.declared.Index.{Index}
-use Rattle.table_read.specs.declared.Index.TheVariants.{At, Missing}
+use Rattle.table_read.specs.Search.{Index}
+use Rattle.std.specs.Prelude.{Some, None}
 use Rattle.table_read.specs.Stored.{Stored}
 use Rattle.reg_renew.specs.Renew.{AllRenewed}
 
@@ -26,8 +26,8 @@ pub record InputOf (t n : List ℕ) (letter i : ℕ) : Type 0 where
 
 -- a search for it
 abbrev pub HasInput : List ℕ → List ℕ → ℕ → Index → Type 0
-HasInput t n letter Missing = no_input t letter (group_named t n) ≡ true
-HasInput t n letter (At i) = InputOf t n letter i
+HasInput t n letter None = no_input t letter (group_named t n) ≡ true
+HasInput t n letter (Some i) = InputOf t n letter i
 
 -- a reading of the i-th group written, and the rights of its places renewed
 pub record ReadingSet (s : Lent) (i letter : ℕ) (x : Reading) (after : Lent) (m : ℕ) : Type 0 where

@@ -11,9 +11,9 @@ ghost use Rattle.spec_places.specs.Calls.{is_register, told_set, left_set};
 ghost use Rattle.table_read.specs.Stored.{Stored};
 ghost use Rattle.reg_set.specs.Set.{Given, HasInput, ReadingSet};
 
+use reg_kept::LETTERS;
 use spec_calc::Reading;
 use spec_register::{Changed, Refused};
-use table_read::Index;
 
 fn state_of(r: Reading) -> u8
     ensures { result ≡ state_of r }
@@ -25,24 +25,14 @@ fn state_of(r: Reading) -> u8
     }
 }
 
-fn wide(n: u32) -> usize
-    ensures { result ≡ n }
-{
-    n as usize
-}
-
 // The number of the access group of a name, if it has an input of a letter.
-fn group_with_input(table: &[u8], group: &[u8], letter: u32) -> Index
+fn group_with_input(table: &[u8], group: &[u8], letter: u32) -> Option<usize>
     requires { is_table table.now ≡ true }
     ensures { HasInput table.now group.now letter result }
 {
-    match table_find::group_named(table, group) {
-        Index::Missing => Index::Missing,
-        Index::At(i) => match table_find::first_input(table, i, wide(letter)) {
-            Index::Missing => Index::Missing,
-            Index::At(_) => Index::At(i),
-        },
-    }
+    let i = table_find::group_named(table, group)?;
+    table_find::first_input(table, i, letter as usize)?;
+    Some(i)
 }
 
 // A reading of the i-th access group written, and the rights of its places renewed.
@@ -65,7 +55,7 @@ fn set_reading(
         (lent table.now places.new states.new values.new)
         result }
 {
-    let at = i * 21 + wide(letter);
+    let at = i * LETTERS + letter as usize;
     states[at] = state_of(r);
     values[at] = calc_inputs::value_of(r);
     reg_group::renew(places, states, values, table, i)
@@ -92,7 +82,7 @@ pub fn set_checked(
         return Changed::Refused(Refused::NotRegister);
     }
     match group_with_input(table, group, letter) {
-        Index::Missing => Changed::Refused(Refused::NoInput),
-        Index::At(i) => Changed::Places(set_reading(places, states, values, table, i, letter, r)),
+        None => Changed::Refused(Refused::NoInput),
+        Some(i) => Changed::Places(set_reading(places, states, values, table, i, letter, r)),
     }
 }

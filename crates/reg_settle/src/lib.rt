@@ -7,13 +7,8 @@ ghost use Rattle.reg_bytes.specs.Placed.{Placed};
 ghost use Rattle.reg_kept.specs.Kept.{Keeps};
 ghost use Rattle.reg_settle.specs.Settle.{SettlesPlace, AllSettled, kept_here};
 
+use reg_bytes::PLACES;
 use reg_kept::Kept;
-
-fn wide(n: u8) -> u32
-    ensures { result ≡ n }
-{
-    n as u32
-}
 
 // What a place is to keep of its client by a table, no reading heard.
 fn kept_here(places: &[u8], p: usize, table: &[u8]) -> Kept
@@ -21,11 +16,7 @@ fn kept_here(places: &[u8], p: usize, table: &[u8]) -> Kept
     requires table_value { is_table table.now ≡ true }
     ensures { Keeps (kept_here table.now places.now p) result }
 {
-    let group = reg_bytes::group(places, p);
-    let user = reg_bytes::user(places, p);
-    let host = reg_bytes::host(places, p);
-    let level = wide(reg_bytes::level(places, p));
-    reg_kept::kept_checked(table, group, user, host, level, &[], &[])
+    reg_kept::kept_checked(table, reg_bytes::client_at(places, p), &[], &[])
 }
 
 // Settles one place, and says by a bit whether its right has changed.
@@ -53,9 +44,7 @@ pub fn settle(places: &mut [u8], table: &[u8]) -> u64
     ensures { AllSettled table.now places.old places.new result }
 {
     let mut m: u64 = 0;
-    let mut p: usize = 64;
-    while 0 < p {
-        p -= 1;
+    for p in (0..PLACES).rev() {
         m = settle_place(places, p, table) + 2 * m;
     }
     m

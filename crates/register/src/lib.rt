@@ -6,7 +6,7 @@ ghost use Rattle.spec_register.specs.Register.{client_of};
 ghost use Rattle.spec_places.specs.Storage.{lent};
 ghost use Rattle.spec_places.specs.Calls.{told_added, places_added, told_changed, places_changed};
 
-use reg_refuse::Room;
+use reg_bytes::Client;
 use spec_register::{Added, Changed};
 
 // Adds a client at the lowest free place. Over bytes that are no table its right is NONE.
@@ -29,12 +29,18 @@ pub fn add(
         (lent table.now places.old states.now values.now)
         (client_of group.now level user.now host.now) }
 {
-    match reg_refuse::room_to_add(places, states, values, group, user, host, level) {
-        Room::At(p) => Added::At {
+    let c = Client {
+        group,
+        user,
+        host,
+        level,
+    };
+    match reg_refuse::room_to_add(places, states, values, c) {
+        Ok(p) => Added::At {
             place: p,
-            changed: reg_client::enter(places, states, values, table, p, group, user, host, level),
+            changed: reg_client::enter(places, states, values, table, p, c),
         },
-        Room::Refused(x) => Added::Refused(x),
+        Err(x) => Added::Refused(x),
     }
 }
 
@@ -61,10 +67,14 @@ pub fn change(
         place
         (client_of group.now level user.now host.now) }
 {
-    match reg_refuse::room_to_change(places, states, values, place, group, user, host, level) {
-        Room::At(p) => Changed::Places(reg_client::enter(
-            places, states, values, table, p, group, user, host, level,
-        )),
-        Room::Refused(x) => Changed::Refused(x),
+    let c = Client {
+        group,
+        user,
+        host,
+        level,
+    };
+    match reg_refuse::room_to_change(places, states, values, place, c) {
+        Ok(p) => Changed::Places(reg_client::enter(places, states, values, table, p, c)),
+        Err(x) => Changed::Refused(x),
     }
 }

@@ -1,36 +1,49 @@
 -- The lowest free place, place by place.
-use Rattle.std.specs.Prelude.{◌≡◌, refl, cond, List, [], ◌∷◌, map, ℕ, suc, ◌+◌, ◌-◌, ◌≤◌, ◌<◌, get_or}
-use Rattle.std.proofs.Common.{sym, ap, ap₂, ◌∙◌, add-one, arith, ne_eqb, eq-eqb}
-use Rattle.std.proofs.Math.Option.{Option, none, some}
-use Rattle.spec_register.specs.Register.{Client, most_clients}
+use Rattle.std.specs.Prelude.{◌≡◌, refl, Option, Some, None, option_map, Bool, cond, List, ◌∷◌, map, ℕ, zero, suc, ◌+◌, eqb, get_or}
+use Rattle.std.specs.List.{find, range_with_len}
+use Rattle.std.proofs.lemmas.Bool.Decides.{nat_tests}
+use Rattle.std.proofs.Common.{sym, ap, ap₂, ne_eqb, subst, ◌∙◌, add-one, add-zero, arith}
+use Rattle.std.proofs.Math.Option.{none, some}
+use Rattle.spec_rule.specs.Kept.{says_stands}
 use Rattle.spec_register.specs.Right.{from}
 use Rattle.spec_register.specs.Refusal.{lowest_free}
 use Rattle.spec_places.specs.Storage.{at_place, client_in, client_from}
+use Rattle.reg_bytes.specs.Placed.{free_place}
 
-module _ (f : ℕ → Option Client) where
-  -- how many stand from p on before the lowest that is free
-  abbrev pub free_from : ℕ → ℕ
-  free_from p = lowest_free (map f (from p (most_clients - p)))
+eqb_suc : (k n : ℕ) → eqb k n ≡ eqb (suc k) (suc n)
+eqb_suc k n = grind (arith, nat_tests)
 
-  free_on : (p : ℕ) {o : Option Client} → p < most_clients → f p ≡ o → free_from p ≡ lowest_free (o ∷ map f (from (p + 1) (most_clients - (p + 1))))
-  free_on p h e =
-      let z : most_clients - p ≡ suc (most_clients - suc p) = omega arith in
-      ap (λ (m : ℕ). lowest_free (map f (from p m))) z
-      ∙ ap₂ (λ (x : Option Client) (k : ℕ). lowest_free (x ∷ map f (from k (most_clients - k)))) e (sym (add-one p))
+module _ (b : List ℕ) where
+  abbrev is_free : ℕ → Bool
+  is_free p = eqb (get_or b (at_place p) 0) 0
 
-  module _ (n p : ℕ) (so : n ≡ p + free_from p) where
-    pub free_turn : {c : Client} → p < most_clients → f p ≡ some c → n ≡ p + 1 + free_from (p + 1)
-    free_turn {c} h e = let z : free_from p ≡ suc (free_from (p + 1)) = free_on p h e in omega arith
+  -- of n places from p on, k stand before the lowest that is free
+  abbrev found : ℕ → ℕ → ℕ → Option ℕ
+  found p n k = cond (eqb k n) None (Some (p + k))
 
-    pub free_hit : p < most_clients → f p ≡ none → p ≡ n
-    free_hit h e = let z : free_from p ≡ 0 = free_on p h e in omega arith
+  abbrev taken_from : ℕ → ℕ → ℕ
+  taken_from p n = lowest_free (map (client_in b) (from p n))
 
-    pub free_none : most_clients ≤ p → p ≤ most_clients → most_clients ≡ n
-    free_none h l = let z : p ≡ most_clients = omega arith in let y : free_from p ≡ 0 = rw z in omega arith
+  found_on : (p n k : ℕ) → found (p + 1) n k ≡ found p (suc n) (suc k)
+  found_on p n k = let e : p + 1 + k ≡ p + suc k = omega arith in ap₂ (λ (t : Bool) (m : ℕ). cond t None (Some m)) (eqb_suc k n) e
 
-module _ (b : List ℕ) (p : ℕ) where
-  pub taken_here : (get_or b (at_place p) 0 ≡ 0 → ⊥) → client_in b p ≡ some (client_from b (at_place p))
-  taken_here n = rw (ne_eqb (get_or b (at_place p) 0) 0 n)
+  free_from : (p n : ℕ) → find is_free (range_with_len p n) ≡ found p n (taken_from p n)
+  free_from p zero = refl
+  free_from p (suc n) =
+      by
+      (get_or b (at_place p) 0)
+      (subst (λ (q : ℕ). find is_free (range_with_len (p + 1) n) ≡ found (p + 1) n (taken_from q n)) (add-one p) (free_from (p + 1) n))
+    where
+      by :
+          (v : ℕ) → find is_free (range_with_len (p + 1) n) ≡ found (p + 1) n (taken_from (suc p) n)
+          → cond (eqb v 0) (Some p) (find is_free (range_with_len (p + 1) n))
+          ≡ found p (suc n) (lowest_free (cond (says_stands v) (some (client_from b (at_place p))) none ∷ map (client_in b) (from (suc p) n)))
+      by zero h = rw (ne_eqb 0 (suc n) (λ e. absurd (omega arith))) (ap Some (sym (add-zero p)))
+      by (suc v) h = rw (ne_eqb (suc v) 0 (λ e. absurd (omega arith))) (h ∙ found_on p n (taken_from (suc p) n))
 
-  pub free_here : get_or b (at_place p) 0 ≡ 0 → client_in b p ≡ none
-  free_here e = rw (eq-eqb (get_or b (at_place p) 0) 0 e)
+  pub free_first : find is_free (range_with_len 0 64) ≡ free_place b
+  free_first = free_from 0 64 ∙ ap (λ (k : ℕ). cond (eqb (taken_from 0 64) 64) None (Some k)) (omega arith)
+
+pub same_option : (r : Option ℕ) → option_map (λ x. x) r ≡ r
+same_option (Some x) = refl
+same_option None = refl

@@ -1,38 +1,18 @@
 -- Readings cleared, as the code does it.
-use Rattle.std.specs.Prelude.{◌≡◌, refl, true, List, ℕ, suc, ◌-◌, ◌≤◌, ◌<◌, length, set, replicate}
-use Rattle.std.proofs.Common.{sym, ap, ◌∙◌, arith, length-set, leb-true}
-use Rattle.std.proofs.lemmas.List.Edits.{sets}
+use Rattle.std.specs.Prelude.{◌≡◌, true, List, ◌++◌, ℕ, ◌+◌, ◌≤◌, length, drop, replicate}
+use Rattle.std.proofs.Common.{sym, ap, ap₂, ◌∙◌, arith, leb-true}
+use Rattle.std.proofs.lemmas.List.{length-replicate}
+use Rattle.std.proofs.lemmas.List.Edits.{sets, sets-eq}
 use Rattle.spec_lists.proofs.laws.Both.{both}
 use Rattle.spec_places.specs.Storage.{Lent, places_bytes, all_readings, are_places}
 use Rattle.spec_places.specs.Calls.{are_states, has_room}
 use Rattle.reg_bytes.specs.Placed.{Placed}
 
--- ---- the states: those before i are cleared
-
-pub record Clearing (b₀ : List ℕ) (i : ℕ) (b : List ℕ) : Type 0 where
-  pub inside : i ≤ all_readings
-  pub left : sets b i (replicate (all_readings - i) 0) ≡ sets b₀ 0 (replicate all_readings 0)
-  pub same_length : length b ≡ length b₀
-
-module _ (b₀ : List ℕ) where
-  pub clearing_none : Clearing b₀ 0 b₀
-  clearing_none = record { inside = omega arith; left = refl; same_length = refl }
-
-  pub clearing_more : {i j : ℕ} {b : List ℕ} → i < all_readings → j ≡ suc i → Clearing b₀ i b → Clearing b₀ j (set b i 0)
-  clearing_more {i} {j} {b} h e v =
-      let z : all_readings - i ≡ suc (all_readings - suc i) = omega arith in
-      record {
-        inside = omega arith;
-        left =
-            ap (λ (k : ℕ). sets (set b i 0) k (replicate (all_readings - k) 0)) e
-            ∙ sym (ap (λ (n : ℕ). sets b i (replicate n 0)) z)
-            ∙ v.left;
-        same_length = length-set b i 0 ∙ v.same_length;
-      }
-
-  pub clearing_all : {i : ℕ} {b : List ℕ} → all_readings ≤ i → Clearing b₀ i b → b ≡ sets b₀ 0 (replicate all_readings 0)
-  clearing_all {i} {b} h v =
-      let z : all_readings - i ≡ 0 = omega arith in sym (ap (λ (n : ℕ). sets b i (replicate n 0)) z) ∙ v.left
+-- a front that was filled with zeros
+pub cleared : (m : ℕ) (b d : List ℕ) {n : ℕ} → m ≤ length b → n ≡ m → d ≡ replicate n 0 → d ++ drop m b ≡ sets b 0 (replicate m 0)
+cleared m b d h e f =
+    let z : m ≡ 0 + length (replicate m 0) = omega (arith, length-replicate {A = ℕ} m 0) in
+    ap₂ (λ (x : List ℕ) (k : ℕ). x ++ drop k b) (f ∙ ap (λ (k : ℕ). replicate k 0) e) z ∙ sym (sets-eq (replicate m 0) b 0 (omega (arith, length-replicate {A = ℕ} m 0, h)))
 
 -- ---- slices that are long enough
 

@@ -7,5 +7,5 @@ use Rattle.reg_enter.proofs.changed_bit.Goals as goal
 pub returns-then-differ : goal.returns-then-differ
 returns-then-differ c = let a = c.args in bit_on (differ (decision_from a.before) (decision_from a.after)) a.p c.requires (sym c.differ.ensures ∙ c.if-differ.true)
 
-pub returns : goal.returns
-returns c = let a = c.args in bit_off (differ (decision_from a.before) (decision_from a.after)) a.p (sym c.differ.ensures ∙ c.if-differ.false)
+pub returns-else-differ : goal.returns-else-differ
+returns-else-differ c = let a = c.args in bit_off (differ (decision_from a.before) (decision_from a.after)) a.p (sym c.differ.ensures ∙ c.if-differ.false)

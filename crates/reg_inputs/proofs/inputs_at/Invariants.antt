@@ -1,10 +1,6 @@
-use Prim.Native.Nat.{◌-◌}
 use Rattle.spec_calc.specs.States.{readings}
 use Rattle.calc_inputs.specs.laws.Filled.{FilledTo}
 use Rattle.reg_inputs.proofs.inputs_at.Given as goal
 
 abbrev pub invariant-loop-i : goal.invariant-loop-i
 invariant-loop-i l = FilledTo (readings l.states l.values l.from) l.heard l.good l.i
-
-abbrev pub decreases-loop-i : goal.decreases-loop-i
-decreases-loop-i l = 21 - l.i

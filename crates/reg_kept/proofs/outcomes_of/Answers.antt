@@ -10,4 +10,4 @@ pub inputs_at-inputs-requires : goal.inputs_at-inputs-requires
 inputs_at-inputs-requires c = omega (arith, group_low c.args.table.now c.args.group c.requires)
 
 pub returns : goal.returns
-returns c = let a = c.args in c.calculate.ensures (readings_in a.states.now a.values.now a.group) c.inputs_at-inputs.ensures
+returns c = let a = c.args in c.calculate.ensures (readings_in a.states.now a.values.now a.group) (record { values = c.inputs_at-inputs.ensures.0; good = c.inputs_at-inputs.ensures.1 })

@@ -20,8 +20,8 @@ use Rattle.spec_places.specs.Writing.{kept_by, kept}
 use Rattle.spec_places.proofs.laws.Numbers.{kept_agrees}
 use Rattle.spec_places.proofs.laws.Readings.{none_heard}
 use Rattle.table_fields.specs.Field.{Word}
-use Rattle.table_read.specs.declared.Index.{Index}
-use Rattle.table_read.specs.declared.Index.TheVariants.{At, Missing}
+use Rattle.table_read.specs.Search.{Index}
+use Rattle.std.specs.Prelude.{Some, None}
 use Rattle.table_read.specs.Stored.{Stored, word_of}
 use Rattle.table_read.specs.Search.{index_of}
 use Rattle.table_read.specs.laws.Search.{index_at, index_none}
@@ -73,7 +73,7 @@ module _ (t : List ℕ) (i : ℕ) (h : Stored t access_groups i) where
       pub keeps :
           {os : List ℕ} {d : Decision} {right number count : ℕ} → os ≡ outcomes_now t i states values → d ≡ decision_kept t i flags 0 os
           → right ≡ decision_number d → Word (word_of t access_groups i 5) count → number ≡ i + 1
-          → Keeps (kept_by_number t states values i u host l) (record { number = number; right = right; count = count; flags = flags })
+          → Keeps (kept_by_number t states values i (client_of [] l u host)) (record { number = number; right = right; count = count; flags = flags })
       keeps {number = number} y g f c n =
           let z : number ≡ suc i = omega arith in
           record {
@@ -84,22 +84,20 @@ module _ (t : List ℕ) (i : ℕ) (h : Stored t access_groups i) where
 
 -- ---- whichever answers, or none
 
-module _ (t : List ℕ) (h : is_table t ≡ true) (states : List ℕ) (values : List Float) (g : List ℕ) (l : ℕ) (u host : List ℕ) where
-  by_answering : {o : Option ℕ} → answering_number t g ≡ o → kept_by t (readings_in states values) (client_of g l u host) o ≡ kept_of t states values g l u host
+module _ (t : List ℕ) (h : is_table t ≡ true) (states : List ℕ) (values : List Float) (c : Client) where
+  by_answering : {o : Option ℕ} → answering_number t c.group ≡ o → kept_by t (readings_in states values) c o ≡ kept_of t states values c
   by_answering {o} e =
-      ap (kept_by t (readings_in states values) (client_of g l u host)) (sym e)
-      ∙ ap
-      (λ (b : Bool). cond b (kept_by t (readings_in states values) (client_of g l u host) (answering_number t g)) nothing_kept)
-      (sym h)
+      ap (kept_by t (readings_in states values) c) (sym e)
+      ∙ ap (λ (b : Bool). cond b (kept_by t (readings_in states values) c (answering_number t c.group)) nothing_kept) (sym h)
 
   pub keeps_none :
-      {r : Index} {k : Kept} → r ≡ index_of (answering_number t g) → r ≡ Missing → Keeps nothing_kept k → Keeps (kept_of t states values g l u host) k
-  keeps_none {k = k} e f q = subst (λ (b : List ℕ). Keeps b k) (by_answering (index_none (answering_number t g) e f)) q
+      {r : Index} {k : Kept} → r ≡ index_of (answering_number t c.group) → r ≡ None → Keeps nothing_kept k → Keeps (kept_of t states values c) k
+  keeps_none {k = k} e f q = subst (λ (b : List ℕ). Keeps b k) (by_answering (index_none (answering_number t c.group) e f)) q
 
   pub keeps_group :
-      {r : Index} {k : Kept} (i : ℕ) → r ≡ index_of (answering_number t g) → r ≡ At i → Keeps (kept_by_number t states values i u host l) k
-      → Keeps (kept_of t states values g l u host) k
-  keeps_group {k = k} i e f q = subst (λ (b : List ℕ). Keeps b k) (by_answering (index_at (answering_number t g) i e f)) q
+      {r : Index} {k : Kept} (i : ℕ) → r ≡ index_of (answering_number t c.group) → r ≡ Some i → Keeps (kept_by_number t states values i c) k
+      → Keeps (kept_of t states values c) k
+  keeps_group {k = k} i e f q = subst (λ (b : List ℕ). Keeps b k) (by_answering (index_at (answering_number t c.group) i e f)) q
 
 -- ---- where no states are lent, no reading was heard
 

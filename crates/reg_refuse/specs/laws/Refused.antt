@@ -1,13 +1,13 @@
 -- Causes of refusal, as code finds them.
 use Rattle.std.specs.Prelude.{◌≡◌, refl, Bool, true, false, not, cond, List, ◌≢◌, ℕ, ◌≤◌, ◌<◌, leb, ltb, eqb, length, get_or}
 use Rattle.std.proofs.Common.{sym, ap, ap₂, ◌∙◌, arith, leb-true, leb-false, lt-ltb, le-ltb}
-use Rattle.std.proofs.Math.Option.{Option, none, some}
+use Rattle.std.proofs.Math.Option.{none, some}
 use Rattle.std.proofs.lemmas.Bool.{eqb-false}
 use Rattle.spec_lists.specs.Select.{missing}
 use Rattle.spec_lists.proofs.laws.Both.{absurd_bool}
 use Rattle.spec_rule.specs.Kept.{says_stands}
-use Rattle.spec_register.specs.Register.{Client, most_clients}
-use Rattle.spec_register.specs.Refusal.{lowest_free, no_client, all_taken}
+use Rattle.spec_register.specs.Register.{most_clients}
+use Rattle.spec_register.specs.Refusal.{no_client, all_taken}
 use Rattle.spec_register.proofs.laws.Lowest.{lowest_within}
 use Rattle.spec_places.specs.Storage.{at_place, client_in, client_from, clients_in, standing_in}
 use Rattle.spec_places.specs.Calls.{free_in}

@@ -3,6 +3,3 @@ use Rattle.reg_renew.proofs.renew_by.Given as goal
 
 abbrev pub invariant-loop-p : goal.invariant-loop-p
 invariant-loop-p l = Renewing l.table l.group l.outcomes l.initial.places l.p l.places l.m
-
-abbrev pub decreases-loop-p : goal.decreases-loop-p
-decreases-loop-p l = l.p

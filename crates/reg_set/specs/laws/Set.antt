@@ -1,5 +1,5 @@
 -- A reading is refused or set, as the code goes by its tests.
-use Rattle.std.specs.Prelude.{◌≡◌, refl, Bool, true, false, cond, not, List, ℕ, ◌≤◌, Float, length, set}
+use Rattle.std.specs.Prelude.{◌≡◌, refl, Bool, true, false, cond, not, List, ℕ, ◌≤◌, Float, length}
 use Rattle.std.proofs.Common.{sym, ap, ap₂, ◌∙◌, leb-true}
 use Rattle.std.proofs.Math.Option.{Option, none, some}
 use Rattle.spec_calc.specs.declared.Reading.{Reading}
@@ -20,8 +20,8 @@ use Rattle.spec_places.specs.Storage.{Lent, lent, places_bytes, all_readings, re
 use Rattle.spec_places.specs.Writing.{each, renewed}
 use Rattle.spec_places.specs.Calls.{is_register, told_set, left_set, with_reading_in, differing_in}
 use Rattle.spec_places.proofs.laws.Settled.{has_places, has_states, has_values}
-use Rattle.table_read.specs.declared.Index.{Index}
-use Rattle.table_read.specs.declared.Index.TheVariants.{At, Missing}
+use Rattle.table_read.specs.Search.{Index}
+use Rattle.std.specs.Prelude.{Some, None}
 use Rattle.table_read.specs.Search.{index_of, number_full, FindsInput}
 use Rattle.table_read.specs.laws.Search.{group_none, group_at, group_stored, input_there, input_absent}
 use Rattle.reg_set.specs.Set.{InputOf, ReadingSet, Given}
@@ -29,14 +29,14 @@ use Rattle.reg_set.specs.Set.{InputOf, ReadingSet, Given}
 -- ---- the search
 
 module _ (t n : List ℕ) (letter : ℕ) {g : Index} (e : g ≡ index_of (number_full t n)) where
-  pub no_group : g ≡ Missing → no_input t letter (group_named t n) ≡ true
+  pub no_group : g ≡ None → no_input t letter (group_named t n) ≡ true
   no_group f = ap (no_input t letter) (group_none t n e f)
 
-  module _ (i : ℕ) (f : g ≡ At i) where
-    pub no_letter : {w : ℕ} {r : Index} → w ≡ letter → FindsInput t i w r → r ≡ Missing → no_input t letter (group_named t n) ≡ true
+  module _ (i : ℕ) (f : g ≡ Some i) where
+    pub no_letter : {w : ℕ} {r : Index} → w ≡ letter → FindsInput t i w r → r ≡ None → no_input t letter (group_named t n) ≡ true
     no_letter z s m = ap (no_input t letter) (group_at t n i e f) ∙ ap not (input_absent t i letter (rw z at s) m)
 
-    pub input_of : {w : ℕ} {r : Index} (j : ℕ) → is_table t ≡ true → w ≡ letter → FindsInput t i w r → r ≡ At j → InputOf t n letter i
+    pub input_of : {w : ℕ} {r : Index} (j : ℕ) → is_table t ≡ true → w ≡ letter → FindsInput t i w r → r ≡ Some j → InputOf t n letter i
     input_of j h z s m =
         let there = input_there t i letter j (rw z at s) m in
         record {

@@ -3,8 +3,3 @@ use Rattle.reg_settle.proofs.settle.Given as goal
 
 abbrev pub invariant-loop-p : goal.invariant-loop-p
 invariant-loop-p l = Settling l.table l.initial.places l.p l.places l.m
-
-abbrev pub decreases-loop-p : goal.decreases-loop-p
-decreases-loop-p l = l.p
-
--- src/lib.rt:59:5

@@ -8,7 +8,7 @@ use Rattle.std.proofs.Math.Seq.{length-sets}
 use Rattle.spec_lists.proofs.laws.Sets.{get_d_sets}
 use Rattle.spec_rule.specs.declared.Decision.{Decision}
 use Rattle.spec_rule.specs.Kept.{bit, says_stands}
-use Rattle.spec_register.specs.Register.{Client, client_of, most_clients, never_heard}
+use Rattle.spec_register.specs.Register.{Client, most_clients, never_heard}
 use Rattle.spec_register.specs.Right.{differ}
 use Rattle.spec_rule.specs.Number.{decision_from}
 use Rattle.spec_places.specs.Storage.{at_place, kept_at, client_from, readings_in, right_in}
@@ -24,19 +24,11 @@ use Rattle.reg_kept.specs.Kept.{Keeps, kept_bytes, kept_of}
 use Rattle.reg_kept.specs.laws.Kept.{unheard}
 use Rattle.reg_settle.specs.Settle.{SettlesPlace, AllSettled, kept_here}
 
-same_client :
-    {g g' u u' h h' : List ℕ} {l l' : ℕ} → g ≡ g' → l ≡ l' → u ≡ u' → h ≡ h' → ◌≡◌ {A = Client} (client_of g l u h) (client_of g' l' u' h')
-same_client e f x y = cc
-
 module _ (t : List ℕ) (b : List ℕ) (p : ℕ) where
-  -- the names as they stand in the place, and no states
-  pub keeps_here :
-      {k : Kept} {g u h : List ℕ} {v l : ℕ} (values : List Float) → g ≡ (client_from b (at_place p)).group → u ≡ (client_from b (at_place p)).user
-      → h ≡ (client_from b (at_place p)).host → v ≡ (client_from b (at_place p)).level → l ≡ v → Keeps (kept_of t [] values g l u h) k
-      → Keeps (kept_here t b p) k
-  keeps_here {k} values x y z v w q =
-      let c = client_from b (at_place p) in
-      subst (λ (d : List ℕ). Keeps d k) (ap (kept t (readings_in [] values)) (same_client x (w ∙ v) y z) ∙ unheard t values c) q
+  -- the client as it stands in the place, and no states
+  pub keeps_here : {k : Kept} {c : Client} (values : List Float) → c ≡ client_from b (at_place p) → Keeps (kept_of t [] values c) k → Keeps (kept_here t b p) k
+  keeps_here {k} values e q =
+      subst (λ (d : List ℕ). Keeps d k) (ap (kept t (readings_in [] values)) e ∙ unheard t values (client_from b (at_place p))) q
 
   abbrev taken : Bool
   taken = says_stands (get_or b (at_place p) 0)

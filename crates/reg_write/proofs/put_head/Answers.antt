@@ -1,5 +1,5 @@
 use Rattle.reg_write.specs.laws.Written.{five_set}
-use lib.ListN.{length-set}
+use lib.ListN.{length, length-set}
 use native.Mathlib.Omega.{arith}
 use Rattle.reg_write.proofs.put_head.Goals as goal
 
@@ -16,4 +16,4 @@ pub bounds-places-at-5 : goal.bounds-places-at-5
 bounds-places-at-5 c = simp length-set (omega arith)
 
 pub returns : goal.returns
-returns c = let a = c.args in five_set a.places.now a.at 1 a.level a.group a.user a.host
+returns c = let a = c.args in five_set a.places.now a.at 1 a.c.level (length a.c.group.now) (length a.c.user.now) (length a.c.host.now)

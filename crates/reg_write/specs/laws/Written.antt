@@ -1,6 +1,6 @@
 -- What stores one behind the other make of a place.
 use Rattle.std.specs.Prelude.{◌≡◌, refl, false, List, [], ◌∷◌, ◌++◌, map, ℕ, suc, ◌+◌, length, set}
-use Rattle.std.proofs.Common.{sym, ap, ◌∙◌, append_assoc, arith}
+use Rattle.std.proofs.Common.{ap, ◌∙◌, append_assoc, arith}
 use Rattle.std.proofs.lemmas.List.Edits.{sets}
 use Rattle.spec_register.specs.Register.{Client}
 use Rattle.spec_places.specs.Storage.{client_bytes, at_place}

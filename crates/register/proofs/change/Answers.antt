@@ -4,10 +4,10 @@ use Rattle.spec_register.specs.Register.{client_of}
 use Rattle.register.proofs.change.Goals as goal
 
 pub enter-requires : goal.enter-requires
-enter-requires c = let a = c.args in let s = lent a.table.now a.places.now a.states.now a.values.now in let k = client_of a.group.now a.level a.user.now a.host.now in record { placed = change_placed s k a.place c.room_to_change.ensures c.in-At.is; fits = change_fits s k a.place c.room_to_change.ensures c.in-At.is }
+enter-requires c = let a = c.args in let s = lent a.table.now a.places.now a.states.now a.values.now in let k = client_of a.group.now a.level a.user.now a.host.now in record { placed = change_placed s k a.place c.room_to_change.ensures c.in-Ok.is; fits = change_fits s k a.place c.room_to_change.ensures c.in-Ok.is }
 
-pub returns-in-At : goal.returns-in-At
-returns-in-At c = let a = c.args in let s = lent a.table.now a.places.now a.states.now a.values.now in let k = client_of a.group.now a.level a.user.now a.host.now in let h = changed_here s k a.place c.room_to_change.ensures c.in-At.is c.enter.ensures.bytes c.enter.ensures.changed in record { value = h.0; places_after = h.1 }
+pub returns-in-Ok : goal.returns-in-Ok
+returns-in-Ok c = let a = c.args in let s = lent a.table.now a.places.now a.states.now a.values.now in let k = client_of a.group.now a.level a.user.now a.host.now in let h = changed_here s k a.place c.room_to_change.ensures c.in-Ok.is c.enter.ensures.bytes c.enter.ensures.changed in record { value = h.0; places_after = h.1 }
 
-pub returns-in-Refused : goal.returns-in-Refused
-returns-in-Refused c = let a = c.args in let s = lent a.table.now a.places.now a.states.now a.values.now in let k = client_of a.group.now a.level a.user.now a.host.now in let h = not_changed s k a.place c.room_to_change.ensures c.in-Refused.is in record { value = h.0; places_after = h.1 }
+pub returns-in-Err : goal.returns-in-Err
+returns-in-Err c = let a = c.args in let s = lent a.table.now a.places.now a.states.now a.values.now in let k = client_of a.group.now a.level a.user.now a.host.now in let h = not_changed s k a.place c.room_to_change.ensures c.in-Err.is in record { value = h.0; places_after = h.1 }
