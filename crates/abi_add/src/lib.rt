@@ -7,6 +7,8 @@ ghost use Rattle.spec_register.specs.Register.{client_of};
 ghost use Rattle.spec_places.specs.Storage.{lent};
 ghost use Rattle.abi_add.specs.Answers.{Adds};
 
+use reg_bytes::Client;
+
 #[unsafe(no_mangle)]
 pub extern "C" fn hrazvanut_abi_add(
     places: &mut [u8],
@@ -43,6 +45,12 @@ pub extern "C" fn hrazvanut_abi_add_checked(
     ensures { Adds (lent table.now places.old states.now values.now)
         (client_of group.now level user.now host.now) places.new changed.old changed.new result }
 {
-    let a = reg_checked::add_checked(places, states, values, table, group, user, host, level);
+    let c = Client {
+        group,
+        user,
+        host,
+        level,
+    };
+    let a = reg_checked::add_checked(places, states, values, table, c);
     api_register::tell_added(a, changed)
 }

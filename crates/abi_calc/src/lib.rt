@@ -10,5 +10,5 @@ ghost use Rattle.api_numbers.specs.Numbers.{yes};
 pub extern "C" fn hrazvanut_abi_allowed(text: &[u8]) -> u8
     ensures { result ≡ yes (not (missing (tree_of text.now))) }
 {
-    if calc::allowed(text) { 1 } else { 0 }
+    u8::from(calc::allowed(text))
 }

@@ -7,6 +7,8 @@ ghost use Rattle.spec_register.specs.Register.{client_of};
 ghost use Rattle.spec_places.specs.Storage.{lent};
 ghost use Rattle.abi_change.specs.Answers.{Changes};
 
+use reg_bytes::Client;
+
 #[unsafe(no_mangle)]
 pub extern "C" fn hrazvanut_abi_change(
     places: &mut [u8],
@@ -45,6 +47,12 @@ pub extern "C" fn hrazvanut_abi_change_checked(
     ensures { Changes (lent table.now places.old states.now values.now) p
         (client_of group.now level user.now host.now) places.new changed.old changed.new result }
 {
-    let c = reg_checked::change_checked(places, states, values, table, p, group, user, host, level);
+    let client = Client {
+        group,
+        user,
+        host,
+        level,
+    };
+    let c = reg_checked::change_checked(places, states, values, table, p, client);
     api_register::tell_changed(c, changed)
 }

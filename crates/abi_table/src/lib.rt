@@ -11,7 +11,7 @@ ghost use Rattle.api_numbers.specs.Numbers.{found_number, yes};
 pub extern "C" fn hrazvanut_abi_is_table(table: &[u8]) -> u8
     ensures { result ≡ yes (is_table table.now) }
 {
-    if table::is_table(table) { 1 } else { 0 }
+    u8::from(table::is_table(table))
 }
 
 #[unsafe(no_mangle)]

@@ -4,21 +4,24 @@
 ghost use Rattle.std.specs.Prelude.{◌≡◌};
 ghost use Rattle.api_numbers.specs.Numbers.{answer_number, found_number, exported_number};
 
-use api_numbers::packed;
+use api_numbers::{BAD_LEVEL, NO_INPUT, NOT_TABLE, packed, refused};
 use spec_decision::{Answer, Found};
 use spec_export::Exported;
+
+const BAD_ROLES: u8 = 26;
+
+const UNWRITABLE: u8 = 27;
+
+const NO_ROOM: u8 = 28;
 
 pub fn answer_number(a: Answer) -> u64
     ensures { result ≡ answer_number a }
 {
     match a {
-        Answer::Answered(d) => {
-            let decided = ask_number::number(d);
-            packed(decided as usize, 0, 0)
-        }
-        Answer::NotTable => packed(0, 0, 20),
-        Answer::BadLevel => packed(0, 0, 21),
-        Answer::BadRoles => packed(0, 0, 26),
+        Answer::Answered(d) => packed(usize::from(ask_number::number(d)), 0, 0),
+        Answer::NotTable => refused(NOT_TABLE),
+        Answer::BadLevel => refused(BAD_LEVEL),
+        Answer::BadRoles => refused(BAD_ROLES),
     }
 }
 
@@ -27,8 +30,8 @@ pub fn found_number(f: Found) -> u64
 {
     match f {
         Found::Part { at, length } => packed(at, length, 0),
-        Found::NotTable => packed(0, 0, 20),
-        Found::NoInput => packed(0, 0, 22),
+        Found::NotTable => refused(NOT_TABLE),
+        Found::NoInput => refused(NO_INPUT),
     }
 }
 
@@ -37,8 +40,8 @@ pub fn exported_number(e: Exported) -> u64
 {
     match e {
         Exported::Written(n) => packed(n, 0, 0),
-        Exported::NotTable => packed(0, 0, 20),
-        Exported::Unwritable => packed(0, 0, 27),
-        Exported::NoRoom(n) => packed(n, 0, 28),
+        Exported::NotTable => refused(NOT_TABLE),
+        Exported::Unwritable => refused(UNWRITABLE),
+        Exported::NoRoom(n) => packed(n, 0, NO_ROOM),
     }
 }

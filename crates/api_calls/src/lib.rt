@@ -44,6 +44,7 @@ fn find_checked(lent: &[u8], group: &[u8], letter: u32) -> Found
 }
 
 // A call on the table.
+// Stays: a call is a number, as the definition Script.call_of and the theorem of sequence are stated with it.
 fn call_on_table(
     what: usize,
     a: &[u8],

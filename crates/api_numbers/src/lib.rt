@@ -1,46 +1,35 @@
 // The answers of a load as numbers, for callers in C: include/hrazvanut.h takes them apart again.
 #![tactic(auto)]
 
-ghost use Rattle.std.specs.Prelude.{◌≡◌, ◌<◌, min};
+ghost use Rattle.std.specs.Prelude.{◌≡◌};
 ghost use Rattle.spec_file.specs.Refusal as refusal;
 ghost use Rattle.api_numbers.specs.Numbers.{packed, load_number, listed_number};
 
+use load_number::refusal_number;
 use spec_file::Refusal;
 use spec_load::{Listed, Loaded};
 
-fn at_most(n: usize, most: u32) -> u64
-    ensures { result ≡ min n most }
-{
-    let m = most as usize;
-    if n < m { n as u64 } else { most as u64 }
-}
+// The numbers of refusals that calls on a table and on a register share.
+pub const NOT_TABLE: u8 = 20;
 
-// 32 bits, 16 bits, and a refusal's number. Inner: api_answers, api_register and the functions here call it, with numbers of refusals.
-pub fn packed(first: usize, second: usize, number: u64) -> u64
-    requires { number < 256 }
+pub const BAD_LEVEL: u8 = 21;
+
+pub const NO_INPUT: u8 = 22;
+
+// 32 bits, 16 bits, and a refusal's number.
+pub fn packed(first: usize, second: usize, number: u8) -> u64
     ensures { result ≡ packed first second number }
 {
-    at_most(first, 4294967295) + at_most(second, 65535) * 4294967296 + number * 281474976710656
+    let first = first.min(4294967295) as u64;
+    let second = second.min(65535) as u64;
+    first + second * 4294967296 + u64::from(number) * 281474976710656
 }
 
-// The number of a refusal.
-fn refusal_number(k: Refusal) -> u64
-    ensures { result ≡ refusal.number k }
+// A refusal that tells nothing but its number.
+pub fn refused(number: u8) -> u64
+    ensures { result ≡ packed 0 0 number }
 {
-    match k {
-        Refusal::FileTooLong => 1,
-        Refusal::BadByte => 2,
-        Refusal::TooDeep => 3,
-        Refusal::Ungrammatical => 4,
-        Refusal::StringTooLong => 5,
-        Refusal::TooMany => 6,
-        Refusal::GivenAgain => 7,
-        Refusal::UndefinedGroup => 12,
-        Refusal::BadLevel => 8,
-        Refusal::UnknownWord => 9,
-        Refusal::BadCalculation => 10,
-        Refusal::NoRoom => 11,
-    }
+    packed(0, 0, number)
 }
 
 // A load's refusal with its place.
@@ -55,7 +44,7 @@ pub fn load_number(l: Loaded) -> u64
 {
     match l {
         Loaded::Accepted { length, warnings } => packed(length, warnings, 0),
-        Loaded::Refused { refusal, place } => packed(place, 0, refusal_number(refusal)),
+        Loaded::Refused { refusal, place } => refused_load(refusal, place),
     }
 }
 
@@ -64,6 +53,6 @@ pub fn listed_number(l: Listed) -> u64
 {
     match l {
         Listed::Warnings(n) => packed(n, 0, 0),
-        Listed::Refused { refusal, place } => packed(place, 0, refusal_number(refusal)),
+        Listed::Refused { refusal, place } => refused_load(refusal, place),
     }
 }

@@ -2,24 +2,31 @@
 #![tactic(auto)]
 
 ghost use Rattle.std.specs.Prelude.{◌≡◌, set};
-ghost use Rattle.spec_register.specs.Refusal as refused;
-ghost use Rattle.api_numbers.specs.Numbers.{packed};
+ghost use Rattle.spec_register.specs.Refusal as refusals;
 ghost use Rattle.api_register.specs.Numbers.{TellsAdded, TellsChanged, TellsReloaded};
 
-use spec_file::Refusal;
+use api_numbers::{BAD_LEVEL, NO_INPUT, NOT_TABLE, packed, refused};
 use spec_register::{Added, Changed, Refused, Reloaded};
 
-fn refused_number(x: Refused) -> u64
-    ensures { result ≡ packed 0 0 (refused.number x) }
+const LONG_NAME: u8 = 23;
+
+const NO_PLACE: u8 = 24;
+
+const NO_CLIENT: u8 = 25;
+
+const NOT_REGISTER: u8 = 34;
+
+fn number(x: Refused) -> u8
+    ensures { result ≡ refusals.number x }
 {
     match x {
-        Refused::NotRegister => api_numbers::packed(0, 0, 34),
-        Refused::NotTable => api_numbers::packed(0, 0, 20),
-        Refused::BadLevel => api_numbers::packed(0, 0, 21),
-        Refused::NoInput => api_numbers::packed(0, 0, 22),
-        Refused::LongName => api_numbers::packed(0, 0, 23),
-        Refused::NoPlace => api_numbers::packed(0, 0, 24),
-        Refused::NoClient => api_numbers::packed(0, 0, 25),
+        Refused::NotRegister => NOT_REGISTER,
+        Refused::NotTable => NOT_TABLE,
+        Refused::BadLevel => BAD_LEVEL,
+        Refused::NoInput => NO_INPUT,
+        Refused::LongName => LONG_NAME,
+        Refused::NoPlace => NO_PLACE,
+        Refused::NoClient => NO_CLIENT,
     }
 }
 
@@ -27,8 +34,8 @@ fn refused_number(x: Refused) -> u64
 fn put_places(word: &mut [u64], places: u64)
     ensures { word.new ≡ set word.old 0 places }
 {
-    if 0 < word.len() {
-        word[0] = places;
+    if let Some(first) = word.first_mut() {
+        *first = places;
     }
 }
 
@@ -38,9 +45,9 @@ pub fn tell_added(a: Added, word: &mut [u64]) -> u64
     match a {
         Added::At { place, changed } => {
             put_places(word, changed);
-            api_numbers::packed(place, 0, 0)
+            packed(place, 0, 0)
         }
-        Added::Refused(x) => refused_number(x),
+        Added::Refused(x) => refused(number(x)),
     }
 }
 
@@ -50,9 +57,9 @@ pub fn tell_changed(c: Changed, word: &mut [u64]) -> u64
     match c {
         Changed::Places(changed) => {
             put_places(word, changed);
-            api_numbers::packed(0, 0, 0)
+            packed(0, 0, 0)
         }
-        Changed::Refused(x) => refused_number(x),
+        Changed::Refused(x) => refused(number(x)),
     }
 }
 
@@ -66,9 +73,9 @@ pub fn tell_reloaded(l: Reloaded, word: &mut [u64]) -> u64
             changed,
         } => {
             put_places(word, changed);
-            api_numbers::packed(length, warnings, 0)
+            packed(length, warnings, 0)
         }
         Reloaded::Refused { refusal, place } => api_numbers::refused_load(refusal, place),
-        Reloaded::NotRegister => api_numbers::packed(0, 0, 34),
+        Reloaded::NotRegister => refused(NOT_REGISTER),
     }
 }

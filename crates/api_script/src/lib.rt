@@ -36,17 +36,8 @@ pub enum Reply {
 fn part<'a>(pool: &'a [u8], from: usize, to: usize) -> &'a [u8]
     ensures { result.now ≡ between pool.now from to }
 {
-    let n = pool.len();
-    if to <= from {
-        return &pool[0..0];
-    }
-    if n <= from {
-        return &pool[0..0];
-    }
-    if n <= to {
-        return &pool[from..n];
-    }
-    &pool[from..to]
+    let to = to.min(pool.len());
+    if from < to { &pool[from..to] } else { &[] }
 }
 
 // The j-th word of the i-th call. The caller, api_call, asks for calls that stand in the script whole.
@@ -61,7 +52,7 @@ pub fn word(script: &[usize], i: usize, j: usize) -> usize
 pub fn level(levels: &[u32], i: usize) -> u32
     ensures { result ≡ get_or levels.now i 0 }
 {
-    if i < levels.len() { levels[i] } else { 0 }
+    levels.get(i).copied().unwrap_or(0)
 }
 
 // The text that the j-th word of the i-th call and the next give. The caller, api_call, asks for calls that stand whole, and for words that a call has.

@@ -26,13 +26,10 @@ pub fn follow(
         ≡ left_by_calls (lent_of lent.old numbers.old places.old text.old)
         (calls (script_of script.now pool.now levels.now states.now values.now (length text.old))) }
 {
-    let n = script.len() / 16;
-    let mut i = 0;
-    while i < n {
+    for i in 0..script.len() / 16 {
         api_call::call(
             script, i, pool, levels, states, values, lent, numbers, places, text,
         );
-        i += 1;
     }
 }
 

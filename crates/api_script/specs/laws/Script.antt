@@ -1,11 +1,10 @@
 -- Laws of scripts and of their calls.
-use Rattle.std.specs.Prelude.{◌≡◌, refl, List, [], ◌∷◌, length, drop, get_or}
-use Rattle.std.proofs.Common.{sym, ap, ◌∙◌, div-add-mod', drop_of_length-le, length-drop, take_all}
+use Rattle.std.specs.Prelude.{◌≡◌, refl, Bool, true, false, leb, min, List, [], ◌∷◌, length, drop, get_or}
+use Rattle.std.proofs.Common.{sym, ap, ◌∙◌, div-add-mod', length-drop, take_all, leb-true, leb-false}
 use Rattle.std.proofs.Math.Path.{subst}
 use Prim.Native.Nat.{ℕ, zero, suc, ◌+◌, ◌*◌, ◌-◌, ◌/◌, ◌≤◌, ◌<◌}
 use native.Mathlib.Omega.{arith}
 use Rattle.std.proofs.Math.ListN.{get_or-eq_default}
-use Rattle.std.proofs.Math.Seq.{take-nil}
 use Rattle.spec_lists.specs.Every.{Every, nil, cons}
 use Rattle.spec_lists.proofs.laws.Every.{every_at}
 use Rattle.spec_calc.specs.declared.Reading.{Reading}
@@ -27,15 +26,22 @@ use Rattle.api_script.specs.Replies.{answer_to, Lent, lent_of, left_by, left_by_
 
 -- ---- parts of a text
 
-module _ (s : List ℕ) (a e : ℕ) where
-  pub part_none : e ≤ a → [] ≡ between s a e
-  part_none h = let z : e - a ≡ 0 = omega arith in rw z
+module _ (s : List ℕ) (a e : ℕ) {m : ℕ} (f : m ≡ min e (length s)) where
+  -- as far as the text goes
+  pub part_in : between s a m ≡ between s a e
+  part_in = go (leb e (length s)) refl
+    where
+      go : (b : Bool) → leb e (length s) ≡ b → between s a m ≡ between s a e
+      go true q = let l = leb-true e (length s) q in let z : m ≡ e = omega arith in ap (between s a) z
+      go false q =
+          let l = leb-false e (length s) q in
+          let z : m ≡ length s = omega arith in
+          ap (between s a) z
+          ∙ take_all (length s - a) (drop a s) (rw length-drop (omega arith))
+          ∙ sym (take_all (e - a) (drop a s) (rw length-drop (omega arith)))
 
-  pub part_over : length s ≤ e → between s a (length s) ≡ between s a e
-  part_over h = take_all (length s - a) (drop a s) (rw length-drop (omega arith)) ∙ sym (take_all (e - a) (drop a s) (rw length-drop (omega arith)))
-
-  pub part_beyond : length s ≤ a → [] ≡ between s a e
-  part_beyond h = rw (drop_of_length-le s h, take-nil (e - a))
+  pub part_none : m ≤ a → [] ≡ between s a e
+  part_none h = let z : m - a ≡ 0 = omega arith in (let y : [] ≡ between s a m = rw z refl in y) ∙ part_in
 
 -- ---- calls
 

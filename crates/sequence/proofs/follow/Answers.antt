@@ -10,9 +10,6 @@ loop-i-init c = (refl, (refl, (refl, (refl, followed_none _ _ _))))
 pub call-requires : goal.call-requires
 call-requires c = call_within _ _ c.loop-i-test.true
 
-pub loop-i-smaller : goal.loop-i-smaller
-loop-i-smaller c = omega arith
-
 pub loop-i-preserved : goal.loop-i-preserved
 loop-i-preserved c = (
   search rules,

@@ -2,7 +2,6 @@ use Rattle.api_script.specs.laws.Script.{Followed}
 use Rattle.api_script.specs.Script.{script_of}
 use Rattle.api_script.specs.Replies.{lent_of}
 use lib.ListN.{length}
-use Prim.Native.Nat.{◌-◌}
 use mathlib.Core.Path.{◌≡◌}
 use Rattle.sequence.proofs.follow.Given as goal
 
@@ -11,7 +10,4 @@ invariant-loop-i l = (length l.lent ≡ length l.initial.lent)
     × ((length l.numbers ≡ length l.initial.numbers)
     × ((length l.places ≡ length l.initial.places)
     × ((length l.text ≡ length l.initial.text)
-    × Followed (script_of l.script l.pool l.levels l.states l.values (length l.initial.text)) l.n (lent_of l.initial.lent l.initial.numbers l.initial.places l.initial.text) (lent_of l.lent l.numbers l.places l.text) l.i)))
-
-abbrev pub decreases-loop-i : goal.decreases-loop-i
-decreases-loop-i l = l.n - l.i
+    × Followed (script_of l.script l.pool l.levels l.states l.values (length l.initial.text)) l.i-end (lent_of l.initial.lent l.initial.numbers l.initial.places l.initial.text) (lent_of l.lent l.numbers l.places l.text) l.i)))
