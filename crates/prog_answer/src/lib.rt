@@ -1,38 +1,35 @@
-// What the asker prints for an answer, written into lent bytes. 01, "Two programs".
-// Each function writes from an offset on, as far as there is room, and answers the offset behind what it wrote.
+// What the asker prints for an answer. 01, "Two programs".
 #![tactic(auto)]
 
-ghost use Rattle.std.specs.Prelude.{◌≤◌, length};
-ghost use Rattle.prog_text.specs.Put.{Put};
+ghost use Rattle.std.specs.Prelude.{◌≡◌};
+ghost use Rattle.prog_text.specs.Writes.{Writes};
 ghost use Rattle.prog_words.specs.Words.{answer_text, refused_line};
 
-use prog_text::put;
+use prog_text::Writer;
 use prog_words::{put_access, put_letter, put_trap};
 use spec_decision::Answer;
 
-// What is printed for an answer. Callers begin at 0 or behind another text, which ends within.
-pub fn answer_text(a: Answer, out: &mut [u8], at: usize) -> usize
-    requires { at ≤ length out.old }
-    ensures { Put (answer_text a) out.old at out.new result }
+// What is printed for an answer.
+pub fn answer_text(w: &mut Writer<'_>, a: Answer)
+    ensures lent { w.new.out.ghost_name ≡ w.old.out.ghost_name }
+    ensures written { Writes (answer_text a) w.old w.new }
 {
     match a {
         Answer::Answered(d) => {
-            let access = d.access;
-            let letter = d.letter;
-            let next = put_access(access, out, at);
-            let last = put_trap(d.trap, out, next);
-            put_letter(letter, out, last)
+            put_access(w, d.access);
+            put_trap(w, d.trap);
+            put_letter(w, d.letter);
         }
-        Answer::NotTable => put(b"refused 20", out, at),
-        Answer::BadLevel => put(b"refused 21", out, at),
-        Answer::BadRoles => put(b"refused 26", out, at),
+        Answer::NotTable => w.put(b"refused 20"),
+        Answer::BadLevel => w.put(b"refused 21"),
+        Answer::BadRoles => w.put(b"refused 26"),
     }
 }
 
-// For a line that is refused. Callers begin at 0 or behind another text, which ends within.
-pub fn refused_text(out: &mut [u8], at: usize) -> usize
-    requires { at ≤ length out.old }
-    ensures { Put refused_line out.old at out.new result }
+// For a line that is refused.
+pub fn refused_text(w: &mut Writer<'_>)
+    ensures lent { w.new.out.ghost_name ≡ w.old.out.ghost_name }
+    ensures written { Writes refused_line w.old w.new }
 {
-    put(b"refused line", out, at)
+    w.put(b"refused line");
 }

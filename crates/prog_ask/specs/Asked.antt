@@ -1,5 +1,5 @@
 -- All that the asker prints, for a text of rules and an input. 01, "Two programs".
-use Rattle.std.specs.Prelude.{◌≡◌, true, List, ℕ, take, drop}
+use Rattle.std.specs.Prelude.{◌≡◌, true, List, ℕ, take, drop, Result, Ok, Err}
 use Rattle.io.specs.Counts.{IsPrefixLen}
 use Rattle.spec_table.specs.Check.{is_table}
 use Rattle.spec_load.specs.declared.Loaded.{Loaded}
@@ -7,8 +7,6 @@ use Rattle.spec_load.specs.declared.Loaded.TheVariants as loaded
 use Rattle.spec_load.specs.Load.{load}
 use Rattle.prog_report.specs.Report.{refusal_line}
 use Rattle.prog_replies.specs.Input.{Input, printed}
-use Rattle.prog_ask.specs.declared.Begins.{Begins}
-use Rattle.prog_ask.specs.declared.Begins.TheVariants.{Ready, Refused}
 
 -- by what the load answered and the table that it left
 abbrev pub asked_by : Loaded → List ℕ → Input → List ℕ
@@ -20,8 +18,8 @@ unfoldable pub asked : List ℕ → List ℕ → Input → List ℕ
 asked lent rules input = asked_by (load lent rules).answer (load lent rules).bytes input
 
 -- the rules are loaded into the lent bytes: either there is a table to answer any input by, or all that is printed is written
-abbrev pub Begun : (rules lent lent' out out' : List ℕ) → Begins → Type 0
-Begun rules lent lent' out out' Ready =
+abbrev pub Begun : (rules lent lent' out out' : List ℕ) → Result (Unit {0}) ℕ → Type 0
+Begun rules lent lent' out out' (Ok _) =
     (lent' ≡ (load lent rules).bytes) × (is_table lent' ≡ true) × ((input : Input) → asked lent rules input ≡ printed lent' input) × (out' ≡ out)
-Begun rules lent lent' out out' (Refused n) =
+Begun rules lent lent' out out' (Err n) =
     (lent' ≡ (load lent rules).bytes) × IsPrefixLen n out' × ((input : Input) → asked lent rules input ≡ take n out') × (drop n out' ≡ drop n out)

@@ -8,23 +8,16 @@ ghost use Rattle.prog_ask.specs.Asked.{Begun};
 use spec_load::Loaded;
 use std::io::{Eprint, Print, Read};
 
-// The rules are loaded, or refused, and so many bytes say why.
-#[derive(Clone, Copy)]
-pub enum Begins {
-    Ready,
-    Refused(usize),
-}
-
-// Loads the rules, or writes the line for their refusal. The caller lends room for a line.
-fn begin(rules: &[u8], table: &mut [u8], out: &mut [u8]) -> Begins
+// Loads the rules; or writes the line for their refusal, and says how many bytes it has. The caller lends room for a line.
+fn begin(rules: &[u8], table: &mut [u8], out: &mut [u8]) -> Result<(), usize>
     requires { 64 ≤ length out.old }
     ensures { Begun rules.now table.old table.new out.old out.new result }
 {
     match load::load(rules, table) {
-        Loaded::Accepted { length, warnings } => Begins::Ready,
+        Loaded::Accepted { length, warnings } => Ok(()),
         Loaded::Refused { refusal, place } => {
             let n = prog_report::refusal_line(refusal, place, out);
-            Begins::Refused(n)
+            Err(n)
         }
     }
 }
@@ -42,8 +35,8 @@ pub fn answer(
 {
     let mut out = [0u8; 64];
     match begin(rules, table, &mut out) {
-        Begins::Ready => prog_serve::serve(rt, table, from, size),
-        Begins::Refused(end) => {
+        Ok(()) => prog_serve::serve(rt, table, from, size),
+        Err(end) => {
             prog_output::put(rt, &out[..end]);
         }
     }

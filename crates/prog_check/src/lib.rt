@@ -19,6 +19,8 @@ pub fn check(text: &[u8], out: &mut [u8]) -> usize
     let mut places = [0u16; MOST];
     match warnings::list_warnings(text, 0, &mut numbers, &mut places) {
         Listed::Refused { refusal, place } => prog_report::refusal_line(refusal, place, out),
-        Listed::Warnings(count) => prog_warnings::put_warnings(&numbers, &places, count, out),
+        Listed::Warnings(count) => {
+            prog_warnings::put_warnings(&numbers[..count], &places[..count], out)
+        },
     }
 }

@@ -1,51 +1,37 @@
 // Reading files. No contract can say what is read; but a read that fails is never taken for the end of a file.
 #![tactic(auto)]
 
-ghost use Rattle.std.specs.Prelude.{◌≤◌};
+ghost use Rattle.std.specs.Prelude.{◌≤◌, IfOk};
 ghost use Rattle.io.specs.Counts.{IsPrefixLen};
-ghost use Rattle.prog_input.specs.Piece.{Within};
 
+use prog_text::Writer;
 use std::fs;
-use std::io::{Eprint, ErrorKind, Read};
+use std::io::{self, Eprint, ErrorKind, Read};
 use std::rt::Files;
-
-// More rounds than any input has bytes.
-const MOST: u64 = 4611686018427387904;
-
-// What one read answers: bytes at the start of the buffer, the end of the file, or a fault.
-#[derive(Clone, Copy)]
-pub enum Piece {
-    Bytes(usize),
-    End,
-    Fault,
-}
 
 // As much as is read at once: n bytes, at most 4,096.
 pub fn at_most(n: usize) -> usize
     ensures { result ≤ 4096 }
 {
-    if n < 4096 { n } else { 4096 }
+    n.min(4096)
 }
 
-// Reads once into buf, which has room: into none, every file has ended. A read that a signal interrupts is made again.
+// Reads once into buf, as `Read::read` does, but a read that a signal interrupts is made again.
 // Behind the bytes that were read, and after a fault, what buf holds is open.
-pub fn read_piece(from: &mut impl Read, buf: &mut [u8]) -> Piece
-    ensures { Within result buf.new }
+pub fn read_piece(from: &mut impl Read, buf: &mut [u8]) -> io::Result<usize>
+    ensures { IfOk result (λ n. IsPrefixLen n buf.new) }
 {
-    let mut rounds: u64 = 0;
-    while rounds < MOST {
+    for _ in 0..u64::MAX {
         match from.read(buf) {
-            Ok(0) => return Piece::End,
-            Ok(n) => return Piece::Bytes(n),
+            Ok(n) => return Ok(n),
             Err(e) => {
                 if e.kind() != ErrorKind::Interrupted {
-                    return Piece::Fault;
+                    return Err(e);
                 }
             }
         }
-        rounds += 1;
     }
-    Piece::Fault
+    Err(io::Error::from(ErrorKind::Interrupted))
 }
 
 // Reads an open file to its end, keeps its first bytes in buf, as many as have room, and answers how many. A file that
@@ -53,22 +39,14 @@ pub fn read_piece(from: &mut impl Read, buf: &mut [u8]) -> Piece
 pub fn read_whole(from: &mut impl Read, buf: &mut [u8]) -> usize
     ensures { IsPrefixLen result buf.new }
 {
-    let mut piece = io::buffer();
-    let mut end = 0;
-    let mut rounds: u64 = 0;
-    while rounds < MOST {
+    let mut piece = [0u8; 4096];
+    let mut kept = Writer::new(buf);
+    for _ in 0..u64::MAX {
         match read_piece(from, &mut piece) {
-            Piece::Bytes(n) => {
-                end = prog_text::put(&piece[..n], buf, end);
-            }
-            Piece::End => {
-                return end;
-            }
-            Piece::Fault => {
-                return 0;
-            }
+            Ok(0) => return kept.at,
+            Ok(n) => kept.put(&piece[..n]),
+            Err(_) => return 0,
         }
-        rounds += 1;
     }
     0
 }
@@ -84,9 +62,8 @@ fn read_open(mut file: impl Read + Drop, buf: &mut [u8]) -> usize
 pub fn read_or_empty(rt: &impl Files, path: &[u8], buf: &mut [u8]) -> usize
     ensures { IsPrefixLen result buf.new }
 {
-    let name = match std::str::from_utf8(path) {
-        Ok(name) => name,
-        Err(_) => return 0,
+    let Ok(name) = std::str::from_utf8(path) else {
+        return 0;
     };
     match fs::open(rt, name) {
         Ok(file) => read_open(file, buf),

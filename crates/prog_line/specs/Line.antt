@@ -1,13 +1,13 @@
 -- A line of the asker's input. 01, "Two programs".
-use Rattle.std.specs.Prelude.{Bool, true, cond, not, ◌&&◌, List, [], ◌∷◌, ℕ, ◌-◌, leb, length, set, replicate}
-use Rattle.std.proofs.Math.Option.{Option, none, some}
+use Rattle.std.specs.Prelude.{Bool, true, cond, not, ◌&&◌, List, [], ◌∷◌, ℕ, ◌-◌, leb, length, set, replicate, Option, None, Some}
 use Prim.Native.Char.{code}
 use Rattle.spec_lists.specs.Text.{bytes, same, one_of, among, digit}
 use Rattle.spec_lists.specs.Select.{nonempty}
 use Rattle.spec_calc.specs.declared.Reading.{Reading}
 use Rattle.spec_calc.specs.declared.Reading.TheVariants.{NeverHeard}
 use Rattle.spec_rule.specs.Question.{question_of, Question}
-use Rattle.prog_reading.specs.Reading.{Named, named}
+use Rattle.prog_reading.specs.declared.Named.{Named}
+use Rattle.prog_reading.specs.Reading.{named}
 
 -- 01: "lines of standard input up to 255 bytes, newline aside"
 abbrev pub longest_line : ℕ
@@ -28,18 +28,18 @@ group_of s = cond (same s (bytes "-")) [] s
 
 -- 01: "one-digit level"
 abbrev pub level_of : List ℕ → Option ℕ
-level_of [] = none
-level_of (d ∷ []) = cond (digit d) (some (d - code "0")) none
-level_of (d ∷ e ∷ s) = none
+level_of [] = None
+level_of (d ∷ []) = cond (digit d) (Some (d - code "0")) None
+level_of (d ∷ e ∷ s) = None
 
 abbrev pub and_named : Option Named → Option (List Named) → Option (List Named)
-and_named none ns = none
-and_named (some n) none = none
-and_named (some n) (some ns) = some (n ∷ ns)
+and_named None ns = None
+and_named (Some n) None = None
+and_named (Some n) (Some ns) = Some (n ∷ ns)
 
--- the readings of some parts, if each is one
+-- the readings of Some parts, if each is one
 unfoldable pub all_named : List (List ℕ) → Option (List Named)
-all_named [] = some []
+all_named [] = Some []
 all_named (p ∷ ps) = and_named (named p) (all_named ps)
 
 abbrev pub letters : List Named → List ℕ
@@ -58,10 +58,10 @@ readings (n ∷ ns) = set (readings ns) n.letter n.reading
 
 -- the readings of the letters A to U, if no letter is named twice
 abbrev pub without_repeats : Option (List Named) → Option (List Reading)
-without_repeats none = none
-without_repeats (some ns) = cond (distinct (letters ns)) (some (readings ns)) none
+without_repeats None = None
+without_repeats (Some ns) = cond (distinct (letters ns)) (Some (readings ns)) None
 
--- the readings that some parts name
+-- the readings that Some parts name
 abbrev pub readings_named : List (List ℕ) → Option (List Reading)
 readings_named ps = without_repeats (all_named ps)
 
@@ -71,14 +71,14 @@ pub data Line : Type 0 where
   question : Question → Line
 
 abbrev pub of_readings : List ℕ → List ℕ → List ℕ → ℕ → Option (List Reading) → Line
-of_readings g u h l none = refused
-of_readings g u h l (some rs) = question (question_of (group_of g) u h l rs)
+of_readings g u h l None = refused
+of_readings g u h l (Some rs) = question (question_of (group_of g) u h l rs)
 
 abbrev pub of_level : List ℕ → List ℕ → List ℕ → Option ℕ → List (List ℕ) → Line
-of_level g u h none ps = refused
-of_level g u h (some l) ps = of_readings g u h l (readings_named ps)
+of_level g u h None ps = refused
+of_level g u h (Some l) ps = of_readings g u h l (readings_named ps)
 
--- 01: "group (`-` for empty), user, host, one-digit level, then readings", "none empty"
+-- 01: "group (`-` for empty), user, host, one-digit level, then readings", "None empty"
 unfoldable pub of_parts : List (List ℕ) → Line
 of_parts [] = refused
 of_parts (g ∷ []) = refused

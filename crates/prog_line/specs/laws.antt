@@ -1,4 +1,3 @@
 pub mod Parts
 pub mod Readings
-pub mod Question
 pub mod Examples

@@ -1,140 +1,78 @@
 // The parts of a line of the asker's input. 01, "Two programs".
 #![tactic(auto)]
 
-ghost use Rattle.std.specs.Prelude.{◌≡◌, ◌-◌, ◌≤◌, ◌<◌, length, drop};
-ghost use Rattle.prog_line.specs.Line.{readings_named};
-ghost use Rattle.prog_line.specs.Parts.{Part, behind};
-ghost use Rattle.prog_line.specs.Meaning.{as_readings, NextAs, LevelAs, NamesAs};
+ghost use Rattle.std.specs.Prelude.{◌≡◌, ◌≤◌, ◌==◌, true, List, ℕ, [], ◌∷◌, length, position, MatchOption};
+ghost use Rattle.prog_reading.specs.Reading.{was_heard};
+ghost use Rattle.prog_line.specs.Line.{split, level_of, readings_named, refused, of_parts};
+ghost use Rattle.prog_line.specs.Parts.{part_length, behind, no_next, Next, LevelFirst};
 
-use prog_reading::NamedReading;
 use spec_calc::Reading;
 
-// The part behind another.
-#[derive(Clone, Copy)]
-pub enum Place {
-    At(usize),
-    Missing,
-}
-
-// Where user, host and level begin.
-#[derive(Clone, Copy)]
-pub enum Names {
-    At(usize, usize, usize),
-    Missing,
-}
-
-#[derive(Clone, Copy)]
-pub enum Level {
-    Is(u32),
-    Nothing,
-}
-
-// What a line asks. Its group is line[..user - 1], `-` for empty, its user line[user..host - 1], its host line[host..level_at - 1].
-#[derive(Clone, Copy)]
-pub enum Line {
-    Refused,
-    Question {
-        user: usize,
-        host: usize,
-        level_at: usize,
-        level: u32,
-    },
-}
-
-// ---- parts
-
-// The offset behind the part that begins at an offset.
-fn part_end(line: &[u8], from: usize) -> usize
-    requires { from ≤ length line.now }
-    ensures { Part line.now from result }
+fn first_space(s: &[u8]) -> Option<usize>
+    ensures { result ≡ position (λ b. b == 32) s.now }
 {
-    let mut at = from;
-    while at < line.len() {
-        if line[at] == b' ' {
-            return at;
-        }
-        at += 1;
+    s.iter().position(|b| *b == b' ')
+}
+
+// How many bytes stand before the first space.
+#[tactic(auto, using(crate::specs::laws::Parts::first_space))]
+fn part_length(s: &[u8]) -> usize
+    ensures value { result ≡ part_length s.now }
+    ensures within { result ≤ length s.now }
+{
+    first_space(s).unwrap_or(s.len())
+}
+
+// The first part, which is not empty, and what stands behind its space.
+pub fn next_part(s: &[u8]) -> Option<(&[u8], &[u8])>
+    ensures { MatchOption result (no_next (split s.now) ≡ true) (λ p. Next s.now p.0.now p.1.now) }
+{
+    let end = part_length(s);
+    if end == 0 || end == s.len() {
+        return None;
     }
-    at
+    Some((&s[..end], &s[end + 1..]))
 }
 
-// The part behind one that is not empty.
-fn next_part(line: &[u8], at: usize) -> Place
-    requires { at ≤ length line.now }
-    ensures { NextAs line.now at result }
+fn digit(b: u8) -> Option<u32>
+    ensures { result ≡ level_of (b ∷ []) }
 {
-    let end = part_end(line, at);
-    if end == at {
-        return Place::Missing;
-    }
-    if end == line.len() {
-        return Place::Missing;
-    }
-    Place::At(end + 1)
-}
-
-// Group, user and host, none empty.
-pub fn find_names(line: &[u8]) -> Names
-    ensures { NamesAs line.now result }
-{
-    let Place::At(user) = next_part(line, 0) else {
-        return Names::Missing;
-    };
-    let Place::At(host) = next_part(line, user) else {
-        return Names::Missing;
-    };
-    let Place::At(level_at) = next_part(line, host) else {
-        return Names::Missing;
-    };
-    Names::At(user, host, level_at)
-}
-
-fn wide(b: u8) -> u32
-    ensures { result ≡ b }
-{
-    b as u32
-}
-
-// The level, a part of one digit. Inner: prog_question has the offset from find_names.
-pub fn level_of(line: &[u8], at: usize) -> Level
-    requires { at ≤ length line.now }
-    ensures { LevelAs line.now at result }
-{
-    let end = part_end(line, at);
-    if end != at + 1 {
-        return Level::Nothing;
-    }
-    let b = line[at];
     match b {
-        b'0'..=b'9' => Level::Is(wide(b - b'0')),
-        _ => Level::Nothing,
+        b'0'..=b'9' => Some(u32::from(b - b'0')),
+        _ => None,
     }
 }
 
-// The readings that the parts behind an offset name, where a space stands or the line ends, and whether they are allowed.
-// Where they are not, the array is open.
-// Callers have the level's offset from question, which says that it lies in the line (Meaning: Ordered).
-pub fn readings(line: &[u8], from: usize, allowed: &mut bool) -> [Reading; 21]
-    requires { from ≤ length line.now }
-    ensures { as_readings allowed.new result ≡ readings_named (behind (drop from line.now)) }
+// The level, a first part of one digit, and what stands behind it: a space, or nothing.
+pub fn level_of(s: &[u8]) -> Option<(u32, &[u8])>
+    ensures { MatchOption result ((g u h : List ℕ) → of_parts (g ∷ u ∷ h ∷ split s.now) ≡ refused) (λ p. LevelFirst s.now p.0 p.1.now) }
 {
-    let mut named = [false; 21];
-    let mut values = [Reading::NeverHeard; 21];
-    *allowed = false;
-    let mut at = from;
-    while at < line.len() {
-        let start = at + 1;
-        let end = part_end(line, start);
-        let NamedReading::Is(i, r) = prog_reading::named_reading(&line[start..end]) else {
-            return values;
-        };
-        if named[i] {
-            return values;
-        }
-        named[i] = true;
-        values[i] = r;
-        at = end;
+    if part_length(s) != 1 {
+        return None;
     }
-    *allowed = true;
-    values
+    Some((digit(s[0])?, &s[1..]))
+}
+
+fn was_heard(r: Reading) -> bool
+    ensures { result ≡ was_heard r }
+{
+    !matches!(r, Reading::NeverHeard)
+}
+
+// The readings that some parts name, each behind a space.
+pub fn readings(s: &[u8]) -> Option<[Reading; 21]>
+    ensures { result ≡ readings_named (behind s.now) }
+{
+    let mut readings = [Reading::NeverHeard; 21];
+    let mut rest = s;
+    while let [_, parts @ ..] = rest {
+        let end = part_length(parts);
+        let named = prog_reading::named_reading(&parts[..end])?;
+        if was_heard(readings[named.letter]) {
+            return None;
+        }
+        readings[named.letter] = named.reading;
+        rest = &parts[end..];
+    }
+    Some(readings)
 }

@@ -17,3 +17,11 @@ pub fn put(rt: &(impl Print + Eprint), s: &[u8]) -> bool {
 pub fn put_number(rt: &impl Print, n: usize) {
     let _ = print!(rt; "{n}");
 }
+
+// A word and two numbers behind it.
+pub fn put_pair(rt: &(impl Print + Eprint), word: &[u8], a: usize, b: usize) {
+    put(rt, word);
+    put_number(rt, a);
+    put(rt, b" ");
+    put_number(rt, b);
+}

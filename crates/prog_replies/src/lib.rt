@@ -5,12 +5,7 @@ ghost use Rattle.std.specs.Prelude.{◌≡◌, true, ◌+◌, ◌*◌, ◌≤◌
 ghost use Rattle.spec_table.specs.Check.{is_table};
 ghost use Rattle.prog_replies.specs.Pieces.{room, longest_reply, LineSpan, Extends, State, Responds};
 
-// How many bytes of a line that has begun are stored, and how many bytes of answers were written.
-#[derive(Clone, Copy)]
-pub struct Progress {
-    pub count: usize,
-    pub printed: usize,
-}
+use prog_text::Writer;
 
 // Behind the line that has begun stands what a piece has from an offset up to another: if a newline ends it there, it is answered.
 fn take_line(
@@ -18,56 +13,39 @@ fn take_line(
     piece: &[u8],
     at: usize,
     end: usize,
-    buffer: &mut [u8],
-    count: usize,
-    out: &mut [u8],
-    printed: usize,
-) -> Progress
-    requires { (is_table table.now ≡ true) × LineSpan piece.now at end × (length buffer.old ≡ room)
-        × (count ≤ room) × (printed ≤ length out.old) }
-    ensures { (result.count ≤ room) × (result.printed ≤ length out.new)
-        × Extends table.now (take at piece.now) (take (end + 1) piece.now)
-        out.old printed buffer.old count out.new result.printed buffer.new result.count }
+    held: &mut Writer<'_>,
+    w: &mut Writer<'_>,
+)
+    requires { (is_table table.now ≡ true) × LineSpan piece.now at end × (length held.old.out.now ≡ room) }
+    ensures held_lent { held.new.out.ghost_name ≡ held.old.out.ghost_name }
+    ensures lent { w.new.out.ghost_name ≡ w.old.out.ghost_name }
+    ensures held_room { length held.new.out.now ≡ room }
+    ensures answered { Extends table.now (take at piece.now) (take (end + 1) piece.now)
+        w.old.out.now w.old.at held.old.out.now held.old.at w.new.out.now w.new.at held.new.out.now held.new.at }
 {
-    let filled = prog_text::put(&piece[at..end], buffer, count);
-    if end < piece.len() {
-        let next = prog_reply::reply(table, &buffer[..filled], out, printed);
-        return Progress {
-            count: 0,
-            printed: next,
-        };
+    held.put(&piece[at..end]);
+    if end == piece.len() {
+        return;
     }
-    Progress {
-        count: filled,
-        printed,
-    }
+    prog_reply::reply(w, table, &held.out[..held.at]);
+    held.at = 0;
 }
 
-// Answers the lines that end in a piece. Of the line behind them as much is stored as shows whether it is too long.
-// The caller has loaded the table, has count from the piece before, and lends room for the answers.
-pub fn respond(
-    table: &[u8],
-    piece: &[u8],
-    buffer: &mut [u8],
-    count: usize,
-    out: &mut [u8],
-) -> Progress
-    requires { (is_table table.now ≡ true) × State buffer.old count × (longest_reply * length piece.now ≤ length out.old) }
-    ensures { Responds table.now piece.now out.old buffer.old count
-        out.new result.printed buffer.new result.count }
+// Answers the lines that end in a piece. Of the line behind them as much is held as shows whether it is too long.
+// The caller has loaded the table, holds the line from the piece before, and lends room for the answers.
+pub fn respond(table: &[u8], piece: &[u8], held: &mut Writer<'_>, out: &mut [u8]) -> usize
+    requires { (is_table table.now ≡ true) × State held.old.out.now held.old.at × (longest_reply * length piece.now ≤ length out.old) }
+    ensures held_lent { held.new.out.ghost_name ≡ held.old.out.ghost_name }
+    ensures answered { Responds table.now piece.now out.old held.old.out.now held.old.at
+        out.new result held.new.out.now held.new.at }
 {
-    let mut filled = count;
-    let mut printed = 0;
+    let mut w = Writer::new(out);
     let mut at = 0;
+    // Stays: a step goes behind a newline, so that no `for` counts it.
     while at < piece.len() {
         let end = byte_find::find(piece, at, piece.len(), b'\n');
-        let p = take_line(table, piece, at, end, buffer, filled, out, printed);
-        filled = p.count;
-        printed = p.printed;
+        take_line(table, piece, at, end, held, &mut w);
         at = end + 1;
     }
-    Progress {
-        count: filled,
-        printed,
-    }
+    w.at
 }

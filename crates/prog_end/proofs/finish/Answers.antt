@@ -1,6 +1,6 @@
-use Rattle.std.proofs.Common.{sym, ap, ◌∙◌, arith}
+use Rattle.std.proofs.Common.{sym, ap, ◌∙◌, arith, rules}
 use mathlib.Core.List.{append-nil}
-use Rattle.prog_text.specs.laws.Put.{put_as}
+use Rattle.prog_text.specs.laws.Put.{put_as, from_start}
 use Rattle.prog_reply.specs.Reply.{reply}
 use Rattle.prog_replies.specs.Input.{replies}
 use Rattle.prog_replies.specs.laws.Begun.{reply_begun, line_begun}
@@ -18,12 +18,12 @@ returns c =
     (ap
     (replies c.args.table.now)
     (line_begun
-    c.args.buffer.now
+    c.args.held.now.out.now
     h
-    c.args.count
-    (let z = c.if-count-eq0.false in omega arith)
+    c.args.held.now.at
+    (let z = c.if-held-eq0.false in omega arith)
     (let z = c.requires.1.within in let y = c.requires.1.size in omega arith)
     a)
     ∙ append-nil (reply c.args.table.now h)
     ∙ sym (reply_begun c.args.table.now a))
-    c.reply.ensures)
+    (from_start c.reply.ensures.written c.new-w.ensures.bytes c.new-w.ensures.start (search rules)))

@@ -12,12 +12,12 @@ returns-in-Written c = text_prints _ _ _ c.load.ensures c.in-Accepted.is c.expor
 
 pub returns-in-NotTable : goal.returns-in-NotTable
 unfolding decimal_digits digits_in
-returns-in-NotTable c = line_prints _ _ _ c.load.ensures c.in-Accepted.is c.export.ensures c.in-NotTable.is refl refl (omega arith) c.put.ensures
+returns-in-NotTable c = line_prints _ _ _ c.load.ensures c.in-Accepted.is c.export.ensures c.in-NotTable.is refl refl (omega arith) c.put_line.ensures
 
 pub returns-in-Unwritable : goal.returns-in-Unwritable
 unfolding decimal_digits digits_in
-returns-in-Unwritable c = line_prints _ _ _ c.load.ensures c.in-Accepted.is c.export.ensures c.in-Unwritable.is refl refl (omega arith) c.put-in-Unwritable.ensures
+returns-in-Unwritable c = line_prints _ _ _ c.load.ensures c.in-Accepted.is c.export.ensures c.in-Unwritable.is refl refl (omega arith) c.put_line-in-Unwritable.ensures
 
 pub returns-in-NoRoom : goal.returns-in-NoRoom
 unfolding decimal_digits digits_in
-returns-in-NoRoom c = line_prints _ _ _ c.load.ensures c.in-Accepted.is c.export.ensures c.in-NoRoom.is refl refl (omega arith) c.put-in-NoRoom.ensures
+returns-in-NoRoom c = line_prints _ _ _ c.load.ensures c.in-Accepted.is c.export.ensures c.in-NoRoom.is refl refl (omega arith) c.put_line-in-NoRoom.ensures

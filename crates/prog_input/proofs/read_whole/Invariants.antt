@@ -1,8 +1,5 @@
-use Rattle.std.proofs.Common.{◌-◌, ◌≤◌, length}
+use Rattle.std.proofs.Common.{◌≡◌}
 use Rattle.prog_input.proofs.read_whole.Given as goal
 
-abbrev pub invariant-loop-rounds : goal.invariant-loop-rounds
-invariant-loop-rounds g l = l.end ≤ length l.buf
-
-abbrev pub decreases-loop-rounds : goal.decreases-loop-rounds
-decreases-loop-rounds g l = 4611686018427387904 - l.rounds
+abbrev pub invariant-loop : goal.invariant-loop
+invariant-loop g l = l.kept.out.ghost_name ≡ l.initial.kept.out.ghost_name

@@ -1,27 +1,13 @@
-use Rattle.std.proofs.Common.{arith, get_or}
-use Rattle.spec_lists.proofs.laws.Range.{below, above}
-use Rattle.prog_line.specs.laws.Question.{wrong_width, no_digit}
+use Rattle.std.proofs.Common.{sym, ◌∙◌, arith}
+use Rattle.prog_line.specs.laws.Parts.{wrong_width, no_digit, a_digit}
 use Rattle.prog_line.proofs.level_of.Goals as goal
 
-pub returns-then-end-at : goal.returns-then-end-at
-returns-then-end-at c = wrong_width c.args.line.now c.args.at c.part_end-end.result c.part_end-end.ensures c.if-end-at.true
+pub returns-then-part_length-ne1 : goal.returns-then-part_length-ne1
+returns-then-part_length-ne1 c = let v = c.part_length.ensures.value in wrong_width c.args.s.now (λ e. omega arith)
 
-pub returns-in_default : goal.returns-in_default
-returns-in_default c =
-    no_digit
-    c.args.line.now
-    c.args.at
-    c.part_end-end.result
-    c.part_end-end.ensures
-    c.if-end-at.false
-    (below 48 57 (get_or c.args.line.now c.args.at 0) (omega arith))
+pub returns-in_err-digit : goal.returns-in_err-digit
+returns-in_err-digit c =
+    rw c.from_residual.ensures (no_digit c.args.s.now (sym c.part_length.ensures.value ∙ c.if-part_length-ne1.false) (sym c.in_err-digit.ensures))
 
-pub returns-in_default-2 : goal.returns-in_default-2
-returns-in_default-2 c =
-    no_digit
-    c.args.line.now
-    c.args.at
-    c.part_end-end.result
-    c.part_end-end.ensures
-    c.if-end-at.false
-    (above 48 57 (get_or c.args.line.now c.args.at 0) (omega arith))
+pub returns : goal.returns
+returns c = a_digit c.args.s.now (sym c.part_length.ensures.value ∙ c.if-part_length-ne1.false) (sym c.in_ok-digit.ensures)

@@ -1,64 +1,52 @@
-use Rattle.std.proofs.Common.{sym, ◌∙◌, arith}
-use Rattle.prog_line.specs.Meaning.{as_readings}
-use Rattle.prog_line.specs.laws.Readings.{filled_all, filled_end, filled_stop, filled_twice, filled_on}
+use Rattle.std.proofs.Common.{refl, sym, ◌∙◌, arith}
+use Rattle.prog_line.specs.laws.Readings.{at_start, at_end, no_reading, named_again, one_set}
 use Rattle.prog_line.proofs.readings.Goals as goal
 
-pub returns-in_default : goal.returns-in_default
-unfolding as_readings
-returns-in_default c =
-    sym
-    (sym (filled_all _)
-    ∙ c.loop-at.invariant.1
-    ∙ filled_stop
-    c.args.line.now
-    c.loop-at.at
-    c.part_end-end.result
-    (omega arith)
-    c.part_end-end.ensures
-    c.named_reading.result
-    c.named_reading.ensures
-    c.in_default.is
-    c.loop-at.named
-    c.loop-at.values)
+pub returns-in_err-named : goal.returns-in_err-named
+returns-in_err-named c =
+    c.from_residual.ensures
+    ∙ sym
+    (sym (at_start c.args.s.now)
+    ∙ c.loop-rest.invariant
+    ∙ no_reading
+    c.loop-rest.rest.now
+    _
+    _
+    c.in-len1-up.len_at_least
+    refl
+    c.part_length-end.ensures.value
+    c.loop-rest.readings
+    (sym c.in_err-named.ensures.named))
 
-pub returns-then-named-i : goal.returns-then-named-i
-unfolding as_readings
-returns-then-named-i c =
+pub returns-then-was_heard : goal.returns-then-was_heard
+returns-then-was_heard c =
     sym
-    (sym (filled_all _)
-    ∙ c.loop-at.invariant.1
-    ∙ filled_twice
-    c.args.line.now
-    c.loop-at.at
-    c.part_end-end.result
-    (omega arith)
-    c.part_end-end.ensures
-    c.named_reading.result
-    c.named_reading.ensures
-    c.in-Is.is
-    c.loop-at.named
-    c.loop-at.values
-    c.if-named-i.true)
+    (sym (at_start c.args.s.now)
+    ∙ c.loop-rest.invariant
+    ∙ named_again
+    c.loop-rest.rest.now
+    _
+    _
+    c.in-len1-up.len_at_least
+    refl
+    c.part_length-end.ensures.value
+    c.loop-rest.readings
+    (sym c.in_ok-named.ensures.named)
+    (sym c.was_heard.ensures ∙ c.if-was_heard.true))
 
-pub loop-at-preserved : goal.loop-at-preserved
-loop-at-preserved c = (
-  c.part_end-end.ensures.within,
-  c.loop-at.invariant.1
-      ∙ filled_on
-      c.args.line.now
-      c.loop-at.at
-      c.part_end-end.result
-      (omega arith)
-      c.part_end-end.ensures
-      c.named_reading.result
-      c.named_reading.ensures
-      c.in-Is.is
-      c.loop-at.named
-      c.loop-at.values
-      c.if-named-i.false,
-)
+pub loop-rest-preserved : goal.loop-rest-preserved
+loop-rest-preserved c =
+    c.loop-rest.invariant
+    ∙ one_set
+    c.loop-rest.rest.now
+    _
+    _
+    c.in-len1-up.len_at_least
+    refl
+    c.part_length-end.ensures.value
+    c.loop-rest.readings
+    (sym c.in_ok-named.ensures.named)
+    (sym c.was_heard.ensures ∙ c.if-was_heard.false)
 
 pub returns : goal.returns
-unfolding as_readings
-returns c =
-    sym (sym (filled_all _) ∙ c.loop-at.invariant.1 ∙ filled_end c.args.line.now c.loop-at.at (omega arith) c.loop-at.named c.loop-at.values)
+returns c = sym (sym (at_start c.args.s.now) ∙ c.loop-rest.invariant ∙ at_end c.loop-rest.readings c.loop-rest.rest.now (omega arith))

@@ -1,11 +1,9 @@
-use Rattle.std.proofs.Common.{length, ◌-◌, ◌≤◌, ◌≡◌, drop}
-use Rattle.prog_line.specs.Parts.{behind}
-use Rattle.prog_line.specs.laws.Readings.{filled, none_named, never_heard}
+use Rattle.std.proofs.Common.{◌≡◌, length}
+use Rattle.prog_line.specs.laws.Readings.{never_heard, set_on}
 use Rattle.prog_line.proofs.readings.Given as goal
 
-abbrev pub invariant-loop-at : goal.invariant-loop-at
-invariant-loop-at l =
-    (l.at ≤ length l.line) × (filled none_named never_heard (behind (drop l.from l.line)) ≡ filled l.named l.values (behind (drop l.at l.line)))
+abbrev pub invariant-loop-rest : goal.invariant-loop-rest
+invariant-loop-rest l = set_on never_heard l.s ≡ set_on l.readings l.rest
 
-abbrev pub decreases-loop-at : goal.decreases-loop-at
-decreases-loop-at l = length l.line - l.at
+abbrev pub decreases-loop-rest : goal.decreases-loop-rest
+decreases-loop-rest l = length l.rest

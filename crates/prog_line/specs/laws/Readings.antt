@@ -1,30 +1,27 @@
 -- The readings of a line one by one, against their definition.
-use Rattle.std.specs.Prelude.{◌≡◌, refl, Bool, true, false, cond, not, ◌&&◌, ◌||◌, List, [], ◌∷◌, ℕ, zero, suc, ◌+◌, ◌<◌, eqb, length, drop, get_or, set, replicate}
+use Rattle.std.specs.Prelude.{◌≡◌, refl, Bool, true, false, cond, not, ◌&&◌, ◌||◌, List, [], ◌∷◌, ℕ, zero, suc, ◌-◌, ◌≤◌, ◌<◌, eqb, length, take, drop, get_or, set, replicate, map, Option, None, Some}
 use Rattle.std.proofs.Common.{sym, ap, ◌∙◌, arith, length-set, get_or-set_same, get_or-set_other, eqb-true}
-use Rattle.std.proofs.Math.Option.{Option, none, some}
-use Rattle.std.proofs.Math.Seq.{drop-length}
-use Rattle.std.proofs.lemmas.List.{set_comm}
+use Rattle.std.proofs.lemmas.List.{set_comm, map-set}
 use Rattle.std.proofs.lemmas.Bool.{eqb-false}
 use Rattle.spec_lists.specs.Text.{one_of}
 use Rattle.spec_lists.proofs.laws.Both.{neither}
 use Rattle.spec_calc.specs.declared.Reading.{Reading}
 use Rattle.spec_calc.specs.declared.Reading.TheVariants.{NeverHeard}
-use Rattle.prog_reading.specs.declared.NamedReading.{NamedReading}
-use Rattle.prog_reading.specs.declared.NamedReading.TheVariants.{Is, Nothing}
-use Rattle.prog_reading.specs.Reading.{Named, named}
-use Rattle.prog_reading.specs.Meaning.{NamedAs}
-use Rattle.prog_reading.specs.laws.Reading.{small_letter}
-use Rattle.prog_line.specs.Line.{and_named, all_named, letters, distinct, readings, without_repeats, readings_named}
-use Rattle.prog_line.specs.Parts.{cut, behind, Part}
-use Rattle.prog_line.specs.laws.Parts.{behind_space}
+use Rattle.prog_reading.specs.declared.Named.{Named}
+use Rattle.prog_reading.specs.Reading.{was_heard, named}
+use Rattle.prog_reading.specs.laws.Named.{small_letter, heard_reading}
+use Rattle.prog_line.specs.Line.{split, and_named, all_named, letters, distinct, readings, without_repeats, readings_named}
+use Rattle.prog_line.specs.Parts.{part_length, behind}
+use Rattle.prog_line.specs.laws.Parts as Parts
+use Rattle.prog_line.specs.laws.Parts.{rest_is}
 
--- the readings set by their letters, none at a part that is no reading or that names a letter again
+-- the readings set by their letters, None at a part that is no reading or that names a letter again
 unfoldable pub filled : List Bool → List Reading → List (List ℕ) → Option (List Reading)
-filled b rs [] = some rs
+filled b rs [] = Some rs
 filled b rs (p ∷ ps) =
     elim (named p) [
-      | none ↦ none
-      | some n ↦ cond (get_or b n.letter false) none (filled (set b n.letter true) (set rs n.letter n.reading) ps)
+      | None ↦ None
+      | Some n ↦ cond (get_or b n.letter false) None (filled (set b n.letter true) (set rs n.letter n.reading) ps)
     ]
 
 abbrev pub none_named : List Bool
@@ -91,36 +88,36 @@ over_none (n ∷ ns) = ap (λ (q : List Reading). set q n.letter n.reading) (ove
 -- ---- the readings one by one come to the definition's
 
 filled_of : List Bool → List Reading → Option (List Named) → Option (List Reading)
-filled_of b rs none = none
-filled_of b rs (some ns) = cond (distinct (letters ns) && unnamed b (letters ns)) (some (over rs ns)) none
+filled_of b rs None = None
+filled_of b rs (Some ns) = cond (distinct (letters ns) && unnamed b (letters ns)) (Some (over rs ns)) None
 
 filled_is : (b : List Bool) → length b ≡ 21 → (rs : List Reading) (ps : List (List ℕ)) → filled b rs ps ≡ filled_of b rs (all_named ps)
 unfolding filled filled_of all_named distinct unnamed over
 filled_is b h rs [] = refl
 filled_is b h rs (p ∷ ps) = go (named p) refl (λ i r. filled_is (set b i true) (length-set b i true ∙ h) (set rs i r) ps)
   where
-    nothing : (g : Bool) → ◌≡◌ {A = Option (List Reading)} (cond g none none) none
+    nothing : (g : Bool) → ◌≡◌ {A = Option (List Reading)} (cond g None None) None
     nothing true = refl
     nothing false = refl
 
     pick :
         (x y : List Reading) (g d o a : Bool) → (o ≡ false → x ≡ y)
-        → cond g none (cond (d && (not o && a)) (some x) none) ≡ cond ((not o && d) && (not g && a)) (some y) none
+        → cond g None (cond (d && (not o && a)) (Some x) None) ≡ cond ((not o && d) && (not g && a)) (Some y) None
     pick x y true true true a w = refl
     pick x y true true false a w = refl
     pick x y true false true a w = refl
     pick x y true false false a w = refl
     pick x y false true true a w = refl
-    pick x y false true false a w = ap (λ (q : List Reading). cond a (some q) none) (w refl)
+    pick x y false true false a w = ap (λ (q : List Reading). cond a (Some q) None) (w refl)
     pick x y false false true a w = refl
     pick x y false false false a w = refl
 
     rest :
         (n : Named) → n.letter < 21 → (o : Option (List Named))
-        → cond (get_or b n.letter false) none (filled_of (set b n.letter true) (set rs n.letter n.reading) o)
-        ≡ filled_of b rs (and_named (some n) o)
-    rest n s none = nothing (get_or b n.letter false)
-    rest n s (some ns) =
+        → cond (get_or b n.letter false) None (filled_of (set b n.letter true) (set rs n.letter n.reading) o)
+        ≡ filled_of b rs (and_named (Some n) o)
+    rest n s None = nothing (get_or b n.letter false)
+    rest n s (Some ns) =
         let i = n.letter in
         let l : n.letter < length b = omega arith in
         rw (unnamed_set b n.letter l (letters ns))
@@ -130,11 +127,11 @@ filled_is b h rs (p ∷ ps) = go (named p) refl (λ i r. filled_is (set b i true
     go :
         (a : Option Named) → named p ≡ a
         → ((i : ℕ) (r : Reading) → filled (set b i true) (set rs i r) ps ≡ filled_of (set b i true) (set rs i r) (all_named ps))
-        → elim a [ none ↦ none | some n ↦ cond (get_or b n.letter false) none (filled (set b n.letter true) (set rs n.letter n.reading) ps) ]
+        → elim a [ None ↦ None | Some n ↦ cond (get_or b n.letter false) None (filled (set b n.letter true) (set rs n.letter n.reading) ps) ]
         ≡ filled_of b rs (and_named a (all_named ps))
-    go none e w = refl
-    go (some n) e w =
-        ap (λ (o : Option (List Reading)). cond (get_or b n.letter false) none o) (w n.letter n.reading)
+    go None e w = refl
+    go (Some n) e w =
+        ap (λ (o : Option (List Reading)). cond (get_or b n.letter false) None o) (w n.letter n.reading)
         ∙ rest n (small_letter p e) (all_named ps)
 
 pub filled_all : (ps : List (List ℕ)) → filled none_named never_heard ps ≡ readings_named ps
@@ -146,43 +143,66 @@ filled_all ps = filled_is none_named refl never_heard ps ∙ go (all_named ps)
     right false = refl
 
     go : (o : Option (List Named)) → filled_of none_named never_heard o ≡ without_repeats o
-    go none = refl
-    go (some ns) = rw (unnamed_none (letters ns), right (distinct (letters ns)), over_none ns)
+    go None = refl
+    go (Some ns) = rw (unnamed_none (letters ns), right (distinct (letters ns)), over_none ns)
 
--- ---- one step of the code
+-- ---- one step of the code: a letter was named if its reading was heard
+
+-- as the parts behind a text set them
+unfoldable pub set_on : List Reading → List ℕ → Option (List Reading)
+set_on rs s = filled (map was_heard rs) rs (behind s)
+
+pub at_start : (s : List ℕ) → set_on never_heard s ≡ readings_named (behind s)
+unfolding set_on
+at_start s = filled_all (behind s)
+
+pub at_end : (rs : List Reading) (s : List ℕ) → length s ≡ 0 → set_on rs s ≡ Some rs
+unfolding set_on filled
+at_end rs [] h = refl
+at_end rs (b ∷ s) h = absurd (omega arith)
+
+was_at : (rs : List Reading) (i : ℕ) → get_or (map was_heard rs) i false ≡ was_heard (get_or rs i NeverHeard)
+was_at [] i = refl
+was_at (x ∷ rs) zero = refl
+was_at (x ∷ rs) (suc i) = was_at rs i
 
 module _ (p : List ℕ) (ps : List (List ℕ)) (b : List Bool) (rs : List Reading) where
-  filled_none : named p ≡ none → filled b rs (p ∷ ps) ≡ none
+  filled_none : named p ≡ None → filled b rs (p ∷ ps) ≡ None
   unfolding filled
   filled_none e = rw (e, filled)
 
   filled_some :
-      {i : ℕ} {r : Reading} → named p ≡ some (record { letter = i; reading = r })
-      → filled b rs (p ∷ ps) ≡ cond (get_or b i false) none (filled (set b i true) (set rs i r) ps)
+      {m : Named} → named p ≡ Some m
+      → filled b rs (p ∷ ps) ≡ cond (get_or b m.letter false) None (filled (set b m.letter true) (set rs m.letter m.reading) ps)
   unfolding filled
   filled_some e = rw (e, filled)
 
-pub filled_end : (l : List ℕ) (at : ℕ) → at ≡ length l → (b : List Bool) (rs : List Reading) → filled b rs (behind (drop at l)) ≡ some rs
-unfolding filled
-filled_end l at h b rs = rw (h, drop-length l)
+module _ (s parts : List ℕ) (n : ℕ) (h : 1 ≤ length s) (behind_first : parts ≡ take (length s - 1) (drop 1 s)) (ends : n ≡ part_length parts) (rs : List Reading) where
+  one_more : behind s ≡ take n parts ∷ behind (take (length parts - n) (drop n parts))
+  one_more = go s h behind_first ∙ Parts.parts parts ∙ rw (sym ends) (ap (λ (r : List ℕ). take n parts ∷ behind r) (sym (rest_is parts n)))
+    where
+      go : (t : List ℕ) → 1 ≤ length t → parts ≡ take (length t - 1) (drop 1 t) → behind t ≡ split parts
+      go [] k e = absurd (omega arith)
+      go (b ∷ t) k e = ap split (sym (e ∙ rest_is (b ∷ t) 1))
 
-module _ (l : List ℕ) (at e : ℕ) (h : at < length l) (q : Part l (at + 1) e) (r : NamedReading) (w : NamedAs (cut (at + 1) e l) r) where
-  pub filled_stop : r ≡ Nothing → (b : List Bool) (rs : List Reading) → filled b rs (behind (drop at l)) ≡ none
-  filled_stop n b rs = ap (filled b rs) (behind_space l at e h q) ∙ filled_none (cut (at + 1) e l) (behind (drop e l)) b rs (rw n at w)
+  pub no_reading : named (take n parts) ≡ None → set_on rs s ≡ None
+  unfolding set_on
+  no_reading e = ap (filled (map was_heard rs) rs) one_more ∙ filled_none (take n parts) _ _ _ e
 
-  module _ {i : ℕ} {x : Reading} (n : r ≡ Is i x) where
-    is_named : NamedAs (cut (at + 1) e l) (Is i x)
-    is_named = rw n at w
+  module _ {m : Named} (e : named (take n parts) ≡ Some m) where
+    next : set_on rs s ≡ cond (was_heard (get_or rs m.letter NeverHeard)) None (filled (set (map was_heard rs) m.letter true) (set rs m.letter m.reading) (behind (take (length parts - n) (drop n parts))))
+    unfolding set_on
+    next =
+        ap (filled (map was_heard rs) rs) one_more
+        ∙ filled_some (take n parts) _ _ _ e
+        ∙ ap (λ (t : Bool). cond t None (filled (set (map was_heard rs) m.letter true) (set rs m.letter m.reading) (behind (take (length parts - n) (drop n parts))))) (was_at rs m.letter)
 
-    pub letter_small : i < 21
-    letter_small = is_named.0
+    pub named_again : was_heard (get_or rs m.letter NeverHeard) ≡ true → set_on rs s ≡ None
+    named_again w = next ∙ rw w refl
 
-    module _ (b : List Bool) (rs : List Reading) where
-      filled_next : filled b rs (behind (drop at l)) ≡ cond (get_or b i false) none (filled (set b i true) (set rs i x) (behind (drop e l)))
-      filled_next = ap (filled b rs) (behind_space l at e h q) ∙ filled_some (cut (at + 1) e l) (behind (drop e l)) b rs is_named.1
-
-      pub filled_twice : get_or b i false ≡ true → filled b rs (behind (drop at l)) ≡ none
-      filled_twice g = filled_next ∙ rw g
-
-      pub filled_on : get_or b i false ≡ false → filled b rs (behind (drop at l)) ≡ filled (set b i true) (set rs i x) (behind (drop e l))
-      filled_on g = filled_next ∙ rw g
+    pub one_set : was_heard (get_or rs m.letter NeverHeard) ≡ false → set_on rs s ≡ set_on (set rs m.letter m.reading) (take (length parts - n) (drop n parts))
+    unfolding set_on
+    one_set w =
+        next
+        ∙ rw w (ap (λ (b : List Bool). filled b (set rs m.letter m.reading) (behind (take (length parts - n) (drop n parts))))
+        (sym (map-set was_heard rs m.letter m.reading ∙ ap (set (map was_heard rs) m.letter) (heard_reading (take n parts) e))))

@@ -1,5 +1,5 @@
 -- A text that is a number, against the number that it begins with.
-use Rattle.std.specs.Prelude.{◌≡◌, refl, Bool, true, false, cond, ◌&&◌, ◌||◌, List, [], ◌∷◌, ℕ, suc, ◌<◌, length, drop, get_or, Float}
+use Rattle.std.specs.Prelude.{◌≡◌, refl, Bool, true, false, cond, ◌&&◌, ◌||◌, List, [], ◌∷◌, ℕ, suc, ◌<◌, length, drop, get_or, Float, None, Some}
 use Rattle.std.proofs.Common.{sym, ap, ◌∙◌, arith, drop-cons, ne_eqb}
 use Rattle.std.proofs.Math.Option.{Option, none, some}
 use Rattle.std.proofs.Math.Seq.{drop-length}
@@ -8,10 +8,8 @@ use Rattle.spec_lists.specs.Select.{all, run, after, keep_if, skip_if}
 use Rattle.spec_lists.proofs.laws.Both.{both, absurd_bool}
 use Rattle.spec_calc.specs.Symbol.{numeral_byte}
 use Rattle.spec_calc.specs.Scanner.{numeral, pointed, within_digits}
-use Rattle.calc_numeral.specs.declared.Figure.{Figure}
-use Rattle.calc_numeral.specs.declared.Figure.TheVariants.{Is, Wrong}
 use Rattle.calc_numeral.specs.Numeral.{Ends, Numbered}
-use Rattle.prog_reading.specs.Reading.{number}
+use Rattle.prog_reading.specs.Reading.{if_found, number}
 
 pub figure_byte : (b : ℕ) → digit b ≡ true → numeral_byte b ≡ true
 figure_byte b e = rw e
@@ -80,48 +78,48 @@ no_number s h = go (numeral s) refl
 
 -- ---- the number at the start, against the whole text
 
-pub empty_none : (s : List ℕ) → length s ≡ 0 → none ≡ number s
+pub empty_none : (s : List ℕ) → length s ≡ 0 → None ≡ number s
 empty_none [] e = refl
 empty_none (b ∷ s) e = absurd (omega arith)
 
 module _ (s : List ℕ) (h : length s ≡ 0 → ⊥) where
-  pub number_is : number s ≡ numeral s
+  pub number_is : number s ≡ if_found (numeral s)
   number_is = go s h
     where
-      go : (t : List ℕ) → (length t ≡ 0 → ⊥) → number t ≡ numeral t
+      go : (t : List ℕ) → (length t ≡ 0 → ⊥) → number t ≡ if_found (numeral t)
       go [] k = absurd (k refl)
       go (b ∷ t) k = refl
 
-  pub begins_ill : numeral_byte (get_or s 0 0) ≡ false → none ≡ number s
-  begins_ill e = sym (number_is ∙ no_number s (go s h e))
+  pub begins_ill : numeral_byte (get_or s 0 0) ≡ false → None ≡ number s
+  begins_ill e = sym (number_is ∙ ap if_found (no_number s (go s h e)))
     where
       go : (t : List ℕ) → (length t ≡ 0 → ⊥) → numeral_byte (get_or t 0 0) ≡ false → after numeral_byte t ≡ [] → ⊥
       go [] k f g = k refl
       go (b ∷ t) k f g = let g' : b ∷ t ≡ [] = rw f at g in let z : ◌≡◌ {A = ℕ} 0 1 = cc in omega arith
 
-  pub goes_ill : {r : Figure} → Numbered s 0 r → r ≡ Wrong → none ≡ number s
-  goes_ill {r} n e = sym (number_is ∙ go (after numeral_byte s) refl)
+  pub goes_ill : Numbered s 0 None → None ≡ number s
+  goes_ill n = sym (number_is ∙ ap if_found (go (after numeral_byte s) refl))
     where
       wrong : numeral (run numeral_byte s) ≡ none
-      wrong = rw e at n
+      wrong = n
 
       go : (t : List ℕ) → after numeral_byte s ≡ t → numeral s ≡ none
       go [] k = ap numeral (sym (run_whole numeral_byte s k)) ∙ wrong
       go (b ∷ t) k = no_number s (λ g. let z : ◌≡◌ {A = ℕ} 0 1 = cc in omega arith)
 
-  module _ {r : Figure} {v : Float} {p : ℕ} (n : Numbered s 0 r) (e : r ≡ Is v p) where
+  module _ {v : Float} {p : ℕ} (n : Numbered s 0 (Some (v, p))) where
     reads : Ends s 0 p × (numeral (run numeral_byte s) ≡ some v)
-    reads = rw e at n
+    reads = n
 
-    pub ends_there : p ≡ length s → some v ≡ number s
+    pub ends_there : p ≡ length s → Some v ≡ number s
     ends_there q =
         let k : after numeral_byte s ≡ [] = reads.0.behind ∙ ap (λ (i : ℕ). drop i s) q ∙ drop-length s in
-        sym (number_is ∙ ap numeral (sym (run_whole numeral_byte s k)) ∙ reads.1)
+        sym (number_is ∙ ap if_found (ap numeral (sym (run_whole numeral_byte s k)) ∙ reads.1))
 
-    pub ends_before : (p ≡ length s → ⊥) → none ≡ number s
+    pub ends_before : (p ≡ length s → ⊥) → None ≡ number s
     ends_before q =
         let w = reads.0.within in
         let l : p < length s = omega arith in
         sym
-        (number_is ∙ no_number s
-        (λ g. let f : get_or s p 0 ∷ drop (suc p) s ≡ [] = sym (drop-cons s p 0 l) ∙ sym reads.0.behind ∙ g in let z : ◌≡◌ {A = ℕ} 0 1 = cc in omega arith))
+        (number_is ∙ ap if_found (no_number s
+        (λ g. let f : get_or s p 0 ∷ drop (suc p) s ≡ [] = sym (drop-cons s p 0 l) ∙ sym reads.0.behind ∙ g in let z : ◌≡◌ {A = ℕ} 0 1 = cc in omega arith)))

@@ -121,3 +121,9 @@ module _ (table h piece out : List ℕ) where
         answers = put_as (ap (λ (q : Parted). replies table q.lines) whole) a.answers;
         begun = subst (λ (q : Parted). Begun buffer₂ count₂ q.rest) (sym whole) p;
       }
+
+-- as much of what a writer holds is as much of the lent bytes
+pub answers_in :
+    {table h piece out out₁ out' out₂ buffer : List ℕ} {n count : ℕ} → Answers table h piece out₁ out₂ n buffer count → out₁ ≡ out → out₂ ≡ out'
+    → Answers table h piece out out' n buffer count
+answers_in a e f = rw (← e, ← f) a

@@ -1,10 +1,7 @@
 use Rattle.prog_reply.specs.Reply.{reply}
-use Rattle.prog_text.specs.laws.Put.{put_within, put_put}
+use Rattle.prog_text.specs.laws.Put.{put_put}
 use Rattle.prog_reply.proofs.reply.Goals as goal
 
-pub put-requires : goal.put-requires
-put-requires c = put_within c.answer_line-end.ensures
-
-pub returns : goal.returns
+pub returns-clause-written : goal.returns-clause-written
 unfolding reply
-returns c = put_put c.answer_line-end.ensures c.put.ensures
+returns-clause-written c = put_put c.answer_line.ensures.written c.put.ensures.written

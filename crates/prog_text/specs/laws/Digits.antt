@@ -4,7 +4,7 @@ use Rattle.std.proofs.Common.{ap, ◌∙◌, arith, length-append, ltb-true, ltb
 use Rattle.spec_lists.specs.Text.{whole}
 use Rattle.prog_text.specs.Text.{digits_in, decimal_digits}
 use Rattle.prog_text.specs.Put.{Put}
-use Rattle.prog_text.specs.laws.Put.{put_put}
+use Rattle.prog_text.specs.laws.Put.{put_put, put_as}
 
 -- any bound that is enough
 digits_any : (f g n : ℕ) → n < f → n < g → digits_in f n ≡ digits_in g n
@@ -30,13 +30,14 @@ more_digits n h =
     rw (le-ltb n 10 h)
     (ap (λ (s : List ℕ). s ++ ((48 + n % 10) ∷ [])) (digits_any n (suc (n / 10)) (n / 10) (omega arith) (omega arith)))
 
-pub put_digit : {b c : List ℕ} {at r : ℕ} (n : ℕ) → n < 10 → Put ((48 + n) ∷ []) b at c r → Put (decimal_digits n) b at c r
-put_digit n h p = rw (one_digit n h) p
-
+-- a last digit behind those of the tenth, or alone
 pub put_digits :
     {b c d : List ℕ} {at r t : ℕ} (n : ℕ) → 10 ≤ n → Put (decimal_digits (n / 10)) b at c r → Put ((48 + n % 10) ∷ []) c r d t
     → Put (decimal_digits n) b at d t
 put_digits n h p q = rw (more_digits n h) (put_put p q)
+
+pub put_digit : {b d : List ℕ} {at t : ℕ} (n : ℕ) → n < 10 → Put ((48 + n % 10) ∷ []) b at d t → Put (decimal_digits n) b at d t
+put_digit n h q = rw (one_digit n h) (put_as (ap (λ (k : ℕ). (48 + k) ∷ []) (let z : n ≡ n % 10 = omega arith in z)) q)
 
 -- the digits spell the number
 whole_last : (m d : ℕ) (s : List ℕ) → whole m (s ++ (d ∷ [])) ≡ whole m s * 10 + (d - 48)

@@ -1,9 +1,11 @@
 -- Laws of writing from an offset on.
-use Rattle.std.specs.Prelude.{◌≡◌, refl, Bool, true, false, cond, List, [], ◌∷◌, ◌++◌, ℕ, suc, ◌+◌, ◌≤◌, ◌<◌, leb, length, get_or, set, take, drop}
-use Rattle.std.proofs.Common.{sym, ap, ◌∙◌, arith, length-append, take_at, leb-true, leb-false, le-leb}
+use Rattle.std.specs.Prelude.{◌≡◌, refl, Bool, true, false, cond, List, [], ◌∷◌, ◌++◌, ℕ, suc, ◌+◌, ◌-◌, ◌≤◌, ◌<◌, leb, min, length, set, take, drop}
+use Rattle.std.proofs.Common.{sym, ap, ◌∙◌, arith, length-append, length-take-le, take_all, take_at, leb-true, leb-false, le-leb}
+use Rattle.std.proofs.lemmas.List.{take-append-drop}
 use Rattle.std.proofs.lemmas.List.Edits.{sets, sets-eq}
 use Rattle.std.proofs.Math.Seq.{length-sets, set_out, drop-length}
-use Rattle.spec_rule.proofs.laws.Walk.{list_on, sets_on}
+use Rattle.std.proofs.lemmas.Slice.{put_mid-paste}
+use borrow.Rule.Slice.PartMut.{put_mid}
 use Rattle.prog_text.specs.Put.{reached, Put}
 
 pub reached_fits : (room n : ℕ) → n ≤ room → reached room n ≡ n
@@ -91,26 +93,45 @@ put_whole {ws} {b} {c} {r} p h =
 pub put_as : {ws vs b c : List ℕ} {at r : ℕ} → ws ≡ vs → Put vs b at c r → Put ws b at c r
 put_as e p = rw e p
 
--- ---- byte by byte
+-- ---- what is copied
 
-pub sets_step :
-    (text l : List ℕ) (at i : ℕ) → i < length text
-    → sets l (at + i) (drop i text) ≡ sets (set l (at + i) (get_or text i 0)) (at + (i + 1)) (drop (i + 1) text)
-sets_step text l at i h = sets_on l (at + i) (let z : suc (at + i) ≡ at + (i + 1) = omega arith in z) (list_on text 0 i h)
+-- as many bytes of a text as have room
+module _ (text b ys : List ℕ) (at n k : ℕ) (here : at ≤ length b) (few : n ≡ min (length text) (length b - at)) (whole : k ≡ n) (same : ys ≡ take n text) where
+  rest_out : sets (sets b at ys) (at + n) (drop n text) ≡ sets b at ys
+  rest_out = go (leb (length text) (length b - at)) refl
+    where
+      go : (t : Bool) → leb (length text) (length b - at) ≡ t → sets (sets b at ys) (at + n) (drop n text) ≡ sets b at ys
+      go true e =
+          let l = leb-true (length text) (length b - at) e in
+          let z : n ≡ length text = omega arith in
+          ap (λ (j : ℕ). sets (sets b at ys) (at + n) (drop j text)) z ∙ ap (sets (sets b at ys) (at + n)) (drop-length text)
+      go false e =
+          let l = leb-false (length text) (length b - at) e in
+          sets_out (drop n text) (sets b at ys) (at + n) (let z = length-sets b at ys in omega arith)
 
-module _ (text b c : List ℕ) (at i : ℕ) (n : length c ≡ length b) (e : sets b at text ≡ sets c (at + i) (drop i text)) where
-  pub stops_full : i < length text → at + i ≡ length c → Put text b at c (at + i)
-  stops_full h k =
+  many : length ys ≡ n
+  many = ap length same ∙ length-take-le n text (omega arith)
+
+  pub copied : Put text b at (put_mid at k b ys) (at + n)
+  copied =
       record {
-        bytes = sym (e ∙ sets_out (drop i text) c (at + i) (omega arith));
-        end = k ∙ n ∙ sym (reached_full (length b) (at + length text) (omega arith));
+        bytes =
+            put_mid-paste at k b ys ys (length ys) refl (omega (arith, many)) refl
+            ∙ ap (λ (l : List ℕ). take at b ++ l ++ drop (at + length ys) b) (take_all (length ys) ys (omega arith))
+            ∙ sym (sets-eq ys b at (omega (arith, many)))
+            ∙ sym rest_out
+            ∙ sets_sets ys (drop n text) b at (at + n) (omega (arith, many))
+            ∙ ap (sets b at) (ap (λ (l : List ℕ). l ++ drop n text) same ∙ take-append-drop n text);
+        end = reaches;
       }
+    where
+      reaches : at + n ≡ reached (length b) (at + length text)
+      reaches = go (leb (at + length text) (length b)) refl
+        where
+          go : (t : Bool) → leb (at + length text) (length b) ≡ t → at + n ≡ cond t (at + length text) (length b)
+          go true e = let l = leb-true (at + length text) (length b) e in omega arith
+          go false e = let l = leb-false (at + length text) (length b) e in omega arith
 
-  pub stops_done : i ≡ length text → at + i ≤ length c → Put text b at c (at + i)
-  stops_done h k =
-      record {
-        bytes = sym (e ∙ ap (λ (j : ℕ). sets c (at + i) (drop j text)) h ∙ ap (sets c (at + i)) (drop-length text));
-        end =
-            ap (λ (j : ℕ). at + j) h
-            ∙ sym (reached_fits (length b) (at + length text) (omega arith));
-      }
+-- what a writer that began at the start of some bytes has written in them
+pub from_start : {ws b b' c c' : List ℕ} {at r : ℕ} → Put ws b' at c' r → b' ≡ b → at ≡ 0 → c' ≡ c → Put ws b 0 c r
+from_start p e z f = rw (← e, ← z, ← f) p
