@@ -1,7 +1,8 @@
 // What a register's calls answer, and the rights of its places, as its vectors write them.
 #![tactic(auto)]
 
-use prog_output::{put, put_number};
+use load_number::refusal_number;
+use prog_output::{put, put_number, put_pair};
 use spec_register::{Added, Changed, Refused, Reloaded};
 use spec_rule::Access;
 use std::io::{Eprint, Print};
@@ -16,18 +17,15 @@ fn letter(a: Access) -> u8 {
 
 fn put_right(rt: &(impl Print + Eprint), places: &[u8], p: usize) {
     let right = place::right(places, p);
-    let access = right.access;
     let trap = if right.trap { b't' } else { b'-' };
-    put(rt, &[b' ', letter(access), trap]);
+    put(rt, &[b' ', letter(right.access), trap]);
 }
 
 // The rights of all places.
 pub fn put_rights(rt: &(impl Print + Eprint), places: &[u8]) {
     put(rt, b" |");
-    let mut p = 0;
-    while p < 64 {
+    for p in 0..64 {
         put_right(rt, places, p);
-        p += 1;
     }
     put(rt, b"\n");
 }
@@ -69,13 +67,6 @@ pub fn put_changed(rt: &(impl Print + Eprint), c: Changed) {
     }
 }
 
-fn put_pair(rt: &(impl Print + Eprint), word: &[u8], a: usize, b: usize) {
-    put(rt, word);
-    put_number(rt, a);
-    put(rt, b" ");
-    put_number(rt, b);
-}
-
 pub fn put_reloaded(rt: &(impl Print + Eprint), l: Reloaded) {
     match l {
         Reloaded::Accepted {
@@ -84,7 +75,7 @@ pub fn put_reloaded(rt: &(impl Print + Eprint), l: Reloaded) {
             changed,
         } => put_pair(rt, b"ok ", length, warnings),
         Reloaded::Refused { refusal, place } => {
-            put_pair(rt, b"refused ", prog_report::refusal_number(refusal), place)
+            put_pair(rt, b"refused ", usize::from(refusal_number(refusal)), place)
         }
         Reloaded::NotRegister => put_refused(rt, Refused::NotRegister),
     }

@@ -5,6 +5,7 @@ use prog_output::put;
 use std::fs;
 use std::io::{Eprint, Print};
 use std::rt::Files;
+use vec_words::{for_each_line, path};
 
 // Short and odd, so that lines are cut at many places.
 const PIECE: usize = 61;
@@ -29,30 +30,18 @@ fn answer(rt: &(impl Files + Print + Eprint), rules: &[u8], path: &[u8]) {
 
 // A line of the index: the four bytes of a name. A missing file of rules is an empty one, as it is to the asker.
 fn judge(rt: &(impl Files + Print + Eprint), line: &[u8]) {
-    if line.len() < 4 {
+    let Some(name) = line.first_chunk::<4>() else {
         return;
-    }
-    let name = [line[0], line[1], line[2], line[3]];
-    let rules = [name[0], name[1], name[2], name[3], b'.', b'a', b'c', b'f'];
-    let questions = [name[0], name[1], name[2], name[3], b'.', b'a', b's', b'k'];
-    put(rt, &name);
+    };
+    put(rt, name);
     put(rt, b"\n");
     let mut text = [0u8; 16385];
-    let n = prog_input::read_or_empty(rt, &rules, &mut text);
-    answer(rt, &text[..n], &questions);
-}
-
-fn judge_all(rt: &(impl Files + Print + Eprint), s: &[u8]) {
-    let mut at = 0;
-    while at < s.len() {
-        let end = byte_find::find(s, at, s.len(), b'\n');
-        judge(rt, &s[at..end]);
-        at = end + 1;
-    }
+    let n = prog_input::read_or_empty(rt, &path(*name, *b".acf"), &mut text);
+    answer(rt, &text[..n], &path(*name, *b".ask"));
 }
 
 fn main(rt: HostRuntime) {
     let mut buf = io::buffer();
     let n = prog_input::read(&rt, b"index", &mut buf);
-    judge_all(&rt, &buf[..n]);
+    for_each_line(&buf[..n], |line| judge(&rt, line));
 }

@@ -1,11 +1,10 @@
 // Works out each calculation of the file calc, and says of it what that file should say: allowed or refused, the value, and whether it is true.
 #![tactic(auto)]
 
-use byte_compare::equal;
 use prog_output::put;
 use spec_calc::Worth;
 use std::io::{Eprint, Print};
-use vec_words::part;
+use vec_words::{Text, for_each_line, part};
 
 // Whether x is y, signs of zero told apart.
 fn same(x: f64, y: f64) -> bool {
@@ -14,22 +13,12 @@ fn same(x: f64, y: f64) -> bool {
 
 // Whether a value has the bits that are written.
 fn value_written(x: f64, s: &[u8]) -> bool {
-    same(x, vec_bits::from_bits(vec_bits::bits(s)))
+    same(x, vec_bits::float(s))
 }
 
 // Whether a letter is the one that is written behind `bad `.
 fn letter_written(i: u8, s: &[u8]) -> bool {
-    let letter = part(s, 1, b' ');
-    if letter.len() != 1 {
-        return false;
-    }
-    if 20 < i {
-        return false;
-    }
-    if letter[0] != b'A' + i {
-        return false;
-    }
-    equal(part(s, 0, b' '), b"bad")
+    i <= 20 && part(s, 0, b' ') == b"bad".as_slice() && part(s, 1, b' ') == [b'A' + i].as_slice()
 }
 
 // Whether what a text comes to is as written: a value, or bad with the letter of a reading, or with none where an evaluated part is.
@@ -37,7 +26,7 @@ fn as_written(w: Worth, s: &[u8]) -> bool {
     match w {
         Worth::NoCalculation => false,
         Worth::BadBy(i) => letter_written(i, s),
-        Worth::BadByArithmetic => equal(s, b"bad -"),
+        Worth::BadByArithmetic => s == b"bad -".as_slice(),
         Worth::Is(x) => s.len() == 16 && value_written(x, s),
     }
 }
@@ -61,21 +50,11 @@ fn put_allowed(rt: &(impl Print + Eprint), text: &[u8], line: &[u8]) {
 
 // A line: the text in hexadecimal, allowed or refused, value, truth, readings.
 fn judge(rt: &(impl Print + Eprint), line: &[u8]) {
-    let mut text = [0u8; 128];
-    let n = vec_words::text(part(line, 0, b'\t'), &mut text);
-    if calc::allowed(&text[..n]) {
-        put_allowed(rt, &text[..n], line);
+    let text = Text::<128>::read(part(line, 0, b'\t'));
+    if calc::allowed(text.as_slice()) {
+        put_allowed(rt, text.as_slice(), line);
     } else {
         put(rt, b"refused\n");
-    }
-}
-
-fn judge_all(rt: &(impl Print + Eprint), s: &[u8]) {
-    let mut at = 0;
-    while at < s.len() {
-        let end = byte_find::find(s, at, s.len(), b'\n');
-        judge(rt, &s[at..end]);
-        at = end + 1;
     }
 }
 
@@ -87,5 +66,5 @@ fn zeros<const N: usize>() -> [u8; N] {
 fn main(rt: HostRuntime) {
     let mut buf = zeros::<614400>();
     let n = prog_input::read(&rt, b"calc", &mut buf);
-    judge_all(&rt, &buf[..n]);
+    for_each_line(&buf[..n], |line| judge(&rt, line));
 }

@@ -14,96 +14,77 @@ pub enum Call {
     Change,
     Remove,
     Set,
-    Nothing,
 }
 
 // ---- forms
 
-fn is_figure(b: u8, hexadecimal: bool) -> bool {
-    match b {
-        b'0'..=b'9' => true,
-        _ => hexadecimal && vec_bits::is_hex(b),
-    }
+// What a word is.
+#[derive(Clone, Copy)]
+enum Kind {
+    Text,
+    Number,
+    Reading,
 }
 
-fn all_figures(s: &[u8], hexadecimal: bool) -> bool {
-    let mut i = 0;
-    while i < s.len() {
-        if !is_figure(s[i], hexadecimal) {
-            return false;
-        }
-        i += 1;
-    }
-    true
+fn all_hex(s: &[u8]) -> bool {
+    s.iter().all(|b| vec_bits::is_hex(*b))
 }
 
 // Pairs of hexadecimal digits, for as many bytes as there is room for; or `-`.
 fn is_text(s: &[u8]) -> bool {
-    if byte_compare::equal(s, b"-") {
-        return true;
-    }
-    0 < s.len() && s.len() % 2 == 0 && s.len() / 2 <= MOST_TEXT && all_figures(s, true)
+    s == b"-".as_slice()
+        || !s.is_empty() && s.len() % 2 == 0 && s.len() / 2 <= MOST_TEXT && all_hex(s)
 }
 
 // At most nine decimal digits.
 fn is_number(s: &[u8]) -> bool {
-    0 < s.len() && s.len() < 10 && all_figures(s, false)
+    !s.is_empty() && s.len() < 10 && s.iter().all(|b| b.is_ascii_digit())
 }
 
 fn is_reading(s: &[u8]) -> bool {
-    if byte_compare::equal(s, b"-")
-        || byte_compare::equal(s, b"inv")
-        || byte_compare::equal(s, b"nan")
-    {
-        return true;
+    match s {
+        b"-" | b"inv" | b"nan" => true,
+        _ => s.len() == 16 && all_hex(s),
     }
-    s.len() == 16 && all_figures(s, true)
 }
 
-// A word's kind: t a text, n a number, r a reading.
-fn is_kind(s: &[u8], kind: u8) -> bool {
+fn is_kind(s: &[u8], kind: Kind) -> bool {
     match kind {
-        b't' => is_text(s),
-        b'n' => is_number(s),
-        b'r' => is_reading(s),
-        _ => false,
+        Kind::Text => is_text(s),
+        Kind::Number => is_number(s),
+        Kind::Reading => is_reading(s),
     }
 }
 
 // Whether the words behind the first have some kinds.
-fn have_kinds(line: &[u8], kinds: &[u8]) -> bool {
-    let mut i = 0;
-    while i < kinds.len() {
-        if !is_kind(word(line, i + 1), kinds[i]) {
-            return false;
-        }
-        i += 1;
-    }
-    true
+fn have_kinds(line: &[u8], kinds: &[Kind]) -> bool {
+    kinds
+        .iter()
+        .enumerate()
+        .all(|(i, kind)| is_kind(word(line, i + 1), *kind))
 }
 
-fn has_form(line: &[u8], name: &[u8], kinds: &[u8]) -> bool {
-    byte_compare::equal(word(line, 0), name)
-        && vec_words::is_last(line, kinds.len())
-        && have_kinds(line, kinds)
+fn has_form(line: &[u8], name: &[u8], kinds: &[Kind]) -> bool {
+    word(line, 0) == name && vec_words::is_last(line, kinds.len()) && have_kinds(line, kinds)
 }
 
-// Nothing where a line has no call's form.
-pub fn call_of(line: &[u8]) -> Call {
-    if has_form(line, b"load", b"t") {
-        return Call::Load;
+// None where a line has no call's form.
+pub fn call_of(line: &[u8]) -> Option<Call> {
+    use Kind::{Number, Reading, Text};
+    if has_form(line, b"load", &[Text]) {
+        return Some(Call::Load);
     }
-    if has_form(line, b"add", b"tntt") {
-        return Call::Add;
+    if has_form(line, b"add", &[Text, Number, Text, Text]) {
+        return Some(Call::Add);
     }
-    if has_form(line, b"change", b"ntntt") {
-        return Call::Change;
+    if has_form(line, b"change", &[Number, Text, Number, Text, Text]) {
+        return Some(Call::Change);
     }
-    if has_form(line, b"remove", b"n") {
-        return Call::Remove;
+    if has_form(line, b"remove", &[Number]) {
+        return Some(Call::Remove);
     }
-    if has_form(line, b"set", b"tnr") {
-        return Call::Set;
+    if has_form(line, b"set", &[Text, Number, Reading]) {
+        return Some(Call::Set);
     }
-    Call::Nothing
+    None
 }

@@ -4,7 +4,7 @@
 use prog_output::put;
 use std::io::{Eprint, Print};
 use std::rt::Files;
-use vec_words::word;
+use vec_words::{for_each_line, word};
 
 // A line of the index: a file, how many bytes are lent, and the file of its table where there is one.
 fn judge(rt: &(impl Files + Print + Eprint), line: &[u8]) {
@@ -14,17 +14,8 @@ fn judge(rt: &(impl Files + Print + Eprint), line: &[u8]) {
     vec_load::check_and_load(rt, word(line, 0), room, word(line, 2));
 }
 
-fn judge_all(rt: &(impl Files + Print + Eprint), s: &[u8]) {
-    let mut at = 0;
-    while at < s.len() {
-        let end = byte_find::find(s, at, s.len(), b'\n');
-        judge(rt, &s[at..end]);
-        at = end + 1;
-    }
-}
-
 fn main(rt: HostRuntime) {
     let mut buf = io::large_buffer();
     let n = prog_input::read(&rt, b"index", &mut buf);
-    judge_all(&rt, &buf[..n]);
+    for_each_line(&buf[..n], |line| judge(&rt, line));
 }

@@ -4,55 +4,34 @@
 use prog_output::put;
 use std::io::{Eprint, Print};
 use std::rt::Files;
-use vec_calls::Call;
+use vec_calls::{Call, MOST_TEXT};
+use vec_clients::Register;
+use vec_words::{Text, for_each_line, word};
 
-fn load(
-    rt: &(impl Print + Eprint),
-    places: &mut [u8],
-    states: &mut [u8],
-    table: &mut [u8],
-    line: &[u8],
-) {
-    let mut rules = [0u8; vec_calls::MOST_TEXT];
-    let n = vec_words::text(vec_words::word(line, 1), &mut rules);
-    vec_answers::put_reloaded(rt, reload::reload(places, states, &rules[..n], table));
+fn load(rt: &(impl Print + Eprint), r: &mut Register, line: &[u8]) {
+    let rules = Text::<MOST_TEXT>::read(word(line, 1));
+    let answer = reload::reload(&mut r.places, &mut r.states, rules.as_slice(), &mut r.table);
+    vec_answers::put_reloaded(rt, answer);
 }
 
-// Makes the call of a line and prints its answer.
-fn make(
-    rt: &(impl Print + Eprint),
-    places: &mut [u8],
-    states: &mut [u8],
-    values: &mut [f64],
-    table: &mut [u8],
-    line: &[u8],
-) {
+// Makes the call of a line and prints its answer, and behind it the rights then.
+fn make(rt: &(impl Print + Eprint), r: &mut Register, line: &[u8]) {
     match vec_calls::call_of(line) {
-        Call::Load => load(rt, places, states, table, line),
-        _ => vec_clients::make(rt, places, states, values, table, line),
+        Some(Call::Load) => load(rt, r, line),
+        _ => vec_clients::make(rt, r, line),
     }
+    vec_answers::put_rights(rt, &r.places);
 }
 
-// Makes the calls of a script on an empty register over a zeroed buffer, and prints behind each answer the rights then.
+// Makes the calls of a script on an empty register over a zeroed buffer.
 fn run(rt: &(impl Print + Eprint), script: &[u8]) {
-    let mut places = [0u8; 28672];
-    let mut states = [0u8; 1344];
-    let mut values = [0.0; 1344];
-    let mut table = [0u8; 35108];
-    let mut at = 0;
-    while at < script.len() {
-        let end = byte_find::find(script, at, script.len(), b'\n');
-        make(
-            rt,
-            &mut places,
-            &mut states,
-            &mut values,
-            &mut table,
-            &script[at..end],
-        );
-        vec_answers::put_rights(rt, &places);
-        at = end + 1;
-    }
+    let mut r = Register {
+        places: [0; 28672],
+        states: [0; 1344],
+        values: [0.0; 1344],
+        table: [0; 35108],
+    };
+    for_each_line(script, |line| make(rt, &mut r, line));
 }
 
 // A line of the index: a script's file.
@@ -64,17 +43,8 @@ fn judge(rt: &(impl Files + Print + Eprint), path: &[u8]) {
     run(rt, &buf[..n]);
 }
 
-fn judge_all(rt: &(impl Files + Print + Eprint), s: &[u8]) {
-    let mut at = 0;
-    while at < s.len() {
-        let end = byte_find::find(s, at, s.len(), b'\n');
-        judge(rt, &s[at..end]);
-        at = end + 1;
-    }
-}
-
 fn main(rt: HostRuntime) {
     let mut buf = io::buffer();
     let n = prog_input::read(&rt, b"index", &mut buf);
-    judge_all(&rt, &buf[..n]);
+    for_each_line(&buf[..n], |line| judge(&rt, line));
 }

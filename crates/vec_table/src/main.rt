@@ -4,17 +4,17 @@
 use prog_output::put;
 use std::io::{Eprint, Print};
 use std::rt::Files;
+use vec_words::{for_each_line, path};
 
 // A line of the index: the four digits of a file.
 fn judge(rt: &(impl Files + Print + Eprint), line: &[u8]) {
-    if line.len() < 4 {
+    let Some(name) = line.first_chunk::<4>() else {
         return;
-    }
-    let name = [line[0], line[1], line[2], line[3]];
-    let path = [name[0], name[1], name[2], name[3], b'.', b'b', b'i', b'n'];
+    };
+    let path = path(*name, *b".bin");
     let mut buf = io::large_buffer();
     let n = prog_input::read(rt, &path, &mut buf);
-    put(rt, &name);
+    put(rt, name);
     if table::is_table(&buf[..n]) {
         put(rt, b" table\n");
     } else {
@@ -22,17 +22,8 @@ fn judge(rt: &(impl Files + Print + Eprint), line: &[u8]) {
     }
 }
 
-fn judge_all(rt: &(impl Files + Print + Eprint), s: &[u8]) {
-    let mut at = 0;
-    while at < s.len() {
-        let end = byte_find::find(s, at, s.len(), b'\n');
-        judge(rt, &s[at..end]);
-        at = end + 1;
-    }
-}
-
 fn main(rt: HostRuntime) {
     let mut buf = io::large_buffer();
     let n = prog_input::read(&rt, b"index", &mut buf);
-    judge_all(&rt, &buf[..n]);
+    for_each_line(&buf[..n], |line| judge(&rt, line));
 }
