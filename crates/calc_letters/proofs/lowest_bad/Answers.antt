@@ -1,11 +1,18 @@
 use Rattle.std.proofs.Common.{rules, ap, sym, ◌∙◌}
 use borrow.Author.Tests.{tests}
 use Rattle.std.proofs.lemmas.Iterator.{YieldsList-from_slice}
+use Rattle.std.proofs.lemmas.Iterator.Search.{any_from_yields_List}
 use Rattle.std.proofs.lemmas.Iterator.Consumers.{YieldsList-from_filter_map, min_from_yields_List}
 use Rattle.std.proofs.lemmas.Iterator.Adapters.{option_map_id}
 use Rattle.calc_letters.specs.Letters.{as_found}
-use Rattle.calc_letters.specs.laws.Lowest.{bad_of, lowest_found}
+use Rattle.calc_letters.specs.laws.Lowest.{bad_of, is_a, a_found, lowest_found}
 use Rattle.calc_letters.proofs.lowest_bad.Goals as goal
+
+pub returns-then-any : goal.returns-then-any
+returns-then-any c = let goods = c.args.goods.now in
+    let s = c.args.s.now in
+    let e = any_from_yields_List (λ b. is_a (bad_of goods b)) _ _ _ c.any.ensures.ran (YieldsList-from_slice s cc) (λ x r q k. search (rules, tests)) in
+    sym (a_found goods s (sym e ∙ c.if-any.true))
 
 pub returns : goal.returns
 returns c = let goods = c.args.goods.now in

@@ -1,7 +1,8 @@
 -- The lowest letter that is not good, by the bad letters of the bytes.
-use Rattle.std.specs.Prelude.{◌≡◌, refl, Bool, true, false, cond, List, [], ◌∷◌, ℕ, min, get_or, Option as Maybe, Some, None, ◌⊎◌}
-use Rattle.std.specs.List.{fold, reduce, filter_map, cons_option}
-use Rattle.std.proofs.Common.{ap, ◌∙◌, inl, inr, ⊎_elim, arith}
+use Rattle.std.specs.Prelude.{◌≡◌, refl, Bool, true, false, cond, List, [], ◌∷◌, ℕ, min, eqb, ◌||◌, get_or, Option as Maybe, Some, None, ◌⊎◌}
+use Rattle.std.specs.List.{fold, reduce, filter_map, cons_option, list_any}
+use Rattle.std.proofs.Common.{ap, ◌∙◌, inl, inr, ⊎_elim, arith, eqb-true}
+use Rattle.std.proofs.lemmas.Bool.{false≢true}
 use Rattle.std.proofs.Math.Option.{Option, none, some}
 use types.Run.{OneOf}
 use denote.Enum.Declared.{tag_of}
@@ -35,6 +36,11 @@ begun_one (sign question m) = inl refl
 begun_one (sign colon m) = inl refl
 begun_one (sign open_paren m) = inl refl
 begun_one (sign close_paren m) = inl refl
+
+-- the lowest letter
+abbrev pub is_a : Maybe ℕ → Bool
+is_a None = false
+is_a (Some i) = eqb i 0
 
 module _ (given : List Bool) where
   -- the letter of a byte that is not given
@@ -71,6 +77,31 @@ module _ (given : List Bool) where
       go true i ys o h k = h
       go false i ys none h k = ap some k
       go false i ys (some j) h k = ap some (k ∙ omega arith)
+
+  -- ---- a bad A: none is lower
+
+  pub a_found : (s : List ℕ) → list_any (λ b. is_a (bad_of b)) s ≡ true → lowest (given_letter given) (byte_letters s) ≡ some 0
+  unfolding byte_letters
+  a_found [] h = absurd (false≢true h)
+  a_found (b ∷ s) h =
+      let k = a_found s in
+      ⊎_elim (λ e. let h' : list_any (λ b. is_a (bad_of b)) s ≡ true = rw e at h in rw e (k h'))
+      (λ e. rw e.1 (go (given_letter given e.0) e.0 (list_any (λ b. is_a (bad_of b)) s) (lowest (given_letter given) (byte_letters s)) k (rw e.1 at h)))
+      (begun_one (start b []))
+    where
+      go :
+          (t : Bool) (i : ℕ) (later : Bool) (o : Option ℕ) → (later ≡ true → o ≡ some 0) → (is_a (cond t None (Some i)) || later) ≡ true
+          → cond t o (some (lower i o)) ≡ some 0
+      go true i later o k h = k h
+      go false i later o k h = at (eqb i 0) refl later o k h
+        where
+          at :
+              (u : Bool) → eqb i 0 ≡ u → (later : Bool) (o : Option ℕ) → (later ≡ true → o ≡ some 0) → (u || later) ≡ true
+              → some (lower i o) ≡ some 0
+          at true e later none k h = ap some (eqb-true i 0 e)
+          at true e later (some j) k h = ap some (omega (arith, eqb-true i 0 e))
+          at false e true o k h = rw (k refl) (ap some (omega arith))
+          at false e false o k h = absurd (false≢true h)
 
   -- of a calculation
   pub lowest_same : (s : List ℕ) (t : Tree) → tree_of s ≡ some t → lowest (given_letter given) (byte_letters s) ≡ lowest (given_letter given) (letters t)
