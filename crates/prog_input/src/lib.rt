@@ -9,6 +9,9 @@ use std::fs;
 use std::io::{self, Eprint, ErrorKind, Read};
 use std::rt::Files;
 
+// More rounds than any input has bytes.
+const MOST: u64 = 4611686018427387904;
+
 // As much as is read at once: n bytes, at most 4,096.
 pub fn at_most(n: usize) -> usize
     ensures { result ≤ 4096 }
@@ -21,7 +24,8 @@ pub fn at_most(n: usize) -> usize
 pub fn read_piece(from: &mut impl Read, buf: &mut [u8]) -> io::Result<usize>
     ensures { IfOk result (λ n. IsPrefixLen n buf.new) }
 {
-    for _ in 0..u64::MAX {
+    for tried in 0..MOST {
+        prove!(tried < 1 << 62);
         match from.read(buf) {
             Ok(n) => return Ok(n),
             Err(e) => {
@@ -41,7 +45,8 @@ pub fn read_whole(from: &mut impl Read, buf: &mut [u8]) -> usize
 {
     let mut piece = [0u8; 4096];
     let mut kept = Writer::new(buf);
-    for _ in 0..u64::MAX {
+    for round in 0..MOST {
+        prove!(round < 1 << 62);
         match read_piece(from, &mut piece) {
             Ok(0) => return kept.at,
             Ok(n) => kept.put(&piece[..n]),

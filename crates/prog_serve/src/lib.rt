@@ -8,6 +8,9 @@ ghost use Rattle.spec_table.specs.Check.{is_table};
 use prog_text::Writer;
 use std::io::{Eprint, Print, Read};
 
+// More rounds than any input has bytes.
+const MOST: u64 = 4611686018427387904;
+
 // Answers the questions of an open file piece by piece: a piece is as much as is read at once, size bytes, at most 4,096.
 // The caller has loaded the table.
 pub fn serve(rt: &(impl Print + Eprint), table: &[u8], from: &mut impl Read, size: usize)
@@ -18,7 +21,8 @@ pub fn serve(rt: &(impl Print + Eprint), table: &[u8], from: &mut impl Read, siz
     let mut held = Writer::new(&mut buffer);
     let mut out = [0u8; 81920];
     let most = prog_input::at_most(size);
-    for _ in 0..u64::MAX {
+    for round in 0..MOST {
+        prove!(round < 1 << 62);
         match prog_input::read_piece(from, &mut piece[..most]) {
             Ok(0) => {
                 let n = prog_end::finish(table, &held, &mut out);
