@@ -1,5 +1,5 @@
 -- The refusals 5 to 7, 12, 8 to 10, each from the first token to which its cause applies.
-use Rattle.std.specs.Prelude.{◌≡◌, refl, Bool, true, false, cond, List, [], ◌∷◌, ℕ, ◌+◌, ◌-◌, ltb, length, get_or, Option, Some, None, Result, Ok, Err}
+use Rattle.std.specs.Prelude.{◌≡◌, refl, Bool, true, false, cond, List, [], ◌∷◌, ℕ, zero, suc, ◌+◌, ◌-◌, ltb, length, get_or, Option, Some, None, Result, Ok, Err}
 use Rattle.std.proofs.Common.{sym, ap, ◌∙◌, arith}
 use Rattle.std.proofs.Math.Option as math
 use Rattle.spec_lists.specs.Select as lists
@@ -9,16 +9,38 @@ use Rattle.spec_file.specs.declared.Refusal.TheVariants.{StringTooLong, TooMany,
 use Rattle.spec_file.specs.Refusal.{Context, contexts, too_long, too_many, given_again, undefined_group, bad_level, unknown_word}
 use Rattle.spec_file.specs.Load.{RefusalAt, or_else, causes, refused_by, by_causes, bad_calculation}
 use Rattle.load_tokens.specs.declared.Token.{Token}
-use Rattle.load_tokens.specs.Arrays.{tagged_from}
+use Rattle.load_tokens.specs.Arrays.{Arrays, tagged_from}
 use Rattle.load_tokens.specs.Views.{starts, ends, roles, kept, blank}
 use Rattle.load_tokens.specs.laws.Views.{place_at}
-use Rattle.load_spans.specs.Roles.{arrays}
+use Rattle.load_spans.specs.Roles.{arrays, tokens}
 use Rattle.load_spans.specs.Seek.{seek}
 use Rattle.load_spans.specs.laws.Seek.{refused_at}
 use Rattle.load_spans.specs.laws.Bare.{bare_from, bare_context, seek_bare, too_long_bare, too_many_bare, given_again_bare, bad_level_bare, unknown_word_bare}
 use Rattle.load_spans.specs.laws.Bare.{undefined_group_bare, bad_calculation_bare}
 use Rattle.load_spans.specs.Search.{first_of, first_in}
 use Rattle.load_causes.specs.Cause.{refusal_at, verdict_of, said, JudgedTokens}
+
+-- ---- a cause that never applies
+
+module _ (p : Context → Bool) (e : (c : Context) → p c ≡ false) where
+  seek_never : (b xs : List Tagged) → seek p b xs ≡ length xs
+  unfolding seek
+  seek_never b [] = refl
+  seek_never b (x ∷ xs) = rw (e (record { backwards = b; here = x; onwards = xs }), seek_never (x ∷ b) xs)
+
+tagged_length : (s : List ℕ) (a : Arrays) (roles : List ℕ) (i k : ℕ) → length (tagged_from s a roles i k) ≡ k
+unfolding tagged_from
+tagged_length s a roles i zero = refl
+tagged_length s a roles i (suc k) = ap suc (tagged_length s a roles (suc i) k)
+
+pub first_never :
+    (p : Context → Bool) → ((c : Context) → p c ≡ false) → (s starts ends roles : List ℕ) (n : ℕ)
+    → n ≡ first_of p s starts ends roles n
+first_never p e s starts ends roles n =
+    let z : n - 0 ≡ n = omega arith in
+    sym (seek_never p e [] (tokens s (arrays starts ends) roles 0 n) ∙ tagged_length s (arrays starts ends) roles 0 (n - 0) ∙ z)
+
+-- ---- the answers
 
 -- an answer of a cause
 abbrev pub Answer : Type 0

@@ -8,6 +8,7 @@ use Rattle.spec_grammar.specs.declared.Role.{Role}
 use Rattle.spec_grammar.specs.Codes.{kind_number}
 use Rattle.spec_grammar.specs.Reader.{Stack}
 use Rattle.load_tokens.specs.declared.Token.{Token}
+use Rattle.load_tokens.specs.Arrays.{kind_of_number}
 use Rattle.load_tokens.specs.Views.{kept, blank}
 use Rattle.load_tokens.specs.laws.Views.{said, kept_said}
 use Rattle.load_elements.specs.declared.Parser.{Parser}
@@ -15,6 +16,24 @@ use Rattle.load_elements.specs.Parse.{parse_from}
 use Rattle.load_elements.specs.Reads.{roles_of, kind_of, kind_at, is_next, expected, parse_on, parse_at, Leads, left, Reads, Begun}
 use Rattle.load_elements.specs.laws.Cases.{Each, chosen}
 use Rattle.load_elements.specs.laws.Stacks.{SameStep, here, next_is, leads_on, leads_next}
+
+-- a number below 14, as a kind and back
+number_kind : (x : ℕ) → x < 14 → kind_number (kind_of_number x) ≡ x
+number_kind zero h = refl
+number_kind (suc zero) h = refl
+number_kind (suc (suc zero)) h = refl
+number_kind (suc (suc (suc zero))) h = refl
+number_kind (suc (suc (suc (suc zero)))) h = refl
+number_kind (suc (suc (suc (suc (suc zero))))) h = refl
+number_kind (suc (suc (suc (suc (suc (suc zero)))))) h = refl
+number_kind (suc (suc (suc (suc (suc (suc (suc zero))))))) h = refl
+number_kind (suc (suc (suc (suc (suc (suc (suc (suc zero)))))))) h = refl
+number_kind (suc (suc (suc (suc (suc (suc (suc (suc (suc zero))))))))) h = refl
+number_kind (suc (suc (suc (suc (suc (suc (suc (suc (suc (suc zero)))))))))) h = refl
+number_kind (suc (suc (suc (suc (suc (suc (suc (suc (suc (suc (suc zero))))))))))) h = refl
+number_kind (suc (suc (suc (suc (suc (suc (suc (suc (suc (suc (suc (suc zero)))))))))))) h = refl
+number_kind (suc (suc (suc (suc (suc (suc (suc (suc (suc (suc (suc (suc (suc zero))))))))))))) h = refl
+number_kind (suc (suc (suc (suc (suc (suc (suc (suc (suc (suc (suc (suc (suc (suc x)))))))))))))) h = absurd (omega arith)
 
 -- a token stands there
 pub there : (ts : List Token) (i : ℕ) {x : Kind} → Some x ≡ kind_of ts i → i < length ts

@@ -1,5 +1,5 @@
 -- Cause 6: an item too many of a section.
-use Rattle.std.specs.Prelude.{◌≡◌, refl, Bool, true, false, List, ℕ, ◌+◌, ◌≤◌, ◌<◌, eqb, leb, length, get_or, set, replicate, Some, None}
+use Rattle.std.specs.Prelude.{◌≡◌, refl, Bool, true, false, List, ℕ, zero, suc, ◌+◌, ◌≤◌, ◌<◌, eqb, leb, length, get_or, set, replicate, Some, None}
 use Rattle.std.proofs.Common.{sym, ap, ◌∙◌, arith, length-set, get_or-set_same, get_or-set_other}
 use Rattle.std.proofs.lemmas.Bool.{eqb-true, eqb-false, le-leb, lt-leb}
 use Rattle.std.proofs.Math.Option as math
@@ -54,6 +54,13 @@ order_small file.access_groups = omega arith
 order_small file.inputs = omega arith
 order_small file.rules = omega arith
 order_small file.references = omega arith
+
+-- as many tokens stand before the i-th as i
+module _ (s starts ends roles : List ℕ) where
+  earlier_length : (i : ℕ) → length (earlier s (arrays starts ends) roles i) ≡ i
+  unfolding earlier
+  earlier_length zero = refl
+  earlier_length (suc i) = ap suc (earlier_length i)
 
 module _ (s : List ℕ) (ts : List Token) where
   -- the tokens before the i-th

@@ -2,7 +2,7 @@
 use Rattle.std.specs.Prelude.{◌≡◌, Bool, ltb, take, drop}
 use Rattle.std.proofs.Math.Path.{refl, sym, ap}
 use Rattle.std.specs.Prelude.{Result, Ok, Err}
-use Rattle.std.proofs.Common.{◌∙◌, drop-cons, take_all, lt-ltb, le-ltb}
+use Rattle.std.proofs.Common.{◌∙◌, drop-cons, get_or-take, take_all, lt-ltb, le-ltb}
 use Rattle.std.proofs.Math.Bool.{true, false, cond}
 use mathlib.Core.List.{List, [], ◌∷◌, ◌++◌, append_assoc, append-nil}
 use Prim.Native.Nat.{ℕ, zero, suc, ◌+◌, ◌≤◌}
@@ -11,8 +11,9 @@ use Rattle.std.proofs.Math.ListN.{length, get_or, length-append, get_or-map}
 use Rattle.std.proofs.lemmas.List.{get_or_at}
 use Rattle.spec_grammar.specs.declared.Role.{Role}
 use Rattle.spec_grammar.specs.declared.Role.TheVariants as role
+use Rattle.spec_grammar.specs.Sentence.{Tagged}
 use Rattle.spec_grammar.specs.Reader.{Stack, Step, halt, go, step, may_end, Parse, parsed, stopped, joined_to, onward, read_from, read, start}
-use Rattle.load_tokens.specs.Arrays.{kind_of_number, role_of_number, token_at, tokens_from, tagged_at, tagged_from}
+use Rattle.load_tokens.specs.Arrays.{kind_of_number, role_of_number, Arrays, token_at, tokens_from, tagged_at, tagged_from}
 use Rattle.load_elements.specs.Parse.{Parsed, parsed, stopped_at, parse_step, parse_from, parse}
 use Rattle.spec_token.specs.declared.Kind.{Kind}
 use Rattle.load_tokens.specs.declared.Token.{Token}
@@ -56,6 +57,16 @@ first_of ts i n h =
 role_there : (us : List Token) (i : ℕ) → get_or (roles_of us) i role.NoRole ≡ role_of_number (get_or (roles us) i 0)
 role_there us i =
     get_or-map (λ (t : Token). t.role) us i blank ∙ sym (ap role_of_number (role_at us i) ∙ role_back (get_or us i blank).role)
+
+-- only the first n roles are looked at
+module _ (s : List ℕ) (a : Arrays) where
+  tagged_take : (roles : List ℕ) (n k i : ℕ) → i + k ≤ n → tagged_from s a (take n roles) i k ≡ tagged_from s a roles i k
+  unfolding tagged_from
+  tagged_take roles n zero i h = refl
+  tagged_take roles n (suc k) i h =
+      ap (λ (x : ℕ). record { token = token_at s a i; role = role_of_number x } ∷ tagged_from s a (take n roles) (suc i) k)
+      (get_or-take n roles i 0 (omega arith))
+      ∙ ap (λ (l : List Tagged). tagged_at s a roles i ∷ l) (tagged_take roles n k (suc i) (omega arith))
 
 -- tokens ts of a text s of length m
 module _ (s : List ℕ) (ts : List Token) (m : ℕ) where

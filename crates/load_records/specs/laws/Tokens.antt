@@ -1,8 +1,8 @@
 -- The tokens that belong to one, how many they are, and how long their texts.
-use Rattle.std.specs.Prelude.{Bool, true, false, not, List, [], ◌∷◌, map, ◌≡◌, refl, ◌≤◌, ℕ, ◌-◌, zero, suc, ◌+◌, ◌<◌, length, drop, get_or}
+use Rattle.std.specs.Prelude.{Bool, true, false, not, List, [], ◌∷◌, map, ◌≡◌, refl, ◌≤◌, ℕ, ◌-◌, zero, suc, ◌+◌, ◌<◌, length, get_or}
 use Rattle.std.proofs.Math.Option
 use Rattle.std.proofs.Math.Option.{some, none}
-use Rattle.std.proofs.Common.{ap, ◌∙◌, sym, arith, length-take, length-drop}
+use Rattle.std.proofs.Common.{ap, ◌∙◌, sym, arith}
 use Rattle.std.proofs.lemmas.List.{length-map}
 use Rattle.spec_lists.specs.Every.{Every, nil, cons}
 use Rattle.spec_lists.proofs.laws.Every.{every_select, every_run}
@@ -12,6 +12,7 @@ use Rattle.spec_grammar.specs.declared.Role.TheVariants.{AsgName}
 use Rattle.spec_grammar.specs.Sentence.{Tagged}
 use Rattle.spec_file.specs.Contents.{text, has_role, until, head_of, texts}
 use Rattle.load_tokens.specs.Arrays.{between, Arrays, tagged_at, tagged_from, role_of_number}
+use Rattle.load_tokens.specs.laws.Arrays.{between_within}
 use Rattle.load_spans.specs.Roles.{RoleCode, tokens, gap, tally}
 use Rattle.load_spans.specs.laws.Roles.{until_one, tally_is, until_two, first_some, first_none, gap_bound}
 use Rattle.load_flags.specs.Tokens.{cut, first_text, size}
@@ -20,8 +21,12 @@ use Rattle.load_flags.specs.Tokens.{cut, first_text, size}
 abbrev pub Short : Tagged → Type 0
 Short x = length (text x) ≤ 16384
 
+-- a part of a text is no longer than it
+pub between_short : (s : List ℕ) (a e : ℕ) → length (between s a e) ≤ length s
+between_short = between_within
+
 pub between_limit : (s : List ℕ) (a e : ℕ) → length s ≤ 16384 → length (between s a e) ≤ 16384
-between_limit s a e h = omega (arith, length-take (e - a) (drop a s), length-drop a s)
+between_limit s a e h = omega (arith, between_short s a e)
 
 pub tokens_short : (s : List ℕ) (ar : Arrays) (roles : List ℕ) (i k : ℕ) → length s ≤ 16384 → Every Short (tagged_from s ar roles i k)
 unfolding tagged_from

@@ -1,5 +1,5 @@
 -- Laws of the search for the first token to which a cause applies.
-use Rattle.std.specs.Prelude.{◌≡◌, Bool, true, false, cond, ◌||◌, List, [], ◌∷◌, ℕ, zero, suc, ◌+◌, ◌≤◌, ◌<◌, min, ltb, get_or}
+use Rattle.std.specs.Prelude.{◌≡◌, Bool, true, false, cond, ◌||◌, List, [], ◌∷◌, ℕ, zero, suc, ◌+◌, ◌≤◌, ◌<◌, min, ltb, length, get_or}
 use Rattle.std.proofs.Math.Path.{refl, ap}
 use Rattle.std.proofs.Common.{sym, ◌∙◌, add-one, arith, lt-ltb, le-ltb}
 use Rattle.std.proofs.Math.Option.{Option, some}
@@ -37,6 +37,16 @@ module _ (s : List ℕ) (a : Arrays) (roles : List ℕ) where
     pub left_none : n ≤ i → (left s a roles) p n i ≡ 0
     unfolding seek
     left_none h = ap (seek p ((earlier s a roles) i)) (tokens_none s a roles i n h)
+
+-- what is sought is found at no more than the length
+pub seek_bound : (p : Context → Bool) (b xs : List Tagged) → seek p b xs ≤ length xs
+unfolding seek
+seek_bound p b [] = omega arith
+seek_bound p b (x ∷ xs) = go (p (record { backwards = b; here = x; onwards = xs })) (seek_bound p (x ∷ b) xs)
+  where
+    go : (t : Bool) → seek p (x ∷ b) xs ≤ length xs → cond t 0 (suc (seek p (x ∷ b) xs)) ≤ suc (length xs)
+    go true h = omega arith
+    go false h = omega arith
 
 pub seek_same : (p q : Context → Bool) → ((c : Context) → p c ≡ q c) → (b xs : List Tagged) → seek p b xs ≡ seek q b xs
 unfolding seek

@@ -1,13 +1,13 @@
 -- Laws of kept tokens.
-use Rattle.std.specs.Prelude.{◌≡◌, refl, List, [], ◌∷◌, ◌++◌, ℕ, zero, suc, ◌+◌, ◌-◌, ◌<◌}
-use Rattle.std.proofs.Common.{ap, ◌∙◌, arith}
+use Rattle.std.specs.Prelude.{◌≡◌, refl, List, [], ◌∷◌, ◌++◌, map, ℕ, zero, suc, ◌+◌, ◌-◌, ◌≤◌, ◌<◌, length, drop}
+use Rattle.std.proofs.Common.{ap, ◌∙◌, arith, length-take, length-drop}
 use Rattle.spec_token.specs.declared.Kind.{Kind}
 use Rattle.spec_token.specs.declared.Kind.TheVariants as kind
 use Rattle.spec_token.specs.Token.{Token}
 use Rattle.spec_grammar.specs.declared.Role.{Role}
 use Rattle.spec_grammar.specs.declared.Role.TheVariants as role
 use Rattle.spec_grammar.specs.Codes.{role_number, kind_number}
-use Rattle.load_tokens.specs.Arrays.{kind_of_number, role_of_number, Arrays, token_at, tokens_from}
+use Rattle.load_tokens.specs.Arrays.{kind_of_number, role_of_number, Arrays, between, token_at, tokens_from, tagged_from}
 
 pub kind_back : (k : Kind) → kind_of_number (kind_number k) ≡ k
 kind_back kind.Uag = refl
@@ -45,6 +45,10 @@ role_back role.Calculation = refl
 role_back role.UnknownItem = refl
 role_back role.UnknownPredicate = refl
 
+-- a part of a text is no longer than it
+pub between_within : (s : List ℕ) (a e : ℕ) → length (between s a e) ≤ length s
+between_within s a e = omega (arith, length-take (e - a) (drop a s), length-drop a s)
+
 -- one token more behind
 pub tokens_more : (s : List ℕ) (a : Arrays) (i n : ℕ) → tokens_from s a i (n + 1) ≡ tokens_from s a i n ++ (token_at s a (i + n) ∷ [])
 unfolding tokens_from
@@ -54,6 +58,12 @@ tokens_more s a i (suc n) =
     let g : suc i + n ≡ i + suc n = omega arith in
     ap (tokens_from s a i) e
     ∙ ap (λ (l : List Token). token_at s a i ∷ l) (tokens_more s a (suc i) n ∙ ap (λ (k : ℕ). tokens_from s a (suc i) n ++ (token_at s a k ∷ [])) g)
+
+-- the tokens with their roles are, without them, the tokens
+pub tagged_tokens : (s : List ℕ) (a : Arrays) (roles : List ℕ) (i n : ℕ) → map (λ x. x.token) (tagged_from s a roles i n) ≡ tokens_from s a i n
+unfolding tokens_from tagged_from
+tagged_tokens s a roles i zero = refl
+tagged_tokens s a roles i (suc n) = ap (λ (l : List Token). token_at s a i ∷ l) (tagged_tokens s a roles (suc i) n)
 
 -- the first of the tokens that are left
 pub tokens_step : (s : List ℕ) (a : Arrays) (i n : ℕ) → i < n → tokens_from s a i (n - i) ≡ token_at s a i ∷ tokens_from s a (i + 1) (n - (i + 1))
