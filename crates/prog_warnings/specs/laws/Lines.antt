@@ -1,6 +1,6 @@
 -- Laws of the lines of warnings.
-use Rattle.std.specs.Prelude.{◌≡◌, refl, List, [], ◌∷◌, ℕ, suc, ◌+◌, ◌*◌, ◌≤◌, ◌<◌, length, get_or}
-use Rattle.std.proofs.Common.{sym, ◌∙◌, arith, length-append}
+use Rattle.std.specs.Prelude.{◌≡◌, refl, List, [], ◌∷◌, ◌++◌, ℕ, suc, ◌+◌, ◌*◌, ◌≤◌, ◌<◌, length, get_or}
+use Rattle.std.proofs.Common.{sym, ap, ◌∙◌, append-nil, append_assoc, arith, length-append}
 use Rattle.spec_lists.specs.Text.{bytes}
 use Rattle.prog_report.specs.Report.{placed, warning_line}
 use Rattle.prog_text.specs.Put.{Put}
@@ -8,6 +8,16 @@ use Rattle.prog_text.specs.laws.Put.{reached_fits}
 use Rattle.prog_text.specs.laws.Digits.{few_digits}
 use Rattle.prog_report.specs.laws.Length.{placed_length}
 use Rattle.prog_warnings.specs.Lines.{lines_by, longest_line}
+
+-- one warning more
+lines_more :
+    (ns ps : List ℕ) (n p : ℕ) → length ns ≡ length ps → lines_by (ns ++ (n ∷ [])) (ps ++ (p ∷ [])) ≡ lines_by ns ps ++ warning_line n p
+lines_more [] [] n p e = append-nil (warning_line n p)
+lines_more [] (q ∷ ps) n p e = absurd (omega arith)
+lines_more (m ∷ ns) [] n p e = absurd (omega arith)
+lines_more (m ∷ ns) (q ∷ ps) n p e =
+    ap (λ (l : List ℕ). warning_line m q ++ l) (lines_more ns ps n p (omega arith))
+    ∙ sym (append_assoc (warning_line m q) (lines_by ns ps) (warning_line n p))
 
 -- ---- how long a line is
 

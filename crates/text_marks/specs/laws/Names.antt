@@ -7,11 +7,22 @@ use Rattle.spec_lists.specs.Text.{bytes}
 use Rattle.spec_lists.specs.Runs.{Run, part}
 use Rattle.spec_lists.proofs.laws.Runs.{Within}
 use Rattle.spec_rule.proofs.laws.Walk.{list_on, part_count}
-use Rattle.spec_file.specs.Limit.{Section}
+use Rattle.spec_file.specs.Limit.{Section, most}
 use Rattle.spec_table.specs.Layout.{Content}
+use Rattle.spec_table.specs.View.{view}
 use Rattle.spec_table.specs.Policy.{name, row}
+use Rattle.spec_table.proofs.laws.Bytes.{each}
+use Rattle.spec_table.proofs.laws.Standing.{stands, records_few}
 use Rattle.spec_text.specs.Lines.{quoted}
-use Rattle.text_marks.specs.Names.{run, names, listed, others}
+use Rattle.text_marks.specs.Names.{run, RunStored, names, listed, others}
+
+most_low : (s : Section) → most s < 65536
+most_low =
+    each (λ s. most s < 65536) (omega arith) (omega arith) (omega arith) (omega arith) (omega arith) (omega arith) (omega arith)
+
+-- the numbers of a run's records are words
+pub run_low : {b : List ℕ} {s : Section} {r : Range ℕ} → RunStored b s r → r.end < 65536
+run_low {b} {s} h = omega (arith, h.inside, records_few (view b) (stands b h.table).1 s, most_low s)
 
 -- a range that the code has read is the run of a record
 pub run_is : {r : Range ℕ} {v : Run} → r.start ≡ v.first → r.end ≡ v.first + v.count → run r ≡ v

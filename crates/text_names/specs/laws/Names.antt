@@ -1,11 +1,12 @@
 -- The names of a section, searched by their numbers.
 use Rattle.std.specs.Prelude.{◌≡◌, refl, Bool, ◌&&◌, ◌||◌, List, [], ◌∷◌, ℕ, ◌+◌, ◌-◌, eqb, length, drop}
 use Rattle.std.specs.List.{list_all, list_any, range_with_len}
-use Rattle.std.proofs.Common.{ap₂, ◌∙◌, arith}
+use Rattle.std.proofs.Common.{ap, ap₂, ◌∙◌, arith}
 use Rattle.std.proofs.lemmas.Bool.Decides.{nat_tests}
 use Rattle.spec_lists.specs.Text.{same}
-use Rattle.spec_lists.specs.Select.{all, any}
+use Rattle.spec_lists.specs.Select.{all, any, joined}
 use Rattle.spec_lists.proofs.laws.Any.{any_same}
+use Rattle.spec_lists.proofs.laws.Every.{all_append}
 use Rattle.spec_file.specs.Limit.{Section}
 use Rattle.spec_table.specs.View.{view}
 use Rattle.spec_table.specs.Policy.{name}
@@ -41,3 +42,8 @@ module _ (b : List ℕ) (s : Section) where
       → list_any (λ i. any (λ x. same x (name_at b s i)) (drop (i + 1) (names b s))) (range_with_len 0 (n - 0)) ≡ repeated same (names b s)
   names_again e =
       repeated_numbered (name (view b) s) ((view b).records s) [] (λ x y. same y x) 0 _ (omega arith) ∙ repeated_turned (names b s)
+
+-- all of some joined lists pass a test if all of each do
+all_joined : {A : Type 0} (p : A → Bool) (xss : List (List A)) → all p (joined xss) ≡ all (all p) xss
+all_joined p [] = refl
+all_joined p (xs ∷ xss) = all_append p xs (joined xss) ∙ ap (λ (x : Bool). all p xs && x) (all_joined p xss)
