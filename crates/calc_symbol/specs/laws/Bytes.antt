@@ -51,6 +51,10 @@ no_pair b d n1 n2 n3 n4 n5 n6 =
       both_false 33 61 b d n6,
     )
 
+-- nor is one of a second byte that no spelling has: it is no =, and not twice | or &
+pub no_second_of : (b d : ℕ) → (d ≡ 61 → ⊥) → (b ≡ 124 → d ≡ 124 → ⊥) → (b ≡ 38 → d ≡ 38 → ⊥) → single b ≡ spelling b (d ∷ [])
+no_second_of b d n n1 n2 = no_pair b d n1 n2 (λ _. n) (λ _. n) (λ _. n) (λ _. n)
+
 -- a spelling looks at two bytes at most
 pub two_bytes : (b : ℕ) (s : List ℕ) → spelling b s ≡ spelling b (get_or s 0 0 ∷ [])
 unfolding spelling
