@@ -8,10 +8,10 @@ ghost use Rattle.calc_numeral.specs.Numeral.{Counts, Fraction, Numbered};
 
 // Digits: the number they make, the offset behind them, and how many more were allowed.
 #[derive(Clone, Copy)]
-struct Digits {
-    number: u64,
-    end: usize,
-    left: usize,
+pub struct Digits {
+    pub number: u64,
+    pub end: usize,
+    pub left: usize,
 }
 
 // Whether the byte b stands at an offset.

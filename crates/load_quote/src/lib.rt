@@ -6,7 +6,7 @@ ghost use Rattle.load_quote.specs.Quote.{act, QuoteRead};
 
 // What a byte inside quotes does: the text goes on, behind a backslash or not; the quote closes; a bare newline breaks it.
 #[derive(Clone, Copy)]
-enum Act {
+pub enum Act {
     On(bool),
     Close,
     Break,

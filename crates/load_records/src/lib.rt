@@ -271,8 +271,8 @@ impl<'a> Entry for Reference<'a> {
     }
 }
 
-// A string, in lower case if asked.
-fn put_string(t: &[u8], low: bool, p: Cursor, lent: &mut [u8]) -> Cursor
+// A string, in lower case if asked. Inner: the put of Text, LowerText and FirstText calls it with a token's text.
+pub fn put_string(t: &[u8], low: bool, p: Cursor, lent: &mut [u8]) -> Cursor
     requires { Bounded cursor_limit p × (length t.now < cursor_limit) }
     ensures { StringPut (map (cased low) t.now) lent.old lent.new p result }
 {

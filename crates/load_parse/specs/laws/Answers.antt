@@ -16,7 +16,7 @@ no_more [] i e = omega arith
 no_more (t ∷ ts) zero e = absurd (cc e)
 no_more (t ∷ ts) (suc i) e = let h = no_more ts i e in omega arith
 
-finished : (ts : List Token) (i : ℕ) → kind_of ts i ≡ None → parse_on ts i (often item ∷ []) ≡ parsed (roles_of ts)
+pub finished : (ts : List Token) (i : ℕ) → kind_of ts i ≡ None → parse_on ts i (often item ∷ []) ≡ parsed (roles_of ts)
 unfolding parse_on parse_from
 finished ts i e = rw (at_end ts i e, take_all i ts (no_more ts i e))
 

@@ -37,7 +37,7 @@ module _ {s : List ℕ} {from i : ℕ} {e : Bool} (g : Inside s from i e) (h : i
   pub closes_at : act e (get_or s i 0) ≡ Close → ClosedAt s from i
   closes_at q = record { low = g.low; high = h; text = closes s from h g (by_act q) }
 
-  breaks_at : act e (get_or s i 0) ≡ Break → quoted false from (drop from s) ≡ broken i
+  pub breaks_at : act e (get_or s i 0) ≡ Break → quoted false from (drop from s) ≡ broken i
   breaks_at q = breaks s from h g (by_act q)
 
 pub broken_at : {s : List ℕ} (q : ℕ) {i : ℕ} {e : Bool} → Inside s (q + 1) i e → i < length s → act e (get_or s i 0) ≡ Break → QuoteRead s q (Err i)

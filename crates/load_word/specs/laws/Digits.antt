@@ -20,10 +20,10 @@ module _ {w : List ℕ} {at e : ℕ} (d : Span digit w at e) where
   pub some_digits : at < e → nonempty (run digit (drop at w)) ≡ true
   some_digits h = some_more (run digit (drop at w)) (omega (arith, d.ends))
 
-  more_behind : at < e → e < length w → digits (drop at w) ≡ false
+  pub more_behind : at < e → e < length w → digits (drop at w) ≡ false
   more_behind h l = rw (some_digits h, span_after d, some_more (drop e w) (rw length-drop (omega arith)))
 
-  all_digits : at < e → length w ≤ e → digits (drop at w) ≡ true
+  pub all_digits : at < e → length w ≤ e → digits (drop at w) ≡ true
   all_digits h l = rw (some_digits h, span_after d, some_none (drop e w) (rw length-drop (omega arith)))
 
   -- whether they go on to the end

@@ -5,7 +5,7 @@ use Rattle.spec_lists.specs.Runs.{part}
 use Rattle.spec_register.specs.Register.{client_of}
 use Rattle.spec_places.specs.Storage.{client_from, length_at}
 
-cut_out : (b : List ℕ) {x n f k : ℕ} → x ≡ f → n ≡ k → take ((x + n) - x) (drop x b) ≡ part (record { first = f; count = k }) b
+pub cut_out : (b : List ℕ) {x n f k : ℕ} → x ≡ f → n ≡ k → take ((x + n) - x) (drop x b) ≡ part (record { first = f; count = k }) b
 cut_out b {x} {n} {f} {k} e g =
     let z : (x + n) - x ≡ k = omega arith in
     ap₂ (λ (m i : ℕ). take m (drop i b)) z e
