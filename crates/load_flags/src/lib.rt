@@ -56,8 +56,8 @@ pub fn first_text<'a>(t: &Tokens<'a>, from: usize, to: usize, role: Role) -> &'a
 // In a table the number of a group that is not defined.
 const UNDEFINED: usize = 65535;
 
-// The number of the first group that has a token's text for its name, or UNDEFINED. The caller, load_records::put_reference, is
-// given a token and groups of the same file.
+// The number of the first group that has a token's text for its name, or UNDEFINED. The caller, load_records::Reference::put,
+// is given a token and groups of the same file.
 pub fn number_of(t: &Tokens<'_>, names: &[u16], i: usize) -> usize
     requires { (i < length t.now.list.now) × AmongTokens names.now (length t.now.list.now) }
     ensures { result ≡ number_at t.now.text.now (starts t.now.list.now) (ends t.now.list.now) names.now i }
@@ -110,7 +110,7 @@ fn off_bits(t: &Tokens<'_>, from: usize, to: usize) -> usize
     }
 }
 
-// All of them. The caller, load_records::put_rule, has the part from next.
+// All of them. The caller, load_records::Rule::put, has the part from next.
 pub fn flags_of(t: &Tokens<'_>, from: usize, to: usize) -> usize
     requires { to ≤ length t.now.list.now }
     ensures { result ≡ flags (rule_text (part t.now.text.now t.now.list.now from to)) }

@@ -37,7 +37,7 @@ and_named None ns = None
 and_named (Some n) None = None
 and_named (Some n) (Some ns) = Some (n ∷ ns)
 
--- the readings of Some parts, if each is one
+-- the readings of some parts, if each is one
 unfoldable pub all_named : List (List ℕ) → Option (List Named)
 all_named [] = Some []
 all_named (p ∷ ps) = and_named (named p) (all_named ps)
@@ -61,7 +61,7 @@ abbrev pub without_repeats : Option (List Named) → Option (List Reading)
 without_repeats None = None
 without_repeats (Some ns) = cond (distinct (letters ns)) (Some (readings ns)) None
 
--- the readings that Some parts name
+-- the readings that some parts name
 abbrev pub readings_named : List (List ℕ) → Option (List Reading)
 readings_named ps = without_repeats (all_named ps)
 
@@ -78,7 +78,7 @@ abbrev pub of_level : List ℕ → List ℕ → List ℕ → Option ℕ → List
 of_level g u h None ps = refused
 of_level g u h (Some l) ps = of_readings g u h l (readings_named ps)
 
--- 01: "group (`-` for empty), user, host, one-digit level, then readings", "None empty"
+-- 01: "group (`-` for empty), user, host, one-digit level, then readings", "none empty"
 unfoldable pub of_parts : List (List ℕ) → Line
 of_parts [] = refused
 of_parts (g ∷ []) = refused
