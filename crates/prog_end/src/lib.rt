@@ -8,15 +8,15 @@ ghost use Rattle.prog_replies.specs.Pieces.{longest_reply, State, Finishes};
 use prog_text::Writer;
 
 // Answers the line that has begun at the end of the input: the last may lack its newline.
-// The caller has loaded the table, and holds the line from the last piece (prog_replies::respond).
-pub fn finish(table: &[u8], held: &Writer<'_>, out: &mut [u8]) -> usize
-    requires { (is_table table.now ≡ true) × State held.now.out.now held.now.at × (longest_reply ≤ length out.old) }
-    ensures { Finishes table.now held.now.out.now held.now.at out.old out.new result }
+// The caller has loaded the table, and has count from the last piece (prog_replies::respond).
+pub fn finish(table: &[u8], buffer: &[u8], count: usize, out: &mut [u8]) -> usize
+    requires { (is_table table.now ≡ true) × State buffer.now count × (longest_reply ≤ length out.old) }
+    ensures { Finishes table.now buffer.now count out.old out.new result }
 {
-    if held.at == 0 {
+    if count == 0 {
         return 0;
     }
     let mut w = Writer::new(out);
-    prog_reply::reply(&mut w, table, &held.out[..held.at]);
+    prog_reply::reply(&mut w, table, &buffer[..count]);
     w.at
 }

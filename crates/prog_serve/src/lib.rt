@@ -25,7 +25,12 @@ pub fn serve(rt: &(impl Print + Eprint), table: &[u8], from: &mut impl Read, siz
         prove!(round < 1 << 62);
         match prog_input::read_piece(from, &mut piece[..most]) {
             Ok(0) => {
-                let n = prog_end::finish(table, &held, &mut out);
+                let Writer {
+                    out: line,
+                    at: count,
+                    ..
+                } = held;
+                let n = prog_end::finish(table, line, count, &mut out);
                 prog_output::put(rt, &out[..n]);
                 return;
             }

@@ -18,10 +18,10 @@ returns c =
     (ap
     (replies c.args.table.now)
     (line_begun
-    c.args.held.now.out.now
+    c.args.buffer.now
     h
-    c.args.held.now.at
-    (let z = c.if-held-eq0.false in omega arith)
+    c.args.count
+    (let z = c.if-count-eq0.false in omega arith)
     (let z = c.requires.1.within in let y = c.requires.1.size in omega arith)
     a)
     ∙ append-nil (reply c.args.table.now h)
