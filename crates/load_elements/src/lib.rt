@@ -8,7 +8,7 @@ ghost use Rattle.spec_token.specs.declared.Kind.TheVariants as kind;
 ghost use Rattle.spec_grammar.specs.Reader.{once, perhaps, element, more_until, arguments, headed, second_block};
 ghost use Rattle.load_elements.specs.Reads.{kind_at, is_next, name_of, is_element, expected, Reads};
 
-use load_tokens::{Token, is_name};
+use load_tokens::{Token, is_name_kind};
 use spec_grammar::Role;
 use spec_token::Kind;
 
@@ -23,7 +23,7 @@ pub struct Parser<'a> {
 fn is_element(kind: Kind) -> bool
     ensures { result ≡ is_element (Some kind) }
 {
-    is_name(kind) || kind == Kind::Int || kind == Kind::Float
+    is_name_kind(kind) || kind == Kind::Int || kind == Kind::Float
 }
 
 impl<'a> Parser<'a> {
@@ -46,7 +46,7 @@ impl<'a> Parser<'a> {
         ensures { result ≡ name_of (kind_at self.now) }
     {
         match self.kind() {
-            Some(kind) if is_name(kind) => Some(kind),
+            Some(kind) if is_name_kind(kind) => Some(kind),
             _ => None,
         }
     }

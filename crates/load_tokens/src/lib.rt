@@ -37,8 +37,15 @@ impl Token {
     }
 }
 
-// generic_block_elem_name
-pub fn is_name(kind: Kind) -> bool
+// generic_block_elem_name, by the number of a kind: spec_grammar/specs/Codes.antt, kind_number. A number of no kind is none.
+pub fn is_name(kind: u8) -> bool
+    ensures { result ≡ is_name kind }
+{
+    kind <= Kind::Inp as u8 || kind == Kind::String as u8
+}
+
+// The same by the kind.
+pub fn is_name_kind(kind: Kind) -> bool
     ensures { result ≡ is_name (kind_number kind) }
 {
     matches!(
