@@ -12,7 +12,7 @@ pub fn lower(b: u8) -> u8
 }
 
 // Whether two texts are the same bytes.
-// Stays: no `a == b`, which the compiler makes a call of memcmp: an archive for C would need that name (docs/GATEWAY.md says which it needs).
+// Pair by pair, and no `a == b`, which is a call of its own for each two names: names are short, and a question compares many.
 #[tactic(auto, using(crate::proofs::Pairs::not_same))]
 pub fn equal(a: &[u8], b: &[u8]) -> bool
     ensures { result ≡ same a.now b.now }

@@ -1,5 +1,5 @@
 -- What a byte inside quotes does, and what reading a quoted text gives.
-use Rattle.std.specs.Prelude.{◌≡◌, Bool, true, false, cond, List, ℕ, ◌+◌, ◌-◌, ◌≤◌, ◌<◌, length, take, drop, Result, Ok, Err}
+use Rattle.std.specs.Prelude.{◌≡◌, Bool, true, false, cond, List, ℕ, ◌+◌, ◌-◌, ◌≤◌, ◌<◌, length, take, drop, Option, Some, None, Result, Ok, Err}
 use Rattle.spec_lists.specs.Text.{among}
 use Rattle.spec_token.specs.Word.{newline}
 use Rattle.spec_token.specs.Scanner.{Quoted, closed, broken, unclosed, quoted}
@@ -23,7 +23,13 @@ NoEnd (closed t r) q p = ⊥
 NoEnd (broken b) q p = p ≡ b
 NoEnd unclosed q p = p ≡ q
 
+-- what was found of a quoted text that starts at a place
+abbrev pub QuoteRead : List ℕ → ℕ → Result ℕ (Option ℕ) → Type 0
+QuoteRead s from (Ok e) = ClosedAt s from e
+QuoteRead s from (Err (Some p)) = quoted false from (drop from s) ≡ broken p
+QuoteRead s from (Err None) = quoted false from (drop from s) ≡ unclosed
+
 -- what was found of a quoted text whose quote stands at q
-abbrev pub QuoteRead : List ℕ → ℕ → Result ℕ ℕ → Type 0
-QuoteRead s q (Ok e) = ClosedAt s (q + 1) e
-QuoteRead s q (Err p) = NoEnd (quoted false (q + 1) (drop (q + 1) s)) q p
+abbrev pub ReadBehind : List ℕ → ℕ → Result ℕ ℕ → Type 0
+ReadBehind s q (Ok e) = ClosedAt s (q + 1) e
+ReadBehind s q (Err p) = NoEnd (quoted false (q + 1) (drop (q + 1) s)) q p

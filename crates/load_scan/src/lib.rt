@@ -56,7 +56,7 @@ fn quote_token(s: &[u8], quote: usize) -> Result<Step, usize>
     requires { BeginsAt s.now quote lexeme.quote }
     ensures { Found s.now quote result }
 {
-    let end = load_quote::quote_end(s, quote)?;
+    let end = load_quote::end_behind(s, quote)?;
     let start = quote + 1;
     let token = Token {
         kind: Kind::String,

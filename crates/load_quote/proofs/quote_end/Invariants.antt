@@ -1,6 +1,5 @@
 use Rattle.spec_token.proofs.laws.Quotes.{Inside}
-use Rattle.std.proofs.Common.{◌+◌}
 use Rattle.load_quote.proofs.quote_end.Given as goal
 
 abbrev pub invariant-loop-i : goal.invariant-loop-i
-invariant-loop-i l = Inside l.s (l.quote + 1) l.i l.escaped
+invariant-loop-i l = Inside l.s l.from l.i l.escaped

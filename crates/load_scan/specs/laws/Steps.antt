@@ -11,7 +11,7 @@ use Rattle.spec_token.proofs.laws.Spans.{span_more}
 use Rattle.spec_token.proofs.laws.Steps.{word_named, from_nothing, from_comment, from_stop, from_word, from_wrong, from_closed, from_broken, from_unclosed}
 use Rattle.spec_grammar.specs.declared.Role.{Role}
 use Rattle.load_tokens.specs.Arrays.{between}
-use Rattle.load_quote.specs.Quote.{ClosedAt, NoEnd, QuoteRead}
+use Rattle.load_quote.specs.Quote.{ClosedAt, NoEnd, ReadBehind}
 use Rattle.load_scan.specs.declared.Step.{Step}
 use Rattle.load_scan.specs.Found.{BeginsAt, TokenAt, BlankTo, Found}
 
@@ -32,7 +32,7 @@ module _ {s : List ℕ} {at : ℕ} where
   pub wrong_byte : BeginsAt s at wrong → scan_from s at ≡ bad at
   wrong_byte b = from_wrong s at b.here b.begun
 
-  pub quote_bad : (p : ℕ) → BeginsAt s at quote → QuoteRead s at (Err p) → scan_from s at ≡ bad p
+  pub quote_bad : (p : ℕ) → BeginsAt s at quote → ReadBehind s at (Err p) → scan_from s at ≡ bad p
   quote_bad p b q = go (quoted false (at + 1) (drop (at + 1) s)) refl q
     where
       go : (x : Quoted) → quoted false (at + 1) (drop (at + 1) s) ≡ x → NoEnd x at p → scan_from s at ≡ bad p
@@ -41,7 +41,7 @@ module _ {s : List ℕ} {at : ℕ} where
       go unclosed e n = from_unclosed s at b.here b.begun e ∙ ap bad (sym n)
 
   -- what the exit of a `?` returns
-  pub quote_stops : (i : ℕ) (r : Result Step ℕ) → BeginsAt s at quote → QuoteRead s at (Err i) → IsErrAnd r (λ y. y ≡ i) → Found s at r
+  pub quote_stops : (i : ℕ) (r : Result Step ℕ) → BeginsAt s at quote → ReadBehind s at (Err i) → IsErrAnd r (λ y. y ≡ i) → Found s at r
   quote_stops i (Ok t) b q e = absurd e
   quote_stops i (Err y) b q e = quote_bad i b q ∙ ap bad (sym e)
 
