@@ -36,9 +36,9 @@ fn put_answer(rt: &(impl Print + Eprint), a: Answer) {
     let mut out = [0u8; 32];
     let mut w = Writer::new(&mut out);
     prog_answer::answer_text(&mut w, a);
-    w.put(b"\n");
     let end = w.at;
     put(rt, &out[..end]);
+    put(rt, b"\n");
 }
 
 // A line: group, user, host, level, readings, roles.

@@ -44,7 +44,13 @@ fn read_and_export(rt: &(impl Files + Print + Eprint), path: &[u8], room: usize,
         Exported::Written(n) => n.min(MOST),
         _ => 0,
     };
-    put_same(rt, b"text", &lent[..written], expected);
+    put_same(
+        rt,
+        &lent[..written],
+        expected,
+        b"text same\n",
+        b"text differs\n",
+    );
     put_rest(rt, &lent, written);
 }
 

@@ -30,18 +30,23 @@ pub fn put_rest(rt: &(impl Print + Eprint), lent: &[u8], written: usize) {
     }
 }
 
-// Whether some bytes are those of a file, where one is named.
-pub fn put_same(rt: &(impl Files + Print + Eprint), name: &[u8], bytes: &[u8], path: &[u8]) {
+// Whether some bytes are those of a file, where one is named: the line for yes, or the line for no.
+pub fn put_same(
+    rt: &(impl Files + Print + Eprint),
+    bytes: &[u8],
+    path: &[u8],
+    same: &[u8],
+    differs: &[u8],
+) {
     if path.is_empty() {
         return;
     }
     let mut buf = io::large_buffer();
     let n = prog_input::read(rt, path, &mut buf);
-    put(rt, name);
     if bytes == &buf[..n] {
-        put(rt, b" same\n");
+        put(rt, same);
     } else {
-        put(rt, b" differs\n");
+        put(rt, differs);
     }
 }
 
@@ -66,7 +71,13 @@ fn load(
     let mut written = 0;
     if let Loaded::Accepted { length, warnings } = answer {
         written = length.min(room);
-        put_same(rt, b"table", &lent[..written], path);
+        put_same(
+            rt,
+            &lent[..written],
+            path,
+            b"table same\n",
+            b"table differs\n",
+        );
     }
     put_rest(rt, lent, written);
 }
