@@ -70,7 +70,8 @@ pub fn decide_checked(
                 host,
                 level: level as usize,
             };
-            let d = decision_of_group(table, i, client, &calc_inputs::inputs_of(rs));
+            let inputs = calc_inputs::inputs_of(rs);
+            let d = decision_of_group(table, i, client, &inputs);
             Answer::Answered(d)
         }
     }

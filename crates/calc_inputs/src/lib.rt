@@ -39,11 +39,13 @@ fn is_good(r: Reading) -> bool
 pub fn inputs_of(rs: [Reading; 21]) -> Inputs
     ensures { (result.values ≡ map heard rs) × (result.good ≡ map good rs) }
 {
-    let mut values = [0.0; 21];
-    let mut good = [false; 21];
+    let mut inputs = Inputs {
+        values: [0.0; 21],
+        good: [false; 21],
+    };
     for (i, r) in rs.iter().enumerate() {
-        values[i] = value_of(*r);
-        good[i] = is_good(*r);
+        inputs.values[i] = value_of(*r);
+        inputs.good[i] = is_good(*r);
     }
-    Inputs { values, good }
+    inputs
 }

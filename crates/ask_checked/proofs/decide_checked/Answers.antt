@@ -21,4 +21,4 @@ pub returns-in-None : goal.returns-in-None
 returns-in-None c = sym (decide_none c.args.table.now (lent_question c.args.group.now c.args.user.now c.args.host.now c.args.roles.now c.args.lengths.now c.args.level c.args.rs) c.requires (omega (arith, c.if-level-gt1.false)) (sym c.fit.ensures ∙ not-false c.fit.result c.if-not-fit.false-raw) c.answering_group.ensures c.in-None.is)
 
 pub returns-in-Some : goal.returns-in-Some
-returns-in-Some c = let fits = sym c.fit.ensures ∙ not-false c.fit.result c.if-not-fit.false-raw in sym (decide_by c.args.table.now (lent_question c.args.group.now c.args.user.now c.args.host.now c.args.roles.now c.args.lengths.now c.args.level c.args.rs) c.requires (omega (arith, c.if-level-gt1.false)) fits c.answering_group.ensures c.in-Some.i refl (lent_cut c.args.roles.now c.args.lengths.now fits) c.in-Some.is (c.decision_of_group-d.ensures c.args.rs (record { values = c.inputs_of.ensures.0; good = c.inputs_of.ensures.1 })))
+returns-in-Some c = let fits = sym c.fit.ensures ∙ not-false c.fit.result c.if-not-fit.false-raw in sym (decide_by c.args.table.now (lent_question c.args.group.now c.args.user.now c.args.host.now c.args.roles.now c.args.lengths.now c.args.level c.args.rs) c.requires (omega (arith, c.if-level-gt1.false)) fits c.answering_group.ensures c.in-Some.i refl (lent_cut c.args.roles.now c.args.lengths.now fits) c.in-Some.is (c.decision_of_group-d.ensures c.args.rs (record { values = c.inputs_of-inputs.ensures.0; good = c.inputs_of-inputs.ensures.1 })))
