@@ -17,7 +17,7 @@ groups (Host h) = host_groups
 
 -- which members match a name, or a user's roles. 01: "the host likewise (its ASCII letters lowered first, stored bytes as they are)"
 abbrev pub matches : Name → List ℕ → Bool
-matches (User u) = matches_client u.name.now (cut_roles u.roles.pool.now u.roles.lengths.now)
+matches (User u) = matches_client u.now.name.now (cut_roles u.now.roles.pool.now u.now.roles.lengths.now)
 matches (Host h) = same (lowered h.now)
 
 -- which word of a rule begins its references

@@ -16,7 +16,7 @@ const UNDEFINED: usize = 65535;
 // A user, who is looked for in user groups, or a host, in host groups.
 #[derive(Clone, Copy)]
 pub enum Name<'a> {
-    User(User<'a>),
+    User(&'a User<'a>),
     Host(&'a [u8]),
 }
 

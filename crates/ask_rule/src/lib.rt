@@ -39,7 +39,7 @@ impl Client<'_> {
             return false; // switched off
         }
         self.level <= flags % 2
-            && Name::User(self.user).belongs_to(table, rule)
+            && Name::User(&self.user).belongs_to(table, rule)
             && Name::Host(self.host).belongs_to(table, rule)
     }
 }
