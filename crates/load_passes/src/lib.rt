@@ -3,13 +3,12 @@
 
 mod source;
 
-ghost use Rattle.std.specs.Prelude.{◌≡◌, ◌<◌, ◌≤◌, length};
-ghost use Rattle.spec_grammar.specs.declared.Role.TheVariants.{UagNamed, HagNamed};
+ghost use Rattle.std.specs.Prelude.{◌<◌, ◌≤◌, length};
 ghost use Rattle.load_spans.specs.Spans.{AmongTokens};
 ghost use Rattle.load_records.specs.Cursor.{Bounded};
 ghost use Rattle.load_passes.specs.Passed.{rule_limit, references_limit, Start, Passed, RulePassed, ReferencesPassed};
 
-use load_records::{Cursor, Entry};
+use load_records::{Alone, Cursor, Entry};
 use load_spans::Tokens;
 pub use source::Source;
 use spec_grammar::Role;
@@ -39,7 +38,7 @@ pub fn pass<E: Entry>(
 }
 
 // What is written for a rule's references to user groups, then for those to host groups.
-fn rule_references<E: Entry>(
+fn rule_references<E: Alone>(
     users: &E,
     hosts: &E,
     tokens: &Tokens,
@@ -48,7 +47,6 @@ fn rule_references<E: Entry>(
     lent: &mut [u8],
 ) -> Cursor
     requires here { i < length tokens.now.list.now }
-    requires parts { (E.part users.now UagNamed ≡ UagNamed) × (E.part hosts.now HagNamed ≡ HagNamed) }
     requires listed_users { AmongTokens (E.names users.now) (length tokens.now.list.now) }
     requires listed_hosts { AmongTokens (E.names hosts.now) (length tokens.now.list.now) }
     requires bounded { Bounded rule_limit cursor }
@@ -61,7 +59,7 @@ fn rule_references<E: Entry>(
 }
 
 // And for those of all rules. Inner: the functions of load_sections call it, as they call pass, with entries to which no other tokens belong.
-pub fn references<E: Entry>(
+pub fn references<E: Alone>(
     users: &E,
     hosts: &E,
     tokens: &Tokens,
@@ -69,7 +67,6 @@ pub fn references<E: Entry>(
     cursor: Cursor,
     lent: &mut [u8],
 ) -> Cursor
-    requires parts { (E.part users.now UagNamed ≡ UagNamed) × (E.part hosts.now HagNamed ≡ HagNamed) }
     requires listed_users { AmongTokens (E.names users.now) (length tokens.now.list.now) }
     requires listed_hosts { AmongTokens (E.names hosts.now) (length tokens.now.list.now) }
     requires bounded { Bounded references_limit cursor }

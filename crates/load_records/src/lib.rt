@@ -1,7 +1,7 @@
 // The record or string of the table that is written for one token.
 #![tactic(auto)]
 
-ghost use Rattle.std.specs.Prelude.{List, [], map, ◌≡◌, ◌+◌, ◌-◌, ◌<◌, ◌≤◌, ℕ, length};
+ghost use Rattle.std.specs.Prelude.{List, [], map, ◌≡◌, refl, ◌+◌, ◌-◌, ◌<◌, ◌≤◌, ℕ, length};
 ghost use Rattle.spec_grammar.specs.Codes.{role_number};
 ghost use Rattle.spec_grammar.specs.declared.Role.{Role};
 ghost use Rattle.spec_grammar.specs.declared.Role.TheVariants.{Calculation, Pvname};
@@ -48,6 +48,11 @@ pub trait Entry {
         requires ready { Ready tokens.now i to role (part self.now role) p }
         requires listed { AmongTokens (names self.now) (length tokens.now.list.now) }
         ensures { Step work role (part self.now role) (names self.now) tokens.now i to lent.old lent.new p result };
+}
+
+// Entries to which no other tokens belong: what belongs to a token of a role has that role itself. load_passes::references writes by these.
+pub trait Alone: Entry {
+    ghost itself: { (e : Self) (role : Role) → Self.part e role ≡ role };
 }
 
 // Where what belongs to the i-th token ends: at the next token of one of two roles, or with the part.
@@ -133,6 +138,10 @@ impl Entry for Name {
     }
 }
 
+impl Alone for Name {
+    ghost itself = { λ e role. refl };
+}
+
 // An access group's name and its runs of inputs and rules.
 #[derive(Clone, Copy)]
 pub struct AccessGroup;
@@ -166,6 +175,10 @@ impl Entry for AccessGroup {
             second: p.second + rules,
         }
     }
+}
+
+impl Alone for AccessGroup {
+    ghost itself = { λ e role. refl };
 }
 
 // An input's letter and the name behind it.
@@ -271,6 +284,10 @@ impl<'a> Entry for Reference<'a> {
     }
 }
 
+impl<'a> Alone for Reference<'a> {
+    ghost itself = { λ e role. refl };
+}
+
 // A string, in lower case if asked. Inner: the put of Text, LowerText and FirstText calls it with a token's text.
 pub fn put_string(t: &[u8], low: bool, p: Cursor, lent: &mut [u8]) -> Cursor
     requires { Bounded cursor_limit p × (length t.now < cursor_limit) }
@@ -304,6 +321,10 @@ impl Entry for Text {
     }
 }
 
+impl Alone for Text {
+    ghost itself = { λ e role. refl };
+}
+
 // Its text in lower case.
 #[derive(Clone, Copy)]
 pub struct LowerText;
@@ -326,6 +347,10 @@ impl Entry for LowerText {
     ) -> Cursor {
         put_string(tokens.text_of(i), true, p, lent)
     }
+}
+
+impl Alone for LowerText {
+    ghost itself = { λ e role. refl };
 }
 
 // The first text of a role that belongs to the token.

@@ -1,4 +1,5 @@
 use Rattle.std.proofs.Common.{◌+◌, length, arith}
+use Rattle.spec_grammar.specs.declared.Role.TheVariants.{UagNamed, HagNamed}
 use Rattle.load_tokens.specs.Views.{starts, ends, roles}
 use Rattle.load_spans.specs.Roles.{arrays}
 use Rattle.load_records.specs.laws.Bounds.{bounded_more}
@@ -11,7 +12,7 @@ pub pass-p-requires-clause-start : goal.pass-p-requires-clause-start
 pass-p-requires-clause-start g c =
     let a = c.args in
     let ts = a.tokens.now.list.now in
-    rw c.requires.parts.0
+    rw (g.met.E.Alone.itself a.users.now UagNamed)
     (record {
       within = gap_end 8 5 (roles ts) (a.i + 1) (length ts) c.next-e.result (omega (arith, c.requires.here)) c.next-e.ensures;
       head = record { some = omega arith; known = omega arith };
@@ -23,7 +24,7 @@ pub pass-requires-clause-start : goal.pass-requires-clause-start
 pass-requires-clause-start g c =
     let a = c.args in
     let ts = a.tokens.now.list.now in
-    rw c.requires.parts.1
+    rw (g.met.E.Alone.itself a.hosts.now HagNamed)
     (record {
       within = gap_end 8 5 (roles ts) (a.i + 1) (length ts) c.next-e.result (omega (arith, c.requires.here)) c.next-e.ensures;
       head = record { some = omega arith; known = omega arith };
@@ -39,5 +40,5 @@ returns g c =
     let ts = t.list.now in
     rule_done e.work (names_of t (e.names a.users.now)) (names_of t (e.names a.hosts.now)) (part_of t (a.i + 1) (length ts)) (part_of t (a.i + 1) c.next-e.result)
     (cut_is t.text.now (arrays (starts ts) (ends ts)) (roles ts) 8 8 (a.i + 1) (length ts) c.next-e.result rule_word_known rule_word_known c.next-e.ensures)
-    (rw c.requires.parts.0 at c.pass-p.ensures.emitted)
-    (rw c.requires.parts.1 at c.pass.ensures.emitted)
+    (rw (g.met.E.Alone.itself a.users.now UagNamed) at c.pass-p.ensures.emitted)
+    (rw (g.met.E.Alone.itself a.hosts.now HagNamed) at c.pass.ensures.emitted)
