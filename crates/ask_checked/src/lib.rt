@@ -28,7 +28,7 @@ fn decision_of_group(table: &[u8], group: usize, client: Client, inputs: &Inputs
     let rules = table_read::run(table, Section::AccessGroups, group, RULES);
     let mut so_far = ask_verdict::nothing_given();
     for rule in rules.start..rules.end {
-        so_far = ask_given::with_rule(table, rule, client, inputs, so_far);
+        so_far = ask_given::with_rule(table, rule, &client, inputs, so_far);
     }
     ask_verdict::settled(so_far)
 }

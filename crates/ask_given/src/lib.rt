@@ -15,12 +15,12 @@ use table_read::Section;
 pub fn with_rule(
     table: &[u8],
     rule: usize,
-    client: Client,
+    client: &Client,
     inputs: &Inputs,
     earlier: Verdict,
 ) -> Verdict
     requires { Stored table.now rules rule }
-    ensures { WithRule table.now rule client.entry inputs.now earlier result }
+    ensures { WithRule table.now rule client.now inputs.now earlier result }
 {
     let offered = ask_grant::granted_by(table_read::field(table, Section::Rules, rule, FLAGS));
     if offered.access <= earlier.access {

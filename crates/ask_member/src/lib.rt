@@ -77,9 +77,8 @@ impl Name<'_> {
         }
     }
 
-    // Whether it is a member of one of the groups that a rule names, or the rule names none. Each of its references costs the members of a group.
-    // Inner: the caller knows the rule from the run of its group.
-    pub fn belongs_to(self, table: &[u8], rule: usize) -> bool
+    // What belongs_to says, group by group.
+    fn has_group(self, table: &[u8], rule: usize) -> bool
         requires { Stored table.now rules rule }
         ensures { result ≡ belongs (matches self.entry) (groups_named table.now self.entry rule) }
     {
@@ -93,5 +92,18 @@ impl Name<'_> {
             }
         }
         false
+    }
+
+    // Whether it is a member of one of the groups that a rule names, or the rule names none. Each of its references costs the members of a group.
+    // Inner: the caller knows the rule from the run of its group. Inlined, so that a rule that names no group costs no call.
+    #[inline(always)]
+    pub fn belongs_to(self, table: &[u8], rule: usize) -> bool
+        requires { Stored table.now rules rule }
+        ensures { result ≡ belongs (matches self.entry) (groups_named table.now self.entry rule) }
+    {
+        if table_read::run(table, Section::Rules, rule, self.references_word()).is_empty() {
+            return true;
+        }
+        self.has_group(table, rule)
     }
 }

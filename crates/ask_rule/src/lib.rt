@@ -30,9 +30,9 @@ impl Client<'_> {
     ghost use Rattle.ask_rule.specs.Rules.{asked_by};
 
     // What a rule asks that does not depend on readings. Inner: the caller knows the rule from the run of its group.
-    pub fn stands(self, table: &[u8], rule: usize) -> bool
+    pub fn stands(&self, table: &[u8], rule: usize) -> bool
         requires { Stored table.now rules rule }
-        ensures { result ≡ stands (asked_by self.entry []) (rule_at table.now rule) }
+        ensures { result ≡ stands (asked_by self.now []) (rule_at table.now rule) }
     {
         let flags = table_read::field(table, Section::Rules, rule, FLAGS);
         if ask_grant::is_set(flags / 16) {

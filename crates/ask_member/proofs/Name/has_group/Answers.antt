@@ -7,7 +7,7 @@ use Rattle.spec_table.specs.Policy.{row, referred}
 use Rattle.ask_member.specs.Members.{groups, matches, references_run}
 use Rattle.ask_member.specs.laws.Members.{references_inside, refers, belongs_some}
 use Rattle.ask_member.specs.laws.Walk.{one_found, one_searched, all_searched}
-use Rattle.ask_member.proofs.Name.belongs_to.Goals as goal
+use Rattle.ask_member.proofs.Name.has_group.Goals as goal
 
 pub is_referred-requires : goal.is_referred-requires
 is_referred-requires c =
