@@ -2,8 +2,8 @@
 use Rattle.std.specs.Prelude.{◌≡◌, List, ℕ, ◌≤◌, ◌<◌, length, get_or, Result, Ok, Err}
 use Rattle.spec_token.specs.Token as spec
 use Rattle.spec_token.specs.Scanner.{Lexeme, lexeme_of, scan_from}
-use Rattle.load_tokens.specs.declared.Token.{Token}
 use Rattle.load_tokens.specs.Arrays.{between}
+use Rattle.load_scan.specs.declared.Entry.{Entry}
 use Rattle.load_scan.specs.declared.Step.{Step}
 use Rattle.load_scan.specs.declared.Step.TheVariants as step
 
@@ -17,8 +17,8 @@ pub record BeginsAt (s : List ℕ) (at : ℕ) (k : Lexeme) : Type 0 where
   pub here : at < length s
   pub begun : lexeme_of (get_or s at 0) ≡ k
 
--- a kept token of a text s
-abbrev pub token_of : List ℕ → Token → spec.Token
+-- the token of a text s that an entry says
+abbrev pub token_of : List ℕ → Entry → spec.Token
 token_of s t = record { kind = t.kind; place = t.place; text = between s t.start t.end }
 
 -- the scan goes from a place on to a later one
@@ -26,8 +26,8 @@ pub record Onward (s : List ℕ) (at to : ℕ) : Type 0 where
   pub more : at < to
   pub within : to ≤ length s
 
--- the text from a place on begins with this token, which lies in the text
-pub record TokenAt (s : List ℕ) (at : ℕ) (t : Token) (to : ℕ) : Type 0 where
+-- the text from a place on begins with an entry's token, which lies in the text
+pub record TokenAt (s : List ℕ) (at : ℕ) (t : Entry) (to : ℕ) : Type 0 where
   pub onward : Onward s at to
   pub place : t.place < length s
   pub start : t.start ≤ t.end

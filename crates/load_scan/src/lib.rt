@@ -1,9 +1,10 @@
 // The tokens of a text, found in one pass.
 #![tactic(auto)]
 
-ghost use Rattle.std.specs.Prelude.{◌≤◌, ◌<◌, length};
+ghost use Rattle.std.specs.Prelude.{◌≡◌, ◌≤◌, ◌<◌, length};
 ghost use Rattle.spec_token.specs.Scanner as lexeme;
 ghost use Rattle.load_scan.specs.Found.{Short, BeginsAt, Found};
+ghost use Rattle.load_scan.specs.Stored.{kept_as, Small};
 ghost use Rattle.load_tokens.specs.Scratch.{Scratch};
 ghost use Rattle.load_scan.specs.Answer.{Answer};
 
@@ -12,10 +13,21 @@ use load_word::{Class, Start};
 use spec_grammar::Role;
 use spec_token::Kind;
 
+// A token before it is kept.
+// Stays: a `Step` with a `Token` in it would be packed into one word and taken apart again at each step, where a token stands or
+// not, so that a load of comments and blanks takes 1.3 times as long.
+#[derive(Clone, Copy)]
+pub struct Entry {
+    pub kind: Kind,
+    pub place: usize,
+    pub start: usize,
+    pub end: usize,
+}
+
 // What stands at a place: a token, or none, and where the scan goes on.
 #[derive(Clone, Copy)]
 pub enum Step {
-    Token(Token, usize),
+    Token(Entry, usize),
     Skip(usize),
 }
 
@@ -25,14 +37,13 @@ fn stop_token(s: &[u8], at: usize) -> Step
 {
     let kind = load_word::stop_kind(s[at]);
     let end = at + 1;
-    let token = Token {
+    let entry = Entry {
         kind,
-        role: Role::NoRole,
-        place: at as u16,
-        start: at as u16,
-        end: end as u16,
+        place: at,
+        start: at,
+        end,
     };
-    Step::Token(token, end)
+    Step::Token(entry, end)
 }
 
 fn word_token(s: &[u8], at: usize) -> Step
@@ -41,14 +52,13 @@ fn word_token(s: &[u8], at: usize) -> Step
 {
     let end = load_word::run_end(Class::Name, s, at);
     let kind = load_kind::word_kind(&s[at..end]);
-    let token = Token {
+    let entry = Entry {
         kind,
-        role: Role::NoRole,
-        place: at as u16,
-        start: at as u16,
-        end: end as u16,
+        place: at,
+        start: at,
+        end,
     };
-    Step::Token(token, end)
+    Step::Token(entry, end)
 }
 
 // A quoted text is a STRING, whatever it spells. Err is the place of a bad byte.
@@ -58,14 +68,13 @@ fn quote_token(s: &[u8], quote: usize) -> Result<Step, usize>
 {
     let end = load_quote::end_behind(s, quote)?;
     let start = quote + 1;
-    let token = Token {
+    let entry = Entry {
         kind: Kind::String,
-        role: Role::NoRole,
-        place: quote as u16,
-        start: start as u16,
-        end: end as u16,
+        place: quote,
+        start,
+        end,
     };
-    Ok(Step::Token(token, end + 1))
+    Ok(Step::Token(entry, end + 1))
 }
 
 // What the byte at a place begins. Err is the place of a bad byte.
@@ -84,6 +93,20 @@ fn step_at(s: &[u8], at: usize) -> Result<Step, usize>
     }
 }
 
+// The token that is kept for an entry; what it says in its place in the grammar isn't known yet.
+fn kept_as(entry: Entry) -> Token
+    requires { Small entry }
+    ensures { result ≡ kept_as entry }
+{
+    Token {
+        kind: entry.kind,
+        role: Role::NoRole,
+        place: entry.place as u16,
+        start: entry.start as u16,
+        end: entry.end as u16,
+    }
+}
+
 // How many tokens a text has; they are kept in order from the first on. Err is the place of the first bad byte.
 // The caller, load_judge by load_syntax, has looked at the text's length and has room for as many tokens as the text has bytes.
 pub fn scan(s: &[u8], tokens: &mut [Token]) -> Result<usize, usize>
@@ -97,8 +120,8 @@ pub fn scan(s: &[u8], tokens: &mut [Token]) -> Result<usize, usize>
     // Stays: no plainer as a `for`, since the step jumps behind a token.
     while at < s.len() {
         match step_at(s, at)? {
-            Step::Token(token, to) => {
-                tokens[count] = token;
+            Step::Token(entry, to) => {
+                tokens[count] = kept_as(entry);
                 count += 1;
                 at = to;
             }

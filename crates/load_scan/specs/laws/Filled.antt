@@ -16,7 +16,9 @@ use Rattle.load_tokens.specs.Views.{kinds, places, starts, ends, kept}
 use Rattle.load_tokens.specs.laws.Arrays.{kind_back}
 use Rattle.load_tokens.specs.laws.Stores.{good_stored, good_other, tokens_agree, tokens_stored}
 use Rattle.load_tokens.specs.laws.Views.{numbers, kept_stored, kept_room}
+use Rattle.load_scan.specs.declared.Entry.{Entry}
 use Rattle.load_scan.specs.Found.{token_of, TokenAt, BlankTo}
+use Rattle.load_scan.specs.Stored.{entry_of, Small}
 use Rattle.load_scan.specs.Answer.{Whole}
 
 -- n tokens are kept of the text before a place
@@ -88,20 +90,20 @@ module _ {s : List ℕ} {ts : List Token} {at n : ℕ} (f : Filled s ts at n) wh
   filled_room h = omega (arith, f.few, f.room)
 
   -- a token stands between two places, and is put behind the others
-  pub filled_more : {t : Token} {to : ℕ} → at < length s → TokenAt s at t to → Filled s (set ts n t) to (n + 1)
-  filled_more {t} {to} here d =
+  pub filled_more : (t : Token) {to : ℕ} → at < length s → TokenAt s at (entry_of t) to → Filled s (set ts n t) to (n + 1)
+  filled_more t {to} here d =
       let few : n < length s = omega (arith, f.few) in
       let room : Room (length s) (kept ts) = kept_room ts f.room in
       let own : kind_of_number (numbers t).kind ≡ t.kind = kind_back t.kind in
-      let more : tokens_from s (stored (kept ts) n (numbers t)) 0 (n + 1) ≡ tokens_from s (kept ts) 0 n ++ (token_of s t ∷ []) =
+      let more : tokens_from s (stored (kept ts) n (numbers t)) 0 (n + 1) ≡ tokens_from s (kept ts) 0 n ++ (token_of s (entry_of t) ∷ []) =
       tokens_stored s (kept ts) n (numbers t) room few ∙ rw own refl in
-      let kept_more : tokens_from s (kept (set ts n t)) 0 (n + 1) ≡ tokens_from s (kept ts) 0 n ++ (token_of s t ∷ []) =
+      let kept_more : tokens_from s (kept (set ts n t)) 0 (n + 1) ≡ tokens_from s (kept ts) 0 n ++ (token_of s (entry_of t) ∷ []) =
       rw (kept_stored ts n t) more in
       record {
         same =
             f.same
             ∙ ap (prefixed (tokens_from s (kept ts) 0 n)) d.same
-            ∙ sym (prefixed_more (tokens_from s (kept ts) 0 n) (token_of s t) (scan_from s to))
+            ∙ sym (prefixed_more (tokens_from s (kept ts) 0 n) (token_of s (entry_of t)) (scan_from s to))
             ∙ ap (λ (us : List spec.Token). prefixed us (scan_from s to)) (sym kept_more);
         few = omega (arith, f.few, d.onward.more);
         high = d.onward.within;
@@ -128,3 +130,9 @@ module _ {s : List ℕ} {ts : List Token} {at n : ℕ} (f : Filled s ts at n) wh
 
   pub filled_bad : {p : ℕ} → scan_from s at ≡ spec.bad p → scanned s ≡ spec.bad p
   filled_bad {p} e = f.same ∙ ap (prefixed (tokens_from s (kept ts) 0 n)) e ∙ prefixed_bad (tokens_from s (kept ts) 0 n) p
+
+-- an entry of a short text fits
+pub small : {s : List ℕ} {at : ℕ} {t : Entry} {to : ℕ} → length s ≤ 16384 → TokenAt s at t to → Small t
+small h d =
+    let e = d.end in
+    record { place = omega (arith, d.place); start = omega (arith, d.start); end = omega arith }

@@ -9,7 +9,6 @@ use Rattle.spec_token.specs.Scanner.{word_kind, punctuation, nothing, comment, q
 use Rattle.spec_token.specs.Spans.{Span}
 use Rattle.spec_token.proofs.laws.Spans.{span_more}
 use Rattle.spec_token.proofs.laws.Steps.{word_named, from_nothing, from_comment, from_stop, from_word, from_wrong, from_closed, from_broken, from_unclosed}
-use Rattle.spec_grammar.specs.declared.Role.{Role}
 use Rattle.load_tokens.specs.Arrays.{between}
 use Rattle.load_quote.specs.Quote.{ClosedAt, NoEnd, ReadBehind}
 use Rattle.load_scan.specs.declared.Step.{Step}
@@ -46,8 +45,8 @@ module _ {s : List ℕ} {at : ℕ} where
   quote_stops i (Err y) b q e = quote_bad i b q ∙ ap bad (sym e)
 
   pub stop_found :
-      {k : Kind} {r : Role} → BeginsAt s at stop → k ≡ punctuation (get_or s at 0)
-      → TokenAt s at (record { kind = k; role = r; place = at; start = at; end = at + 1 }) (at + 1)
+      {k : Kind} → BeginsAt s at stop → k ≡ punctuation (get_or s at 0)
+      → TokenAt s at (record { kind = k; place = at; start = at; end = at + 1 }) (at + 1)
   stop_found {k} b e =
       record {
         onward = record { more = omega arith; within = omega (arith, b.here) };
@@ -58,9 +57,9 @@ module _ {s : List ℕ} {at : ℕ} where
       }
 
   pub word_found :
-      {k : Kind} {r : Role} {to : ℕ} → BeginsAt s at word → Span name_byte s at to → k ≡ word_kind (between s at to)
-      → TokenAt s at (record { kind = k; role = r; place = at; start = at; end = to }) to
-  word_found {k} {r} {to} b d e =
+      {k : Kind} {to : ℕ} → BeginsAt s at word → Span name_byte s at to → k ≡ word_kind (between s at to)
+      → TokenAt s at (record { kind = k; place = at; start = at; end = to }) to
+  word_found {k} {to} b d e =
       record {
         onward = record { more = span_more d b.here (word_named (get_or s at 0) b.begun); within = d.within };
         place = b.here;
@@ -70,8 +69,8 @@ module _ {s : List ℕ} {at : ℕ} where
       }
 
   pub quote_found :
-      {e : ℕ} {r : Role} → BeginsAt s at quote → ClosedAt s (at + 1) e
-      → TokenAt s at (record { kind = kind.String; role = r; place = at; start = at + 1; end = e }) (e + 1)
+      {e : ℕ} → BeginsAt s at quote → ClosedAt s (at + 1) e
+      → TokenAt s at (record { kind = kind.String; place = at; start = at + 1; end = e }) (e + 1)
   quote_found {e} b d =
       record {
         onward = record { more = omega (arith, d.low); within = omega (arith, d.high) };
