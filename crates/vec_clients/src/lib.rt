@@ -4,7 +4,7 @@
 use std::io::{Eprint, Print};
 use vec_answers::{put_added, put_changed};
 use vec_calls::{Call, MOST_TEXT};
-use vec_words::{Text, number, word};
+use vec_words::{decode, number, word};
 
 // A register over a buffer for its table.
 #[derive(Drop)]
@@ -15,28 +15,53 @@ pub struct Register {
     pub table: [u8; 35108],
 }
 
-// What a line says of a client.
-#[derive(Drop)]
-struct Client {
-    group: Text<MOST_TEXT>,
-    level: u32,
-    user: Text<MOST_TEXT>,
-    host: Text<MOST_TEXT>,
+// A text in lent bytes, as far as there is room. What is handed on is a slice: a value as large as the room would be copied.
+fn text<'a>(s: &[u8], room: &'a mut [u8]) -> &'a [u8] {
+    let n = decode(s, room);
+    &room[..n]
 }
 
-impl Client {
-    fn read(group: &[u8], level: &[u8], user: &[u8], host: &[u8]) -> Client {
+// What a line says of a client, its texts in lent bytes.
+#[derive(Clone, Copy)]
+struct Client<'a> {
+    group: &'a [u8],
+    level: u32,
+    user: &'a [u8],
+    host: &'a [u8],
+}
+
+impl<'a> Client<'a> {
+    fn read(
+        group: &[u8],
+        level: &[u8],
+        user: &[u8],
+        host: &[u8],
+        group_room: &'a mut [u8],
+        user_room: &'a mut [u8],
+        host_room: &'a mut [u8],
+    ) -> Client<'a> {
         Client {
-            group: Text::read(group),
+            group: text(group, group_room),
             level: number(level),
-            user: Text::read(user),
-            host: Text::read(host),
+            user: text(user, user_room),
+            host: text(host, host_room),
         }
     }
 }
 
 fn add(rt: &(impl Print + Eprint), r: &mut Register, line: &[u8]) {
-    let c = Client::read(word(line, 1), word(line, 2), word(line, 3), word(line, 4));
+    let mut group_room = [0; MOST_TEXT];
+    let mut user_room = [0; MOST_TEXT];
+    let mut host_room = [0; MOST_TEXT];
+    let c = Client::read(
+        word(line, 1),
+        word(line, 2),
+        word(line, 3),
+        word(line, 4),
+        &mut group_room,
+        &mut user_room,
+        &mut host_room,
+    );
     put_added(
         rt,
         register::add(
@@ -44,9 +69,9 @@ fn add(rt: &(impl Print + Eprint), r: &mut Register, line: &[u8]) {
             &r.states,
             &r.values,
             &r.table,
-            c.group.as_slice(),
-            c.user.as_slice(),
-            c.host.as_slice(),
+            c.group,
+            c.user,
+            c.host,
             c.level,
         ),
     );
@@ -54,7 +79,18 @@ fn add(rt: &(impl Print + Eprint), r: &mut Register, line: &[u8]) {
 
 fn change(rt: &(impl Print + Eprint), r: &mut Register, line: &[u8]) {
     let place = number(word(line, 1)) as usize;
-    let c = Client::read(word(line, 2), word(line, 3), word(line, 4), word(line, 5));
+    let mut group_room = [0; MOST_TEXT];
+    let mut user_room = [0; MOST_TEXT];
+    let mut host_room = [0; MOST_TEXT];
+    let c = Client::read(
+        word(line, 2),
+        word(line, 3),
+        word(line, 4),
+        word(line, 5),
+        &mut group_room,
+        &mut user_room,
+        &mut host_room,
+    );
     put_changed(
         rt,
         register::change(
@@ -63,9 +99,9 @@ fn change(rt: &(impl Print + Eprint), r: &mut Register, line: &[u8]) {
             &r.values,
             &r.table,
             place,
-            c.group.as_slice(),
-            c.user.as_slice(),
-            c.host.as_slice(),
+            c.group,
+            c.user,
+            c.host,
             c.level,
         ),
     );
@@ -77,7 +113,8 @@ fn remove(rt: &(impl Print + Eprint), r: &mut Register, line: &[u8]) {
 }
 
 fn set(rt: &(impl Print + Eprint), r: &mut Register, line: &[u8]) {
-    let group = Text::<MOST_TEXT>::read(word(line, 1));
+    let mut room = [0; MOST_TEXT];
+    let group = text(word(line, 1), &mut room);
     let letter = number(word(line, 2));
     let reading = vec_words::reading(word(line, 3));
     put_changed(
@@ -87,7 +124,7 @@ fn set(rt: &(impl Print + Eprint), r: &mut Register, line: &[u8]) {
             &mut r.states,
             &mut r.values,
             &r.table,
-            group.as_slice(),
+            group,
             letter,
             reading,
         ),

@@ -6,11 +6,12 @@ use std::io::{Eprint, Print};
 use std::rt::Files;
 use vec_calls::{Call, MOST_TEXT};
 use vec_clients::Register;
-use vec_words::{Text, for_each_line, word};
+use vec_words::{decode, for_each_line, word};
 
 fn load(rt: &(impl Print + Eprint), r: &mut Register, line: &[u8]) {
-    let rules = Text::<MOST_TEXT>::read(word(line, 1));
-    let answer = reload::reload(&mut r.places, &mut r.states, rules.as_slice(), &mut r.table);
+    let mut rules = [0; MOST_TEXT];
+    let n = decode(word(line, 1), &mut rules);
+    let answer = reload::reload(&mut r.places, &mut r.states, &rules[..n], &mut r.table);
     vec_answers::put_reloaded(rt, answer);
 }
 
