@@ -36,11 +36,12 @@ fn bad_letter(b: u8, goods: &[bool; 21]) -> Option<u8>
     }
 }
 
-// The lowest letter whose reading is bad, in either branch, if one is. None is lower than A: behind an A that is bad nothing is looked at.
+// The lowest letter whose reading is bad, in either branch, if one is. None is lower than A, so a bad A that is named is enough: its byte shows
+// it, and no letter is taken for that.
 pub fn lowest_bad(s: &[u8], goods: &[bool; 21]) -> Option<u8>
     ensures { as_found result ≡ lowest (given_letter goods.now) (byte_letters s.now) }
 {
-    if !goods[0] && s.iter().any(|b| matches!(bad_letter(*b, goods), Some(0))) {
+    if !goods[0] && s.iter().any(|b| *b == b'A' || *b == b'a') {
         return Some(0);
     }
     s.iter().filter_map(|b| bad_letter(*b, goods)).min()

@@ -11,8 +11,8 @@ use Rattle.calc_letters.proofs.lowest_bad.Goals as goal
 pub returns-then-any : goal.returns-then-any
 returns-then-any c = let goods = c.args.goods.now in
     let s = c.args.s.now in
-    let e = any_from_yields_List (λ b. is_a (bad_of goods b)) _ _ _ c.any.ensures.ran (YieldsList-from_slice s cc) (λ x r q k. search (rules, tests)) in
-    sym (a_found goods s (sym e ∙ c.if-any.true))
+    let e = any_from_yields_List is_a _ _ _ c.any.ensures.ran (YieldsList-from_slice s cc) (λ x r q k. search (rules, tests)) in
+    sym (a_found goods c.if-not-goods.true s (sym e ∙ c.if-any.true))
 
 pub returns : goal.returns
 returns c = let goods = c.args.goods.now in

@@ -1,5 +1,5 @@
 -- The lowest letter that is not good, by the bad letters of the bytes.
-use Rattle.std.specs.Prelude.{◌≡◌, refl, Bool, true, false, cond, List, [], ◌∷◌, ℕ, min, eqb, ◌||◌, get_or, Option as Maybe, Some, None, ◌⊎◌}
+use Rattle.std.specs.Prelude.{◌≡◌, refl, Bool, true, false, cond, List, [], ◌∷◌, ◌++◌, ℕ, min, eqb, ◌||◌, get_or, Option as Maybe, Some, None, ◌⊎◌}
 use Rattle.std.specs.List.{fold, reduce, filter_map, cons_option, list_any}
 use Rattle.std.proofs.Common.{ap, ◌∙◌, inl, inr, ⊎_elim, arith, eqb-true}
 use Rattle.std.proofs.lemmas.Bool.{false≢true}
@@ -11,6 +11,7 @@ use Rattle.spec_calc.specs.Scanner.{Start, blank, figure, wrong, sign, start}
 use Rattle.spec_calc.specs.Expression.{Tree}
 use Rattle.spec_calc.specs.Value.{letters, lower, lowest}
 use Rattle.spec_calc.specs.Reader.{tree_of}
+use Rattle.spec_calc.proofs.laws.Symbols.{start_upper, start_lower}
 use Rattle.calc_symbol.specs.declared.Class.{Class}
 use Rattle.calc_symbol.specs.declared.Class.TheVariants as class
 use Rattle.calc_symbol.specs.Scan.{started}
@@ -37,10 +38,16 @@ begun_one (sign colon m) = inl refl
 begun_one (sign open_paren m) = inl refl
 begun_one (sign close_paren m) = inl refl
 
--- the lowest letter
-abbrev pub is_a : Maybe ℕ → Bool
-is_a None = false
-is_a (Some i) = eqb i 0
+-- an A, of either case
+abbrev pub is_a : ℕ → Bool
+is_a b = eqb b 65 || eqb b 97
+
+begun_a : (b : ℕ) → is_a b ≡ true → letter_begun (start b []) ≡ 0 ∷ []
+begun_a b h = go (eqb b 65) refl h
+  where
+    go : (t : Bool) → eqb b 65 ≡ t → (t || eqb b 97) ≡ true → letter_begun (start b []) ≡ 0 ∷ []
+    go true e h = rw (eqb-true b 65 e) (ap letter_begun (start_upper 65 [] (omega arith) (omega arith)))
+    go false e h = rw (eqb-true b 97 h) (ap letter_begun (start_lower 97 [] (omega arith) (omega arith)))
 
 module _ (given : List Bool) where
   -- the letter of a byte that is not given
@@ -80,28 +87,25 @@ module _ (given : List Bool) where
 
   -- ---- a bad A: none is lower
 
-  pub a_found : (s : List ℕ) → list_any (λ b. is_a (bad_of b)) s ≡ true → lowest (given_letter given) (byte_letters s) ≡ some 0
-  unfolding byte_letters
-  a_found [] h = absurd (false≢true h)
-  a_found (b ∷ s) h =
-      let k = a_found s in
-      ⊎_elim (λ e. let h' : list_any (λ b. is_a (bad_of b)) s ≡ true = rw e at h in rw e (k h'))
-      (λ e. rw e.1 (go (given_letter given e.0) e.0 (list_any (λ b. is_a (bad_of b)) s) (lowest (given_letter given) (byte_letters s)) k (rw e.1 at h)))
-      (begun_one (start b []))
-    where
-      go :
-          (t : Bool) (i : ℕ) (later : Bool) (o : Option ℕ) → (later ≡ true → o ≡ some 0) → (is_a (cond t None (Some i)) || later) ≡ true
-          → cond t o (some (lower i o)) ≡ some 0
-      go true i later o k h = k h
-      go false i later o k h = at (eqb i 0) refl later o k h
-        where
-          at :
-              (u : Bool) → eqb i 0 ≡ u → (later : Bool) (o : Option ℕ) → (later ≡ true → o ≡ some 0) → (u || later) ≡ true
-              → some (lower i o) ≡ some 0
-          at true e later none k h = ap some (eqb-true i 0 e)
-          at true e later (some j) k h = ap some (omega (arith, eqb-true i 0 e))
-          at false e true o k h = rw (k refl) (ap some (omega arith))
-          at false e false o k h = absurd (false≢true h)
+  module _ (k : given_letter given 0 ≡ false) where
+    pub a_found : (s : List ℕ) → list_any is_a s ≡ true → lowest (given_letter given) (byte_letters s) ≡ some 0
+    unfolding byte_letters
+    a_found [] h = absurd (false≢true h)
+    a_found (b ∷ s) h = go (is_a b) refl (a_found s) h
+      where
+        here : (o : Option ℕ) → lower 0 o ≡ 0
+        here none = refl
+        here (some j) = omega arith
+
+        go :
+            (t : Bool) → is_a b ≡ t → (list_any is_a s ≡ true → lowest (given_letter given) (byte_letters s) ≡ some 0)
+            → (t || list_any is_a s) ≡ true → lowest (given_letter given) (letter_begun (start b []) ++ byte_letters s) ≡ some 0
+        go true e l h = rw (begun_a b e, k) (ap some (here (lowest (given_letter given) (byte_letters s))))
+        go false e l h = ⊎_elim (λ q. rw q (l h)) (λ q. rw (q.1, l h) (by (given_letter given q.0) q.0)) (begun_one (start b []))
+          where
+            by : (t : Bool) (i : ℕ) → cond t (some 0) (some (lower i (some 0))) ≡ some 0
+            by true i = refl
+            by false i = ap some (omega arith)
 
   -- of a calculation
   pub lowest_same : (s : List ℕ) (t : Tree) → tree_of s ≡ some t → lowest (given_letter given) (byte_letters s) ≡ lowest (given_letter given) (letters t)
