@@ -68,7 +68,7 @@ fn section_stands(b: &[u8], s: Section) -> bool
     requires { sections_stand b.now ≡ true }
     ensures { result ≡ section_stands (view b.now) (section s) }
 {
-    (0..table_fields::count(b, s)).all(|i| record_stands(b, s, i))
+    (0..table_fields::section_count(b, s)).all(|i| record_stands(b, s, i))
 }
 
 // Each turn looks at one section, so all of them at each record once. The runs of references follow each other, so the

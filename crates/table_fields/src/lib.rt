@@ -73,20 +73,36 @@ pub fn width(s: Section) -> usize
     }
 }
 
+// The records of the n-th section; of the strings, which are the last, their bytes. Callers have looked at the length.
+pub fn count(b: &[u8], n: usize) -> usize
+    requires { (header_bytes ≤ length b.now) × (n < 8) }
+    ensures { Word (count_of b.now n) result }
+{
+    header_word(b, 2 + n * 2)
+}
+
+// Where the n-th section starts. Callers have looked at the length.
+pub fn offset(b: &[u8], n: usize) -> usize
+    requires { (header_bytes ≤ length b.now) × (n < 8) }
+    ensures { Word (offset_of b.now n) result }
+{
+    header_word(b, 3 + n * 2)
+}
+
 // The records of a section. Callers have looked at the length.
-pub fn count(b: &[u8], s: Section) -> usize
+pub fn section_count(b: &[u8], s: Section) -> usize
     requires { header_bytes ≤ length b.now }
     ensures { Word (count_of b.now (order (section s))) result }
 {
-    header_word(b, 2 + order(s) * 2)
+    count(b, order(s))
 }
 
 // Where a section starts. Callers have looked at the length.
-pub fn offset(b: &[u8], s: Section) -> usize
+pub fn section_offset(b: &[u8], s: Section) -> usize
     requires { header_bytes ≤ length b.now }
     ensures { Word (offset_of b.now (order (section s))) result }
 {
-    header_word(b, 3 + order(s) * 2)
+    offset(b, order(s))
 }
 
 // The bytes of the strings. Callers have looked at the length.
@@ -94,7 +110,7 @@ pub fn strings_count(b: &[u8]) -> usize
     requires { header_bytes ≤ length b.now }
     ensures { Word (count_of b.now strings_order) result }
 {
-    header_word(b, 2 + STRINGS * 2)
+    count(b, STRINGS)
 }
 
 // Where the strings start. Callers have looked at the length.
@@ -102,7 +118,7 @@ pub fn strings_offset(b: &[u8]) -> usize
     requires { header_bytes ≤ length b.now }
     ensures { Word (offset_of b.now strings_order) result }
 {
-    header_word(b, 3 + STRINGS * 2)
+    offset(b, STRINGS)
 }
 
 // The j-th word of the i-th record of a section that starts there and whose records have so many words.
@@ -118,5 +134,5 @@ pub fn field(b: &[u8], s: Section, i: usize, j: usize) -> usize
     requires { HasField b.now (section s) i j }
     ensures { Word (word_of b.now (section s) i j) result }
 {
-    record_word(b, offset(b, s), width(s), i, j)
+    record_word(b, section_offset(b, s), width(s), i, j)
 }

@@ -41,7 +41,7 @@ fn runs_follow(b: &[u8], s: Section, starts: &[usize], from: usize) -> Option<us
     ensures { Follow (all_runs b.now (section s) starts.now) from (from + most_added) result }
 {
     let mut at = from;
-    for i in 0..table_fields::count(b, s) {
+    for i in 0..table_fields::section_count(b, s) {
         at = record_follows(b, s, i, starts, at)?;
     }
     Some(at)
@@ -55,7 +55,7 @@ fn used_up(b: &[u8], s: Section, starts: &[usize], of: Section) -> bool
     let Some(end) = runs_follow(b, s, starts, 0) else {
         return false;
     };
-    end == table_fields::count(b, of)
+    end == table_fields::section_count(b, of)
 }
 
 // Whether the runs of user groups, then of host groups, use up the members.
@@ -67,7 +67,7 @@ fn members_used_up(b: &[u8]) -> bool
         return false;
     };
     let hosts = runs_follow(b, Section::HostGroups, &[2], users);
-    hosts == Some(table_fields::count(b, Section::Members))
+    hosts == Some(table_fields::section_count(b, Section::Members))
 }
 
 // Whether the runs of a kind follow each other and use up their section. Inner: is_table has asked sections_stand before.

@@ -33,7 +33,7 @@ pub fn count(table: &[u8], s: Section) -> usize
     requires { is_table table.now ≡ true }
     ensures { result ≡ length ((view table.now).records (section s)) }
 {
-    table_fields::count(table, s)
+    table_fields::section_count(table, s)
 }
 
 // The j-th word of the i-th record of a section. Inner: its callers have the record from a search or a run.

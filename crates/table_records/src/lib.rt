@@ -49,7 +49,7 @@ pub fn numbers_fit(b: &[u8], first: usize, length: usize, of: Section) -> bool
     requires { (sections_stand b.now ≡ true) × (first < 65536) × (length < 65536) }
     ensures { result ≡ numbers_fit (view b.now) (section of) (record { first = first; count = length }) }
 {
-    let groups = table_fields::count(b, of);
-    let end = table_fields::count(b, Section::References).min(first + length);
+    let groups = table_fields::section_count(b, of);
+    let end = table_fields::section_count(b, Section::References).min(first + length);
     (first..end).all(|i| number_stands(b, i, groups))
 }

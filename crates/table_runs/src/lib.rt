@@ -36,10 +36,10 @@ fn sections_end(b: &[u8]) -> Option<usize>
 {
     let mut at = HEADER_BYTES;
     for s in SECTIONS {
-        if table_fields::offset(b, s) != at {
+        if table_fields::section_offset(b, s) != at {
             return None;
         }
-        at += table_fields::count(b, s) * (table_fields::width(s) * 2);
+        at += table_fields::section_count(b, s) * (table_fields::width(s) * 2);
     }
     Some(at)
 }
@@ -77,6 +77,6 @@ pub fn counts_fit(b: &[u8]) -> bool
 {
     SECTIONS
         .iter()
-        .all(|&s| table_fields::count(b, s) <= most(s))
+        .all(|&s| table_fields::section_count(b, s) <= most(s))
         && table_fields::strings_count(b) <= MOST_BYTES
 }

@@ -13,7 +13,7 @@ use Rattle.table.proofs.section_stands.Goals as goal
 
 pub all-requires-clause-callable : goal.all-requires-clause-callable
 all-requires-clause-callable c =
-    let l : c.count.result ≤ length ((view c.args.b.now).records (section c.args.s)) = omega (arith, c.count.ensures.is, view_count c.args.b.now (section c.args.s)) in
+    let l : c.section_count.result ≤ length ((view c.args.b.now).records (section c.args.s)) = omega (arith, c.section_count.ensures.is, view_count c.args.b.now (section c.args.s)) in
     let w = two_words (section c.args.s) in
     grind serving
 
@@ -21,5 +21,5 @@ pub returns : goal.returns
 returns c =
     let a = c.args in
     let s = section a.s in
-    all_from_yields_List (λ i. record_stands (view a.b.now) s (row (view a.b.now) s i)) _ _ c.all.result c.all.ensures.ran (YieldsList-from_range 0 c.count.result _ refl refl) (λ x b q k. search (rules, tests))
-    ∙ all_numbered (record_stands (view a.b.now) s) [] ((view a.b.now).records s) 0 _ (omega (arith, c.count.ensures.is, view_count a.b.now s))
+    all_from_yields_List (λ i. record_stands (view a.b.now) s (row (view a.b.now) s i)) _ _ c.all.result c.all.ensures.ran (YieldsList-from_range 0 c.section_count.result _ refl refl) (λ x b q k. search (rules, tests))
+    ∙ all_numbered (record_stands (view a.b.now) s) [] ((view a.b.now).records s) 0 _ (omega (arith, c.section_count.ensures.is, view_count a.b.now s))

@@ -3,7 +3,7 @@ use Rattle.std.specs.Prelude.{◌≡◌, List, ℕ, ◌+◌, ◌<◌, length}
 use Rattle.std.proofs.Common.{arith}
 use Rattle.spec_file.specs.Limit.{Section, order}
 use Rattle.spec_table.specs.Layout.{width}
-use Rattle.spec_table.specs.View.{count_of, view}
+use Rattle.spec_table.specs.View.{count_of}
 use Rattle.spec_table.specs.Fields.{word_at, field_place}
 use Rattle.spec_table.proofs.laws.Bytes.{each}
 use Rattle.spec_table.proofs.laws.Fields.{view_count, field_inside, field_at}

@@ -10,4 +10,4 @@ pub returns-in_default : goal.returns-in_default
 returns-in_default c = members_reach c.args.b.now refl (gap_then c.in_default.ensures (all_runs c.args.b.now (section HostGroups) (2 ∷ [])) 0)
 
 pub returns : goal.returns
-returns c = c.eq.ensures ∙ members_reach c.args.b.now c.count.ensures.is (follow_on c.in-Some.ensures c.runs_follow-hosts.ensures)
+returns c = c.eq.ensures ∙ members_reach c.args.b.now c.section_count.ensures.is (follow_on c.in-Some.ensures c.runs_follow-hosts.ensures)

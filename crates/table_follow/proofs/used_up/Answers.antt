@@ -7,4 +7,4 @@ pub returns-in_default : goal.returns-in_default
 returns-in_default c = reaches c.args.b.now (section c.args.of) refl c.in_default.ensures
 
 pub returns : goal.returns
-returns c = reaches c.args.b.now (section c.args.of) c.count.ensures.is c.in-Some.ensures
+returns c = reaches c.args.b.now (section c.args.of) c.section_count.ensures.is c.in-Some.ensures

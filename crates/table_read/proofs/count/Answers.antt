@@ -4,8 +4,8 @@ use Rattle.table_read.specs.laws.Stored.{header_there}
 use Rattle.table_read.specs.Stored.{section}
 use Rattle.table_read.proofs.count.Goals as goal
 
-pub count-requires : goal.count-requires
-count-requires c = header_there c.args.table.now c.requires
+pub section_count-requires : goal.section_count-requires
+section_count-requires c = header_there c.args.table.now c.requires
 
 pub returns : goal.returns
-returns c = c.count.ensures.is ∙ sym (view_count c.args.table.now (section c.args.s))
+returns c = c.section_count.ensures.is ∙ sym (view_count c.args.table.now (section c.args.s))
