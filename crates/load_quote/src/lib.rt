@@ -27,6 +27,7 @@ fn quote_act(escaped: bool, b: u8) -> Act
 }
 
 // The end of a quoted text that starts at a place. Err is the place of a bare newline, which breaks it; None if it has no end.
+// The caller, end_behind, has a quote that stands in the text, and asks from behind it.
 pub fn quote_end(s: &[u8], from: usize) -> Result<usize, Option<usize>>
     requires { from ≤ length s.now }
     ensures { QuoteRead s.now from result }

@@ -9,6 +9,7 @@ use prog_text::Writer;
 
 // Answers the line that has begun at the end of the input: the last may lack its newline.
 // The caller has loaded the table, and has count from the last piece (prog_replies::respond).
+// Stays: bytes and a count, no Writer, as who lends bytes without one may call it too.
 pub fn finish(table: &[u8], buffer: &[u8], count: usize, out: &mut [u8]) -> usize
     requires { (is_table table.now ≡ true) × State buffer.now count × (longest_reply ≤ length out.old) }
     ensures { Finishes table.now buffer.now count out.old out.new result }
