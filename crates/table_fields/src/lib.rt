@@ -73,7 +73,7 @@ pub fn width(s: Section) -> usize
     }
 }
 
-// The records of the n-th section; of the strings, which are the last, their bytes. Callers have looked at the length.
+// The records of the n-th section; of the strings, which are the last, their bytes. Callers have looked at the length, and count from 0 to 7.
 pub fn count(b: &[u8], n: usize) -> usize
     requires { (header_bytes ≤ length b.now) × (n < 8) }
     ensures { Word (count_of b.now n) result }
@@ -81,7 +81,7 @@ pub fn count(b: &[u8], n: usize) -> usize
     header_word(b, 2 + n * 2)
 }
 
-// Where the n-th section starts. Callers have looked at the length.
+// Where the n-th section starts. Callers have looked at the length, and count from 0 to 7.
 pub fn offset(b: &[u8], n: usize) -> usize
     requires { (header_bytes ≤ length b.now) × (n < 8) }
     ensures { Word (offset_of b.now n) result }
