@@ -50,7 +50,7 @@ pub trait Entry {
         ensures { Step work role (part self.now role) (names self.now) tokens.now i to lent.old lent.new p result };
 }
 
-// Entries to which no other tokens belong: what belongs to a token of a role has that role itself. load_passes::references writes by these.
+// Entries to which no other tokens belong: what belongs to a token of a role has that role itself. load_passes::references_alone writes by these.
 pub trait Alone: Entry {
     ghost itself: { (e : Self) (role : Role) → Self.part e role ≡ role };
 }

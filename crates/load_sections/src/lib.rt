@@ -11,7 +11,7 @@ ghost use Rattle.load_passes.specs.Source.{all_of};
 ghost use Rattle.load_sections.specs.Sections.{limit_3, limit_5, limit_7, limit_strings, GroupsWritten, AccessWritten, RulesPut};
 ghost use Rattle.load_sections.specs.Strings.{access_strings, NamesWritten};
 
-use load_passes::{Source, pass, references};
+use load_passes::{Source, pass, references_alone};
 use load_records::{
     AccessGroup, Cursor, FirstText, Group, Input, LowerText, Name, Reference, Rule, Text,
 };
@@ -114,7 +114,7 @@ pub fn rule_sections(source: &Source, p: Cursor, lent: &mut [u8]) -> RuleSection
     };
     let users = Reference { names: source.uags };
     let hosts = Reference { names: source.hags };
-    let cursor = references(&users, &hosts, &tokens, a, behind, lent);
+    let cursor = references_alone(&users, &hosts, &tokens, a, behind, lent);
     let before = Cursor {
         string: cursor.string,
         first: 0,
@@ -156,7 +156,7 @@ pub fn access_strings(tokens: &Tokens, p: Cursor, lent: &mut [u8]) -> usize
     };
     let four = pass(&Text, tokens, 0, n, Role::AsgName, p, lent);
     let five = pass(&name, tokens, a, n, Role::Input, four, lent);
-    let seven = references(&Text, &Text, tokens, a, five, lent);
+    let seven = references_alone(&Text, &Text, tokens, a, five, lent);
     let end = pass(&calculation, tokens, a, n, Role::RuleWord, seven, lent);
     end.at
 }

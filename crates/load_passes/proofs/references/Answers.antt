@@ -10,8 +10,8 @@ use Rattle.load_passes.proofs.references.Goals.{then-eq, else-eq}
 pub loop-i-init : goal.loop-i-init
 loop-i-init g c = rules_start _ _ _ _ _ _ _ _ _ _ _ c.requires.bounded
 
-pub rule_references-p-requires-clause-bounded : goal.rule_references-p-requires-clause-bounded
-rule_references-p-requires-clause-bounded g c = bounded_more (omega (arith, c.args.tokens.now.few)) c.loop-i.invariant.bounded
+pub rule_by-p-requires-clause-bounded : goal.rule_by-p-requires-clause-bounded
+rule_by-p-requires-clause-bounded g c = bounded_more (omega (arith, c.args.tokens.now.few)) c.loop-i.invariant.bounded
 
 pub loop-i-preserved : goal.loop-i-preserved
 loop-i-preserved g c =
@@ -22,7 +22,7 @@ loop-i-preserved g c =
     elim c.if-eq.branch [
       | then-eq w ↦
           rw (w.lent-is, w.p-is)
-          (rules_hit _ _ _ _ _ _ _ _ _ _ _ (fits t) go (says t.list.now i RuleWord c.eq.ensures w.if-eq.true) h w.rule_references-p.ensures)
+          (rules_hit _ _ _ _ _ _ _ _ _ _ _ (fits t) go (says t.list.now i RuleWord c.eq.ensures w.if-eq.true) h w.rule_by-p.ensures)
       | else-eq w ↦ rw (w.lent-is, w.p-is) (rules_miss _ _ _ _ _ _ _ _ _ _ _ go (says_other t.list.now i RuleWord c.eq.ensures w.if-eq.false) h)
     ]
 

@@ -19,14 +19,14 @@ overflow_mul-seven c = omega (arith, tally_few 8 c.first-a.result (fits c.args.s
 pub overflow_add-seven : goal.overflow_add-seven
 overflow_add-seven c = omega (arith, tally_few 8 c.first-a.result (fits c.args.source.now.tokens) c.count.ensures, c.requires.at_bound)
 
-pub references-cursor-requires-clause-bounded : goal.references-cursor-requires-clause-bounded
-references-cursor-requires-clause-bounded c = let few = tally_few 8 c.first-a.result (fits c.args.source.now.tokens) c.count.ensures in bounded_more (omega arith) (bounded_behind c.requires few)
+pub references_alone-cursor-requires-clause-bounded : goal.references_alone-cursor-requires-clause-bounded
+references_alone-cursor-requires-clause-bounded c = let few = tally_few 8 c.first-a.result (fits c.args.source.now.tokens) c.count.ensures in bounded_more (omega arith) (bounded_behind c.requires few)
 
 pub pass-six-requires-clause-start : goal.pass-six-requires-clause-start
 pass-six-requires-clause-start c =
     let s = c.args.source.now in
     let few = tally_few 8 c.first-a.result (fits c.args.source.now.tokens) c.count.ensures in
-    let behind = bounded_references (fits s.tokens) References (user_names s) (host_names s) c.first-a.result (bounded_behind c.requires few) c.references-cursor.ensures in
+    let behind = bounded_references (fits s.tokens) References (user_names s) (host_names s) c.first-a.result (bounded_behind c.requires few) c.references_alone-cursor.ensures in
     record {
       within = omega arith;
       head = record { some = omega arith; known = omega arith };
@@ -44,5 +44,5 @@ returns c =
     rules_written (user_names s) (host_names s) (all_of t) (part_of t j (length ts)) c.count.result
     (from_role t AsgName j (record { some = omega arith; known = omega arith }) c.first-a.ensures)
     (c.count.ensures ∙ sym (tally_is t.text.now (arrays (starts ts) (ends ts)) (roles ts) 8 j (length ts - j) rule_word_known))
-    (bounded_more (omega arith) (bounded_references (fits s.tokens) References (user_names s) (host_names s) c.first-a.result (bounded_behind c.requires few) c.references-cursor.ensures))
-    c.references-cursor.ensures c.pass-six.ensures.emitted
+    (bounded_more (omega arith) (bounded_references (fits s.tokens) References (user_names s) (host_names s) c.first-a.result (bounded_behind c.requires few) c.references_alone-cursor.ensures))
+    c.references_alone-cursor.ensures c.pass-six.ensures.emitted
