@@ -107,7 +107,7 @@ fn rule_by<E: Entry>(
 }
 
 // And for those of all rules. Inner: for who writes by a Group, a FirstText or an entry of another crate, and knows of that value what Alone
-// says of a type.
+// says of a type; with the tokens of a file and a cursor whose bound he hands on, as load_sections has them.
 pub fn references<E: Entry>(
     users: &E,
     hosts: &E,

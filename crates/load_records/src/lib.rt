@@ -50,7 +50,8 @@ pub trait Entry {
         ensures { Step work role (part self.now role) (names self.now) tokens.now i to lent.old lent.new p result };
 }
 
-// Entries to which no other tokens belong: what belongs to a token of a role has that role itself. load_passes::references_alone writes by these.
+// Entries to which no other tokens belong: what belongs to a token of a role has that role itself.
+// load_passes::references_alone writes by these.
 pub trait Alone: Entry {
     ghost itself: { (e : Self) (role : Role) → Self.part e role ≡ role };
 }
@@ -288,7 +289,8 @@ impl<'a> Alone for Reference<'a> {
     ghost itself = { λ e role. refl };
 }
 
-// A string, in lower case if asked. Inner: the put of Text, LowerText and FirstText calls it with a token's text.
+// A string, in lower case if asked. Inner: the put of Text, LowerText and FirstText calls it with a token's text, no longer than a file, at
+// the cursor that Entry's put has bounded.
 pub fn put_string(t: &[u8], low: bool, p: Cursor, lent: &mut [u8]) -> Cursor
     requires { Bounded cursor_limit p × (length t.now < cursor_limit) }
     ensures { StringPut (map (cased low) t.now) lent.old lent.new p result }

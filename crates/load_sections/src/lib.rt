@@ -68,7 +68,8 @@ pub struct AccessSections {
     pub cursor: Cursor,
 }
 
-// Sections 4 and 5: access groups and inputs. Inner: load_write::table calls it, behind group_sections.
+// Sections 4 and 5: access groups and inputs. Inner: load_write::table calls it with the cursor of group_sections, which promises this
+// bound.
 pub fn access_sections(tokens: &Tokens, p: Cursor, lent: &mut [u8]) -> AccessSections
     requires { Bounded limit_3 p }
     ensures { AccessWritten (all_of tokens.now) lent.old lent.new p result }
@@ -97,7 +98,7 @@ pub struct RuleSections {
 }
 
 // Sections 6 and 7: rules and references. A reference's name stands before the rules' calculations, so rules are written last.
-// Inner: load_write::table calls it, behind access_sections.
+// Inner: load_write::table calls it with the cursor of access_sections, which promises this bound.
 pub fn rule_sections(source: &Source, p: Cursor, lent: &mut [u8]) -> RuleSections
     requires { Bounded limit_5 p }
     ensures { RulesPut source.now lent.old lent.new p result }
@@ -129,7 +130,7 @@ pub fn rule_sections(source: &Source, p: Cursor, lent: &mut [u8]) -> RuleSection
     }
 }
 
-// The names of groups and members. Inner: load_write::table calls it, behind rule_sections.
+// The names of groups and members. Inner: load_write::table calls it with the cursor of rule_sections, which promises this bound.
 pub fn group_strings(tokens: &Tokens, p: Cursor, lent: &mut [u8]) -> Cursor
     requires { Bounded limit_7 p }
     ensures { NamesWritten (all_of tokens.now) lent.old lent.new p result }
@@ -143,7 +144,8 @@ pub fn group_strings(tokens: &Tokens, p: Cursor, lent: &mut [u8]) -> Cursor
     pass(&LowerText, tokens, b, n, Role::Host, users, lent)
 }
 
-// The names of access groups, inputs and references, and the calculations. Inner: load_write::table calls it, behind group_strings.
+// The names of access groups, inputs and references, and the calculations. Inner: load_write::table calls it with the cursor of
+// group_strings, which promises this bound.
 pub fn access_strings(tokens: &Tokens, p: Cursor, lent: &mut [u8]) -> usize
     requires { Bounded limit_strings p }
     ensures { Put lent.old lent.new p.at (access_strings (all_of tokens.now)) result }

@@ -1,44 +1,26 @@
-use Rattle.std.proofs.Common.{◌+◌, length, arith}
+use Rattle.std.proofs.Common.{arith}
 use Rattle.spec_grammar.specs.declared.Role.TheVariants.{UagNamed, HagNamed}
-use Rattle.load_tokens.specs.Views.{starts, ends, roles}
-use Rattle.load_spans.specs.Roles.{arrays}
 use Rattle.load_records.specs.laws.Bounds.{bounded_more}
-use Rattle.load_records.specs.laws.Tokens.{cut_is, gap_end}
-use Rattle.load_passes.specs.Source.{names_of, part_of}
-use Rattle.load_passes.specs.laws.Loops.{rule_done, rule_word_known}
+use Rattle.load_passes.proofs.Rules.{rule_start, rule_passed}
 use Rattle.load_passes.proofs.rule_references.Goals as goal
 
 pub pass-p-requires-clause-start : goal.pass-p-requires-clause-start
 pass-p-requires-clause-start g c =
-    let a = c.args in
-    let ts = a.tokens.now.list.now in
-    rw (g.met.E.Alone.itself a.users.now UagNamed)
-    (record {
-      within = gap_end 8 5 (roles ts) (a.i + 1) (length ts) c.next-e.result (omega (arith, c.requires.here)) c.next-e.ensures;
-      head = record { some = omega arith; known = omega arith };
-      part = record { some = omega arith; known = omega arith };
-      bounded = bounded_more (omega arith) c.requires.bounded;
-    })
+    rule_start c.args.tokens.now c.requires.here c.next-e.ensures (g.met.E.Alone.itself c.args.users.now UagNamed)
+    (record { some = omega arith; known = omega arith })
+    (bounded_more (omega arith) c.requires.bounded)
 
 pub pass-requires-clause-start : goal.pass-requires-clause-start
 pass-requires-clause-start g c =
-    let a = c.args in
-    let ts = a.tokens.now.list.now in
-    rw (g.met.E.Alone.itself a.hosts.now HagNamed)
-    (record {
-      within = gap_end 8 5 (roles ts) (a.i + 1) (length ts) c.next-e.result (omega (arith, c.requires.here)) c.next-e.ensures;
-      head = record { some = omega arith; known = omega arith };
-      part = record { some = omega arith; known = omega arith };
-      bounded = bounded_more (omega arith) (c.pass-p.ensures.bounded _ c.requires.bounded);
-    })
+    rule_start c.args.tokens.now c.requires.here c.next-e.ensures (g.met.E.Alone.itself c.args.hosts.now HagNamed)
+    (record { some = omega arith; known = omega arith })
+    (bounded_more (omega arith) (c.pass-p.ensures.bounded _ c.requires.bounded))
 
 pub returns : goal.returns
 returns g c =
     let a = c.args in
     let e = g.E.Entry in
-    let t = a.tokens.now in
-    let ts = t.list.now in
-    rule_done e.work (names_of t (e.names a.users.now)) (names_of t (e.names a.hosts.now)) (part_of t (a.i + 1) (length ts)) (part_of t (a.i + 1) c.next-e.result)
-    (cut_is t.text.now (arrays (starts ts) (ends ts)) (roles ts) 8 8 (a.i + 1) (length ts) c.next-e.result rule_word_known rule_word_known c.next-e.ensures)
-    (rw (g.met.E.Alone.itself a.users.now UagNamed) at c.pass-p.ensures.emitted)
-    (rw (g.met.E.Alone.itself a.hosts.now HagNamed) at c.pass.ensures.emitted)
+    rule_passed a.tokens.now c.requires.here c.next-e.ensures e.work (e.names a.users.now) (e.names a.hosts.now)
+    (g.met.E.Alone.itself a.users.now UagNamed)
+    (g.met.E.Alone.itself a.hosts.now HagNamed)
+    c.pass-p.ensures c.pass.ensures
